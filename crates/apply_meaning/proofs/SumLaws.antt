@@ -1,0 +1,274 @@
+-- The sum of a list of values, as the sum of the mantissas of its numbers.
+use Rattle.std.proofs.Common.{◌≡◌, ℕ, zero, suc, ◌+◌, ◌-◌, ◌^◌, ◌<◌, max, Bool, true, false, not, ◌&&◌, ◌||◌, List, [], ◌∷◌, map, filter, fold, take, length, get_or, slice_get, ℤ, pos, ◌+ℤ◌, ◌*ℤ◌, IsTrue, Some, None, if◌then◌else◌, ◌≤◌, refl, ap, sym, ◌∙◌, arith, eqb-true}
+use Rattle.std.specs.declared.option.Option.{Option}
+use Rattle.std.specs.Option.{option_map, unwrap_or}
+use Rattle.std.specs.List.{list_any, list_all}
+use Rattle.std.proofs.lemmas.Bool.{false≢true, and_from}
+use Rattle.std.proofs.lemmas.Int.{ints}
+use Rattle.std.proofs.lemmas.List.{length-map, take_all}
+use Rattle.std.proofs.lemmas.List.Folds.{list_any_more}
+use Rattle.std.proofs.lemmas.List.Sums.{fold_more}
+use Rattle.std.proofs.Math.IntN.{zero-*ℤ}
+use Rattle.std.proofs.Math.Nat.{sub_self, zero-max}
+use Rattle.edm_values.specs.declared.EdmType.{EdmType}
+use Rattle.edm_values.specs.declared.Method.TheVariants as method
+use Rattle.edm_values.specs.declared.Value.{Value}
+use Rattle.edm_values.specs.Lists.{is_nonempty}
+use Rattle.edm_values.specs.Literals.{is_number_kind, is_of_kind}
+use Rattle.edm_values.specs.Values.{Number, number_of, number_part, number_plus, is_beyond, integer, dec, is_integer, is_null, is_number, total, value_in}
+use Rattle.edm_data.specs.Fitting.{FitsModel, is_value_of, are_values_of}
+use Rattle.edm_data.specs.References.{entities_of}
+use Rattle.edm_data.specs.Worlds.{World}
+use Rattle.edm_data.proofs.TableLemmas.{key_there}
+use Rattle.edm_model.specs.LookUps.{properties_of, property_at, set_type}
+use Rattle.edm_model.specs.Models.{Model, Property, Part}
+use Rattle.apply_meaning.specs.Aggregates.{aggregate, exact_sum}
+use Rattle.apply_meaning.specs.Sums.{number_in, sum_of, HasNumberType}
+
+-- ---- the sum of mantissas
+
+-- the mantissa of a number, and 0 of any other value
+abbrev pub amount : Value → ℤ
+amount v = (number_part v).0
+
+-- a number and the mantissas of a list
+abbrev pub amounts : ℤ → List Value → ℤ
+amounts = fold (λ a v. a +ℤ amount v)
+
+-- the sum of the mantissas of the first k values, and whether a number is among them
+pub record IsSumOf (vs : List Value) (k : ℕ) (sum : ℤ) (found : Bool) : Type 0 where
+  pub sum_is : sum ≡ amounts (pos 0) (take k vs)
+  pub found_is : found ≡ list_any is_number (take k vs)
+
+-- the values of a property
+abbrev pub column : ℕ → List (List Value) → List Value
+column p rows = map (λ vs. value_in vs p) rows
+
+pub IsSumOf-none : (vs : List Value) → IsSumOf vs 0 (pos 0) false
+IsSumOf-none vs = record { sum_is = refl; found_is = refl }
+
+pub IsSumOf-more : (rows : List (List Value)) (p k : ℕ) (sum : ℤ) (found : Bool) (v : Value) → IsSumOf (column p rows) k sum found → k < length rows → v ≡ value_in (unwrap_or (slice_get rows k) []) p → IsSumOf (column p rows) (k + 1) (sum +ℤ amount v) (found || is_number v)
+IsSumOf-more rows p k sum found v h within is =
+    let there : k < length (column p rows) = rw length-map within in
+    let here : v ≡ get_or (column p rows) k Value.Null = is ∙ key_there rows p k in
+    record {
+      sum_is = (λ i. h.sum_is i +ℤ amount (here i)) ∙ sym (fold_more (λ a v. a +ℤ amount v) (pos 0) (column p rows) k Value.Null there);
+      found_is = (λ i. h.found_is i || is_number (here i)) ∙ sym (list_any_more is_number (column p rows) k Value.Null there);
+    }
+
+-- ---- values of a type of numbers
+
+-- the scale of a type's numbers
+abbrev pub scale_of : EdmType → ℕ
+scale_of (EdmType.Dec scale precision) = scale
+scale_of _ = 0
+
+-- the value is null, or a number of this scale
+abbrev pub IsAt : ℕ → Value → Type 0
+IsAt s Value.Null = Unit {0}
+IsAt s (Value.Int z) = 0 ≡ s
+IsAt s (Value.Dec d) = d.scale ≡ s
+IsAt s _ = ⊥
+
+-- each value of the list is
+abbrev pub AllAt : ℕ → List Value → Type 0
+AllAt s [] = Unit {0}
+AllAt s (v ∷ vs) = IsAt s v × AllAt s vs
+
+and_first : (a b : Bool) → (a && b) ≡ true → a ≡ true
+and_first true b h = refl
+and_first false b h = h
+
+and_second : (a b : Bool) → (a && b) ≡ true → b ≡ true
+and_second true b h = h
+and_second false b h = absurd (false≢true h)
+
+-- the value is null, where it may be, or one of the kind
+abbrev fits : EdmType → Bool → Value → Bool
+fits kind nullable v = is_value_of (record { name = []; kind = kind; nullable = nullable }) v
+
+fits-at : (kind : EdmType) (b : Bool) (v : Value) → IsTrue (is_number_kind kind) → fits kind b v ≡ true → IsAt (scale_of kind) v
+fits-at EdmType.Int b Value.Null n h = tt
+fits-at EdmType.Int b (Value.Int z) n h = refl
+fits-at EdmType.Int b (Value.Bool x) n h = false≢true h
+fits-at EdmType.Int b (Value.Dec d) n h = absurd (false≢true h)
+fits-at EdmType.Int b (Value.Text t) n h = false≢true h
+fits-at EdmType.Int b (Value.Day d) n h = false≢true h
+fits-at EdmType.Int b Value.Beyond n h = false≢true h
+fits-at (EdmType.Dec s p) b Value.Null n h = tt
+fits-at (EdmType.Dec s p) b (Value.Int z) n h = absurd (false≢true h)
+fits-at (EdmType.Dec s p) b (Value.Bool x) n h = false≢true h
+fits-at (EdmType.Dec s p) b (Value.Dec d) n h = eqb-true d.scale s (and_first _ _ (and_first _ _ h))
+fits-at (EdmType.Dec s p) b (Value.Text t) n h = false≢true h
+fits-at (EdmType.Dec s p) b (Value.Day d) n h = false≢true h
+fits-at (EdmType.Dec s p) b Value.Beyond n h = false≢true h
+fits-at EdmType.Bool b v n h = absurd (false≢true n)
+fits-at EdmType.Text b v n h = absurd (false≢true n)
+fits-at EdmType.Day b v n h = absurd (false≢true n)
+
+all-at : (kind : EdmType) (b : Bool) (vs : List Value) → IsTrue (is_number_kind kind) → list_all (fits kind b) vs ≡ true → AllAt (scale_of kind) vs
+all-at kind b [] n h = tt
+all-at kind b (v ∷ vs) n h = (fits-at kind b v n (and_first _ _ h), all-at kind b vs n (and_second (fits kind b v) _ h))
+
+-- ---- the exact sum
+
+-- the values that are not null
+abbrev kept : List Value → List Value
+kept = filter (λ v. not (is_null v))
+
+-- a number and a value, added
+abbrev plus_value : Number → Value → Number
+plus_value a v = unwrap_or (option_map (number_plus a) (number_of v)) a
+
+at_own_scale : (z : ℤ) (s : ℕ) → z *ℤ pos (10 ^ (s - s)) ≡ z
+at_own_scale z s = ap (λ k. z *ℤ pos (10 ^ k)) (sub_self s) ∙ omega (arith, ints)
+
+max-same : (s : ℕ) → max s s ≡ s
+max-same s = omega arith
+
+number_plus-same : (a m : ℤ) (s : ℕ) → number_plus (a, s) (m, s) ≡ (a +ℤ m, s)
+number_plus-same a m s =
+    ap (λ t. (a *ℤ pos (10 ^ (t - s)) +ℤ m *ℤ pos (10 ^ (t - s)), t)) (max-same s) ∙ (λ i. (at_own_scale a s i +ℤ at_own_scale m s i, s))
+
+number_plus-zero : (m : ℤ) (s : ℕ) → number_plus (pos 0, 0) (m, s) ≡ (pos 0 +ℤ m, s)
+number_plus-zero m s =
+    ap (λ t. (pos 0 *ℤ pos (10 ^ (t - 0)) +ℤ m *ℤ pos (10 ^ (t - s)), t)) (zero-max s) ∙ (λ i. (zero-*ℤ (pos (10 ^ (s - 0))) i +ℤ at_own_scale m s i, s))
+
+plus_nothing : (a : ℤ) → a ≡ a +ℤ pos 0
+plus_nothing a = omega (arith, ints)
+
+fold-at : (vs : List Value) (a : ℤ) (s : ℕ) → AllAt s vs → fold plus_value (a, s) (kept vs) ≡ (amounts a vs, s)
+fold-at [] a s h = refl
+fold-at (Value.Null ∷ vs) a s h = fold-at vs a s h.1 ∙ ap (λ b. (amounts b vs, s)) (plus_nothing a)
+fold-at (Value.Int z ∷ vs) a s h =
+    ap (λ n. fold plus_value n (kept vs)) (ap (λ t. number_plus (a, s) (z, t)) h.0 ∙ number_plus-same a z s) ∙ fold-at vs (a +ℤ z) s h.1
+fold-at (Value.Dec d ∷ vs) a s h =
+    ap (λ n. fold plus_value n (kept vs)) (ap (λ t. number_plus (a, s) (d.mantissa, t)) h.0 ∙ number_plus-same a d.mantissa s) ∙ fold-at vs (a +ℤ d.mantissa) s h.1
+fold-at (Value.Bool x ∷ vs) a s h = absurd h.0
+fold-at (Value.Text x ∷ vs) a s h = absurd h.0
+fold-at (Value.Day x ∷ vs) a s h = absurd h.0
+fold-at (Value.Beyond ∷ vs) a s h = absurd h.0
+
+total-kept : (vs : List Value) (s : ℕ) → AllAt s vs → list_any is_number vs ≡ true → total (kept vs) ≡ (amounts (pos 0) vs, s)
+total-kept [] s h n = absurd (false≢true n)
+total-kept (Value.Null ∷ vs) s h n = total-kept vs s h.1 n
+total-kept (Value.Int z ∷ vs) s h n =
+    ap (λ a. fold plus_value a (kept vs)) (ap (λ t. number_plus (pos 0, 0) (z, t)) h.0 ∙ number_plus-zero z s) ∙ fold-at vs (pos 0 +ℤ z) s h.1
+total-kept (Value.Dec d ∷ vs) s h n =
+    ap (λ a. fold plus_value a (kept vs)) (ap (λ t. number_plus (pos 0, 0) (d.mantissa, t)) h.0 ∙ number_plus-zero d.mantissa s) ∙ fold-at vs (pos 0 +ℤ d.mantissa) s h.1
+total-kept (Value.Bool x ∷ vs) s h n = absurd h.0
+total-kept (Value.Text x ∷ vs) s h n = absurd h.0
+total-kept (Value.Day x ∷ vs) s h n = absurd h.0
+total-kept (Value.Beyond ∷ vs) s h n = absurd h.0
+
+nonempty-kept : (vs : List Value) (s : ℕ) → AllAt s vs → is_nonempty (kept vs) ≡ list_any is_number vs
+nonempty-kept [] s h = refl
+nonempty-kept (Value.Null ∷ vs) s h = nonempty-kept vs s h.1
+nonempty-kept (Value.Int z ∷ vs) s h = refl
+nonempty-kept (Value.Dec d ∷ vs) s h = refl
+nonempty-kept (Value.Bool x ∷ vs) s h = absurd h.0
+nonempty-kept (Value.Text x ∷ vs) s h = absurd h.0
+nonempty-kept (Value.Day x ∷ vs) s h = absurd h.0
+nonempty-kept (Value.Beyond ∷ vs) s h = absurd h.0
+
+integers-kept : (b : Bool) (vs : List Value) → list_all (fits EdmType.Int b) vs ≡ true → list_all is_integer (kept vs) ≡ true
+integers-kept b [] h = refl
+integers-kept b (Value.Null ∷ vs) h = integers-kept b vs (and_second b _ h)
+integers-kept b (Value.Int z ∷ vs) h = integers-kept b vs h
+integers-kept b (Value.Dec d ∷ vs) h = absurd (false≢true h)
+integers-kept b (Value.Bool x ∷ vs) h = absurd (false≢true h)
+integers-kept b (Value.Text x ∷ vs) h = absurd (false≢true h)
+integers-kept b (Value.Day x ∷ vs) h = absurd (false≢true h)
+integers-kept b (Value.Beyond ∷ vs) h = absurd (false≢true h)
+
+decimals-kept : (s p : ℕ) (b : Bool) (vs : List Value) → list_all (fits (EdmType.Dec s p) b) vs ≡ true → list_any is_number vs ≡ true → list_all is_integer (kept vs) ≡ false
+decimals-kept s p b [] h n = absurd (false≢true n)
+decimals-kept s p b (Value.Null ∷ vs) h n = decimals-kept s p b vs (and_second b _ h) n
+decimals-kept s p b (Value.Int z ∷ vs) h n = absurd (false≢true h)
+decimals-kept s p b (Value.Dec d ∷ vs) h n = refl
+decimals-kept s p b (Value.Bool x ∷ vs) h n = absurd (false≢true h)
+decimals-kept s p b (Value.Text x ∷ vs) h n = absurd (false≢true h)
+decimals-kept s p b (Value.Day x ∷ vs) h n = absurd (false≢true h)
+decimals-kept s p b (Value.Beyond ∷ vs) h n = absurd (false≢true h)
+
+not_beyond : (kind : EdmType) (b : Bool) (v : Value) → fits kind b v ≡ true → is_beyond v ≡ false
+not_beyond kind b Value.Null h = refl
+not_beyond kind b (Value.Bool x) h = refl
+not_beyond kind b (Value.Int x) h = refl
+not_beyond kind b (Value.Dec x) h = refl
+not_beyond kind b (Value.Text x) h = refl
+not_beyond kind b (Value.Day x) h = refl
+not_beyond kind b Value.Beyond h = absurd (false≢true (and_second (is_of_kind kind Value.Beyond) false h))
+
+none_beyond : (kind : EdmType) (b : Bool) (vs : List Value) → list_all (fits kind b) vs ≡ true → list_any is_beyond vs ≡ false
+none_beyond kind b [] h = refl
+none_beyond kind b (v ∷ vs) h =
+    ap (λ t. t || list_any is_beyond vs) (not_beyond kind b v (and_first _ _ h)) ∙ none_beyond kind b vs (and_second (fits kind b v) _ h)
+
+exact_sum-kept : (kind : EdmType) (b : Bool) (vs : List Value) → IsTrue (is_number_kind kind) → list_all (fits kind b) vs ≡ true → list_any is_number vs ≡ true → exact_sum (kept vs) ≡ number_in kind (amounts (pos 0) vs)
+exact_sum-kept EdmType.Int b vs k h n =
+    ap (λ t. if t then integer (total (kept vs)).0 else dec (total (kept vs)).0 (total (kept vs)).1) (integers-kept b vs h)
+    ∙ ap (λ a. integer a.0) (total-kept vs 0 (all-at EdmType.Int b vs k h) n)
+exact_sum-kept (EdmType.Dec s p) b vs k h n =
+    ap (λ t. if t then integer (total (kept vs)).0 else dec (total (kept vs)).0 (total (kept vs)).1) (decimals-kept s p b vs h n)
+    ∙ ap (λ a. dec a.0 a.1) (total-kept vs s (all-at (EdmType.Dec s p) b vs k h) n)
+exact_sum-kept EdmType.Bool b vs k h n = absurd (false≢true k)
+exact_sum-kept EdmType.Text b vs k h n = absurd (false≢true k)
+exact_sum-kept EdmType.Day b vs k h n = absurd (false≢true k)
+
+-- the aggregate, where no value is Beyond, by whether a number is there
+aggregate-found : (kind : EdmType) (b : Bool) (vs : List Value) (found : Bool) → IsTrue (is_number_kind kind) → list_all (fits kind b) vs ≡ true → list_any is_number vs ≡ found → aggregate method.Sum vs ≡ (if found then exact_sum (kept vs) else Value.Null)
+aggregate-found kind b vs found k h n =
+    ap (λ t. if t then Value.Beyond else (if is_nonempty (kept vs) then exact_sum (kept vs) else Value.Null)) (none_beyond kind b vs h)
+    ∙ ap (λ t. if t then exact_sum (kept vs) else Value.Null) (nonempty-kept vs (scale_of kind) (all-at kind b vs k h) ∙ n)
+
+-- ---- the values of a property of a world
+
+value_fits : (ps : List Property) (q : Property) (vs : List Value) (p : ℕ) → are_values_of ps vs ≡ true → slice_get ps p ≡ Some q → is_value_of q (value_in vs p) ≡ true
+value_fits [] q vs p h e = cc
+value_fits (r ∷ ps) q [] p h e = absurd (false≢true h)
+value_fits (r ∷ ps) q (v ∷ vs) zero h e =
+    let same : r ≡ q = cc in
+    ap (λ x. is_value_of x v) (sym same) ∙ and_first _ _ h
+value_fits (r ∷ ps) q (v ∷ vs) (suc p) h e = value_fits ps q vs p (and_second (is_value_of r v) _ h) e
+
+column-fits : (ps : List Property) (q : Property) (p : ℕ) (rows : List (List Value)) → slice_get ps p ≡ Some q → ((k : ℕ) (vs : List Value) → slice_get rows k ≡ Some vs → are_values_of ps vs ≡ true) → list_all (is_value_of q) (column p rows) ≡ true
+column-fits ps q p [] e each = refl
+column-fits ps q p (r ∷ rows) e each =
+    and_from _ _ (value_fits ps q r p (each zero r refl) e) (column-fits ps q p rows e (λ k vs h. each (suc k) vs h))
+
+-- the property, of a type of numbers, whose kind was read
+pub record IsNumeric (w : World) (s : ℕ) (p : Part) (kind : EdmType) : Type 0 where
+  pub fitting : FitsModel w
+  pub of : p.of ≡ set_type w.model s
+  pub number : HasNumberType w.model p
+  pub kind_is : option_map (λ q. q.kind) (property_at w.model p) ≡ Some kind
+
+pub IsNumeric-read : (w : World) (m : Model) (s : ℕ) (p : Part) (kind : EdmType) → FitsModel w → m ≡ w.model → p.of ≡ set_type w.model s → HasNumberType w.model p → option_map (λ q. q.kind) (property_at m p) ≡ Some kind → IsNumeric w s p kind
+IsNumeric-read w m s p kind fitting same of number read = record {
+  fitting = fitting;
+  of = of;
+  number = number;
+  kind_is = ap (λ x. option_map (λ q. q.kind) (property_at x p)) (sym same) ∙ read;
+}
+
+property-read : (o : Option Property) (kind : EdmType) → option_map (λ q. q.kind) o ≡ Some kind → (q : Property) × (o ≡ Some q) × (q.kind ≡ kind)
+property-read None kind h = cc
+property-read (Some q) kind h = (q, refl, cc)
+
+-- the sum of a list that fits, by whether a number is in it
+sum-by_found : (q : Property) (vs : List Value) (found : Bool) → IsTrue (is_number_kind q.kind) → list_all (is_value_of q) vs ≡ true → found ≡ list_any is_number vs → aggregate method.Sum vs ≡ (if found then number_in q.kind (amounts (pos 0) vs) else Value.Null)
+sum-by_found q vs true k h n = aggregate-found q.kind q.nullable vs true k h (sym n) ∙ exact_sum-kept q.kind q.nullable vs k h (sym n)
+sum-by_found q vs false k h n = aggregate-found q.kind q.nullable vs false k h (sym n)
+
+-- the sum of a property, by what is known of the values of all entities
+pub sum_of-found : (w : World) (s : ℕ) (p : Part) (kind : EdmType) (n : ℕ) (sum : ℤ) (found : Bool) → IsNumeric w s p kind → IsSumOf (column p.at (entities_of w s)) n sum found → length (entities_of w s) ≤ n → (if found then number_in kind sum else Value.Null) ≡ sum_of w s p.at
+sum_of-found w s p kind n sum found numeric so_far all =
+    let vs : List Value = column p.at (entities_of w s) in
+    let read : (q : Property) × (property_at w.model p ≡ Some q) × (q.kind ≡ kind) = property-read (property_at w.model p) kind numeric.kind_is in
+    let there : slice_get (properties_of w.model (set_type w.model s)) p.at ≡ Some read.0 = ap (λ t. slice_get (properties_of w.model t) p.at) (sym numeric.of) ∙ read.1 in
+    let fit : list_all (is_value_of read.0) vs ≡ true = column-fits _ read.0 p.at (entities_of w s) there (numeric.fitting.rows s) in
+    let whole : take n vs ≡ vs = take_all n vs (rw length-map all) in
+    let by_found = sum-by_found read.0 vs found (numeric.number read.0 read.1) fit (so_far.found_is ∙ ap (list_any is_number) whole) in
+    let same : sum ≡ amounts (pos 0) vs = so_far.sum_is ∙ ap (amounts (pos 0)) whole in
+    (λ i. if found then number_in (sym read.2 i) (same i) else Value.Null) ∙ sym by_found

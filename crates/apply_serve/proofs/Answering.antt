@@ -1,0 +1,153 @@
+-- The replies to lines, one after another.
+use Rattle.std.proofs.Common.{◌≡◌, ℕ, ◌+◌, ◌-◌, ◌<◌, ◌≤◌, List, [], ◌∷◌, ◌++◌, length, take, drop, None, Some, refl, sym, ap, subst, ◌∙◌, true, arith, append_assoc, Ok, Err, OnOk, OnErr, IfOk, Vec, Global}
+use Rattle.std.specs.declared.result.Result.{Result}
+use Rattle.std.proofs.lemmas.Result.{on_ok_weaker, on_err_weaker}
+use Rattle.std.specs.Prelude.{position}
+use Rattle.std.specs.declared.option.Option.{Option}
+use Rattle.std.specs.Str.Lines.{strip_carriage_return}
+use Rattle.std.specs.Io.KnownBytes.{Appends}
+use Rattle.std.proofs.KnownBytes.{Appends-nil, Appends-trans}
+use Rattle.std.proofs.lemmas.List.{append-nil, take_rest}
+use Rattle.std.proofs.lemmas.Bool.Decides.{nat_tests}
+use Rattle.edm_data.specs.Worlds.{World}
+use Rattle.apply_serve.specs.Requests.{is_line_feed, is_shown, shown, request_lines}
+use Rattle.apply_serve.specs.Responses.{NotBuilt, Memory, refused}
+use Rattle.apply_serve.specs.FirstForm.{IsFirstForm}
+use Rattle.apply_serve.specs.SumResponses.{IsReply, built, other, memory, form_response}
+use Rattle.apply_serve.specs.Answers.{IsOut, Responds, RespondsInPart, RespondsUpTo, WritesFront}
+use Rattle.apply_serve.proofs.CutLines.{request_lines-first, request_lines-last}
+
+shown-some : (b : ℕ) (line : List ℕ) → shown (b ∷ line) ≡ (b ∷ line) ∷ []
+shown-some b line =
+    let some : is_shown (b ∷ line) ≡ true = grind (arith, nat_tests) in rw some refl
+
+-- ---- outputs
+
+module _ (w : World) where
+  pub IsOut-append : (ls ms : List (List ℕ)) (o p : List ℕ) → IsOut w ls o → IsOut w ms p → IsOut w (ls ++ ms) (o ++ p)
+  IsOut-append [] ms o p h k = let P : List ℕ → Type 0 = λ t. IsOut w ms (t ++ p) in subst P (sym h) k
+  IsOut-append (l ∷ ls) ms o p h k =
+      (h.0, h.1 ++ p, h.2, IsOut-append ls ms h.1 p h.3 k, ap (λ t. t ++ p) h.4 ∙ append_assoc h.0 h.1 p)
+
+  -- there are replies to all lines
+  pub some_out : (ls : List (List ℕ)) → (o : List ℕ) × IsOut w ls o
+  some_out [] = ([], refl)
+  some_out (l ∷ ls) =
+      let more = some_out ls in
+      (refused Memory ++ more.0, (refused Memory, more.0, memory, more.1, refl))
+
+  one_line : (line r : List ℕ) → 0 < length line → IsReply w line r → IsOut w (shown line) r
+  one_line [] r some reply = absurd (omega arith)
+  one_line (b ∷ line) r some reply =
+      let Q : List (List ℕ) → Type 0 = λ ls. IsOut w ls r in
+      subst Q (sym (shown-some b line)) (r, [], reply, refl, sym (append-nil r))
+
+  no_line : (line : List ℕ) → length line ≡ 0 → IsOut w (shown line) []
+  no_line [] e = refl
+  no_line (b ∷ line) e = absurd (omega arith)
+
+  -- ---- one line
+
+  -- an empty line has no reply
+  pub Responds-nothing : (a : Option (List ℕ)) (line : List ℕ) → length line ≡ 0 → Responds w (shown line) a a
+  Responds-nothing a line e = record { written = []; appended = Appends-nil a; replies = no_line line e }
+
+  -- the reply to a line was written
+  pub Responds-line : (a b : Option (List ℕ)) (line r : List ℕ) → 0 < length line → IsReply w line r → Appends a b r → Responds w (shown line) a b
+  Responds-line a b line r some reply h = record { written = r; appended = h; replies = one_line line r some reply }
+
+  -- a front of the reply to a line was written
+  pub RespondsInPart-line : (a b : Option (List ℕ)) (line r : List ℕ) → 0 < length line → IsReply w line r → WritesFront r a b → RespondsInPart w (shown line) a b
+  RespondsInPart-line a b line r some reply h = record {
+    written = h.written;
+    lost = h.lost;
+    appended = h.appended;
+    replies = let P : List ℕ → Type 0 = λ t. IsOut w (shown line) t in subst P h.front (one_line line r some reply);
+  }
+
+  -- ---- many lines
+
+  pub RespondsUpTo-start : (a : Option (List ℕ)) (bytes : List ℕ) → RespondsUpTo w bytes bytes a a
+  RespondsUpTo-start a bytes = record { written = []; appended = Appends-nil a; onward = λ out h. h }
+
+  -- a line more was answered
+  pub RespondsUpTo-line : (a b c : Option (List ℕ)) (bytes rest : List ℕ) (k : ℕ) → position is_line_feed rest ≡ Some k → RespondsUpTo w bytes rest a b → Responds w (shown (strip_carriage_return (take k rest))) b c → RespondsUpTo w bytes (take (length rest - (k + 1)) (drop (k + 1) rest)) a c
+  RespondsUpTo-line a b c bytes rest k e h g =
+      let P : List ℕ → Type 0 = λ t. RespondsUpTo w bytes t a c in
+      subst P (sym (take_rest rest (k + 1))) (record {
+        written = h.written ++ g.written;
+        appended = Appends-trans a b c h.written g.written h.appended g.appended;
+        onward = λ out more.
+            let Q : List (List ℕ) → Type 0 = λ ls. IsOut w ls (g.written ++ out) in
+            let R : List ℕ → Type 0 = λ t. IsOut w (request_lines bytes) t in
+            subst R (sym (append_assoc h.written g.written out)) (h.onward (g.written ++ out) (subst Q (sym (request_lines-first rest k e)) (IsOut-append (shown (strip_carriage_return (take k rest))) (request_lines (drop (k + 1) rest)) g.written out g.replies more)));
+      })
+
+  -- the last line was answered
+  pub Responds-last : (a b c : Option (List ℕ)) (bytes rest : List ℕ) → position is_line_feed rest ≡ None → RespondsUpTo w bytes rest a b → Responds w (shown rest) b c → Responds w (request_lines bytes) a c
+  Responds-last a b c bytes rest e h g = record {
+    written = h.written ++ g.written;
+    appended = Appends-trans a b c h.written g.written h.appended g.appended;
+    replies = let Q : List (List ℕ) → Type 0 = λ ls. IsOut w ls g.written in h.onward g.written (subst Q (sym (request_lines-last rest e)) g.replies);
+  }
+
+  -- the writing broke off in the reply to a line
+  pub RespondsInPart-middle : (a b c : Option (List ℕ)) (bytes rest : List ℕ) (k : ℕ) → position is_line_feed rest ≡ Some k → RespondsUpTo w bytes rest a b → RespondsInPart w (shown (strip_carriage_return (take k rest))) b c → RespondsInPart w (request_lines bytes) a c
+  RespondsInPart-middle a b c bytes rest k e h g =
+      let more = some_out (request_lines (drop (k + 1) rest)) in
+      record {
+        written = h.written ++ g.written;
+        lost = g.lost ++ more.0;
+        appended = Appends-trans a b c h.written g.written h.appended g.appended;
+        replies =
+            let out = IsOut-append (shown (strip_carriage_return (take k rest))) (request_lines (drop (k + 1) rest)) (g.written ++ g.lost) more.0 g.replies more.1 in
+            let Q : List (List ℕ) → Type 0 = λ ls. IsOut w ls (g.written ++ g.lost ++ more.0) in
+            let R : List ℕ → Type 0 = λ t. IsOut w (request_lines bytes) t in
+            subst R (ap (λ t. h.written ++ t) (append_assoc g.written g.lost more.0) ∙ sym (append_assoc h.written g.written (g.lost ++ more.0))) (h.onward (g.written ++ g.lost ++ more.0) (subst Q (sym (request_lines-first rest k e)) out));
+      }
+
+  -- the writing broke off in the reply to the last line
+  pub RespondsInPart-last : (a b c : Option (List ℕ)) (bytes rest : List ℕ) → position is_line_feed rest ≡ None → RespondsUpTo w bytes rest a b → RespondsInPart w (shown rest) b c → RespondsInPart w (request_lines bytes) a c
+  RespondsInPart-last a b c bytes rest e h g = record {
+    written = h.written ++ g.written;
+    lost = g.lost;
+    appended = Appends-trans a b c h.written g.written h.appended g.appended;
+    replies =
+        let Q : List (List ℕ) → Type 0 = λ ls. IsOut w ls (g.written ++ g.lost) in
+        let R : List ℕ → Type 0 = λ t. IsOut w (request_lines bytes) t in
+        subst R (sym (append_assoc h.written g.written g.lost)) (h.onward (g.written ++ g.lost) (subst Q (sym (request_lines-last rest e)) g.replies));
+  }
+
+pub OnErr-always : {T E : Type 0} (result : Result T E) {P : Type 0} → P → OnErr result P
+OnErr-always (Ok x) h = tt
+OnErr-always (Err e) h = h
+
+-- all of a reply was written
+pub ok-reply : {T E : Type 0} (result : Result T E) (w : World) (line : List ℕ) (old new : Option (List ℕ)) (r bytes : List ℕ) → 0 < length line → IsReply w line r → bytes ≡ r → OnOk result (Appends old new bytes) → OnOk result (Responds w (shown line) old new)
+ok-reply result w line old new r bytes some reply e h =
+    let P : List ℕ → Type 0 = λ t. IsReply w line t in
+    on_ok_weaker result (Responds-line w old new line bytes some (subst P (sym e) reply)) h
+
+-- a front of a reply was written
+pub err-reply : {T E : Type 0} (result : Result T E) (w : World) (line : List ℕ) (old new : Option (List ℕ)) (r bytes : List ℕ) → 0 < length line → IsReply w line r → bytes ≡ r → OnErr result (WritesFront bytes old new) → OnErr result (RespondsInPart w (shown line) old new)
+err-reply result w line old new r bytes some reply e h =
+    let P : List ℕ → Type 0 = λ t. IsReply w line t in
+    on_err_weaker result (RespondsInPart-line w old new line bytes some (subst P (sym e) reply)) h
+
+-- the response to a line of the first form
+pub IfOk-built : {E : Type 0} (result : Result (Vec ℕ Global) E) (w : World) (line set property name : List ℕ) → IsFirstForm line set property name → IfOk result (λ r. r.items ≡ form_response w set property name) → IfOk result (λ r. IsReply w line r.items)
+IfOk-built (Ok r) w line set property name form h =
+    let P : List ℕ → Type 0 = λ t. IsReply w line t in subst P (sym h) (built form)
+IfOk-built (Err e) w line set property name form h = tt
+
+-- the response to a line of another form
+pub IfOk-other : {E : Type 0} (result : Result (Vec ℕ Global) E) (w : World) (line : List ℕ) → ((set property name : List ℕ) → ¬ IsFirstForm line set property name) → IfOk result (λ r. r.items ≡ refused NotBuilt) → IfOk result (λ r. IsReply w line r.items)
+IfOk-other (Ok r) w line none h =
+    let P : List ℕ → Type 0 = λ t. IsReply w line t in subst P (sym h) (other none)
+IfOk-other (Err e) w line none h = tt
+
+pub ruleset reasons = (IfOk-built, IfOk-other)
+
+pub ruleset replies = (Responds-nothing, Responds-line, RespondsInPart-line)
+
+pub ruleset streams = (RespondsUpTo-start, RespondsUpTo-line, Responds-last, RespondsInPart-middle, RespondsInPart-last)

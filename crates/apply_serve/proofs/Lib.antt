@@ -1,0 +1,9 @@
+mod FirstForms
+mod Fronts
+mod Known
+mod Loading
+mod Named
+mod SetNames
+mod Answering
+mod Completeness
+mod CutLines

@@ -1,0 +1,71 @@
+-- The names of a model's sets, and the lines that show them.
+use Rattle.std.proofs.Common.{◌≡◌, ℕ, zero, suc, ◌+◌, ◌<◌, ◌≤◌, List, [], ◌∷◌, ◌++◌, length, take, get_or, map, refl, sym, ap, ap₂, ◌∙◌, codes, arith}
+use Rattle.std.proofs.lemmas.List.{take_all, take_more, map-append}
+use Rattle.std.proofs.lemmas.Option.{slice_get-get_or}
+use Rattle.edm_values.specs.Lists.{places}
+use Rattle.edm_data.proofs.PlaceLemmas.{length-places, get_or-places}
+use Rattle.std.specs.Prelude.{slice_get, option_map, unwrap_or}
+use Rattle.std.specs.declared.option.Option.{Option}
+use Rattle.edm_model.specs.Models.{Model, EntitySet}
+use Rattle.edm_model.specs.LookUps.{set_name}
+use Rattle.edm_data.specs.Worlds.{entity_at}
+use Rattle.edm_data.specs.DataFile.{DataReading}
+use Rattle.apply_serve.specs.Responses.{json_string, data_line}
+use Rattle.apply_serve.specs.Loads.{RefusedData, judged_data}
+use Rattle.apply_serve.specs.DataRefusals.{name_at, fault_line, IsLineOf}
+use Rattle.edm_data.specs.Refusals.{Tells}
+use Rattle.edm_data.specs.declared.DataRefused.{DataRefused}
+use Rattle.edm_data.specs.declared.DataRefused.TheVariants as refused
+
+slice_get-map : {X Y : Type 0} (f : X → Y) (xs : List X) (k : ℕ) → slice_get (map f xs) k ≡ option_map f (slice_get xs k)
+slice_get-map f [] k = refl
+slice_get-map f (x ∷ xs) zero = refl
+slice_get-map f (x ∷ xs) (suc k) = slice_get-map f xs k
+
+-- the name of a set of the model
+named : (m : Model) (names : List (List ℕ)) (s : ℕ) → names ≡ map (λ (e : EntitySet). e.name) m.sets → name_at names s ≡ set_name m s
+named m names s h =
+    ap (λ (ns : List (List ℕ)). name_at ns s) h ∙ ap (λ (o : Option (List ℕ)). unwrap_or o []) (slice_get-map (λ (e : EntitySet). e.name) m.sets s)
+
+-- the line of a refusal is that of the reading
+pub line_told : (m : Model) (names : List (List ℕ)) (e : DataRefused) (line : List ℕ) (reading : DataReading) → names ≡ map (λ (s : EntitySet). s.name) m.sets → IsLineOf names e line → Tells e reading → judged_data m reading ≡ RefusedData line
+line_told m names refused.TooLong line reading h l r = ap (judged_data m) r ∙ ap RefusedData (sym l)
+line_told m names refused.Json line reading h l r = ap (judged_data m) r ∙ ap RefusedData (sym l)
+line_told m names (refused.Set name) line reading h l r = ap (judged_data m) r ∙ ap RefusedData (sym l)
+line_told m names (refused.Shape s k) line reading h l r =
+    ap (judged_data m) r ∙ ap RefusedData (ap (λ n. fault_line (codes "Shape") n k) (sym (named m names s h)) ∙ sym l)
+line_told m names (refused.TwiceKey s k) line reading h l r =
+    ap (judged_data m) r ∙ ap RefusedData (ap (λ n. fault_line (codes "TwiceKey") n k) (sym (named m names s h)) ∙ sym l)
+line_told m names (refused.Dangling s k) line reading h l r =
+    ap (judged_data m) r ∙ ap RefusedData (ap (λ n. fault_line (codes "Dangling") n k) (sym (named m names s h)) ∙ sym l)
+line_told m names refused.Memory line reading h l r = absurd l
+
+-- the set at a place
+pub set_at : (n k s : ℕ) (xs : List ℕ) → xs ≡ places n → k < length xs → s ≡ get_or xs k s → (s ≡ k) × (k < n)
+set_at n k s xs all within at =
+    let size : length xs ≡ n = ap length all ∙ length-places n in
+    let below : k < n = omega (arith, size) in
+    (at ∙ ap (λ (ys : List ℕ). get_or ys k s) all ∙ get_or-places n k s below, below)
+
+-- a name more
+pub name_more : (m : Model) (names : List (List ℕ)) (i : ℕ) (s : ℕ) (name : List ℕ) → i < length m.sets → s ≡ i → name ≡ set_name m s → names ≡ map (λ (e : EntitySet). e.name) (take i m.sets) → names ++ name ∷ [] ≡ map (λ (e : EntitySet). e.name) (take (i + 1) m.sets)
+name_more m names i s name within same is h =
+    let d : EntitySet = record { name = []; of = 0 } in
+    let here : set_name m s ≡ (get_or m.sets i d).name = ap (set_name m) same ∙ ap (λ (o : Option EntitySet). unwrap_or (option_map (λ (e : EntitySet). e.name) o) []) (slice_get-get_or m.sets i d within) in
+    ap₂ (λ (u : List (List ℕ)) (v : List ℕ). u ++ v ∷ []) h (is ∙ here) ∙ sym (map-append (λ (e : EntitySet). e.name) (take i m.sets) (get_or m.sets i d ∷ [])) ∙ ap (map (λ (e : EntitySet). e.name)) (sym (take_more m.sets i d within))
+
+-- all names
+pub name_all : (m : Model) (names : List (List ℕ)) (i : ℕ) (xs : List ℕ) → xs ≡ places (length m.sets) → length xs ≤ i → names ≡ map (λ (e : EntitySet). e.name) (take i m.sets) → names ≡ map (λ (e : EntitySet). e.name) m.sets
+name_all m names i xs all past h =
+    let size : length xs ≡ length m.sets = ap length all ∙ length-places (length m.sets) in
+    h ∙ ap (map (λ (e : EntitySet). e.name)) (take_all i m.sets (omega (arith, size)))
+
+-- a refusal tells the reading, where each of its variants does
+pub tells : (e : DataRefused) (r : DataReading) → (e ≡ refused.TooLong → r ≡ DataReading.TooLong) → (e ≡ refused.Json → r ≡ DataReading.NoJson) → ((name : List ℕ) → e ≡ refused.Set name → r ≡ DataReading.Set name) → ((s k : ℕ) → e ≡ refused.Shape s k → r ≡ DataReading.Shape (entity_at s k)) → ((s k : ℕ) → e ≡ refused.TwiceKey s k → r ≡ DataReading.TwiceKey (entity_at s k)) → ((s k : ℕ) → e ≡ refused.Dangling s k → r ≡ DataReading.Dangling (entity_at s k)) → Tells e r
+tells refused.TooLong r a b c d f g = a refl
+tells refused.Json r a b c d f g = b refl
+tells (refused.Set name) r a b c d f g = c name refl
+tells (refused.Shape s k) r a b c d f g = d s k refl
+tells (refused.TwiceKey s k) r a b c d f g = f s k refl
+tells (refused.Dangling s k) r a b c d f g = g s k refl
+tells refused.Memory r a b c d f g = tt

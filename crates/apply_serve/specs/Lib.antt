@@ -1,0 +1,12 @@
+pub mod Answers
+pub mod FirstForm
+pub mod Loads
+pub mod NamesBefore
+pub mod Requests
+pub mod Responses
+pub mod Service
+pub mod SumResponses
+pub mod Transfers
+pub mod Words
+pub mod DataRefusals
+pub mod LoadStops

@@ -1,0 +1,75 @@
+-- Responses and their bodies, and the lines of refused files: this project's own framing and codes, with error bodies after JSON Format 4.01, "Error Response".
+use Rattle.std.specs.Prelude.{ℕ, List, [], ◌∷◌, ◌++◌, length, codes, decimal}
+use Rattle.serde_json.specs.Data.{string, object, no_members, member}
+use Rattle.serde_json.specs.Written.{compact_text}
+use Rattle.edm_model.specs.Models.{Model}
+use Rattle.edm_model.specs.LookUps.{set_name}
+use Rattle.edm_model.specs.ModelFile.{ModelReading}
+use Rattle.edm_data.specs.Worlds.{Entity}
+use Rattle.edm_data.specs.DataFile.{DataReading}
+
+-- ---- responses
+
+-- `code SP length LF body LF`
+abbrev pub framed : List ℕ → List ℕ → List ℕ
+framed code body = code ++ 32 ∷ (decimal (length body) ++ 10 ∷ (body ++ 10 ∷ []))
+
+-- the body of an error without a target (JSON Format 4.01, "Error Response")
+abbrev pub error_body : List ℕ → List ℕ → List ℕ
+error_body code message = compact_text (object (member (codes "error") (object (member (codes "code") (string code) (member (codes "message") (string message) no_members))) no_members))
+
+-- the body of an error with a target
+abbrev pub error_body_at : List ℕ → List ℕ → List ℕ → List ℕ
+error_body_at code message target = compact_text (object (member (codes "error") (object (member (codes "code") (string code) (member (codes "message") (string message) (member (codes "target") (string target) no_members)))) no_members))
+
+-- why a line is not answered by a body
+pub data Refusal : Type 0 where
+  -- its form is not built
+  NotBuilt : Refusal
+  -- the model has no set of this name
+  NotFound : List ℕ → Refusal
+  -- the transformation of this number, from 1, has no type
+  Type' : ℕ → Refusal
+  -- a number is past its range
+  Range : Refusal
+  -- memory was wanting
+  Memory : Refusal
+
+-- the response to a refused line
+abbrev pub refused : Refusal → List ℕ
+refused NotBuilt = framed (codes "501") (error_body (codes "NotBuilt") (codes "this form is not built yet"))
+refused (NotFound set) = framed (codes "404") (error_body_at (codes "NotFound") (codes "no such entity set") set)
+refused (Type' k) = framed (codes "400") (error_body_at (codes "Type") (codes "the transformation has no type") (decimal k))
+refused Range = framed (codes "422") (error_body (codes "Range") (codes "a number is past its range"))
+refused Memory = framed (codes "503") (error_body (codes "Memory") (codes "out of memory"))
+
+-- the response with a body
+abbrev pub answered : List ℕ → List ℕ
+answered body = framed (codes "200") body
+
+-- ---- the line of a refused file
+
+-- a name as a JSON string
+abbrev pub json_string : List ℕ → List ℕ
+json_string name = compact_text (string name)
+
+-- the line of a refused model file, and nothing for a model
+abbrev pub model_line : ModelReading → List ℕ
+model_line (ModelReading.Model' m) = []
+model_line ModelReading.TooLong = codes "model TooLong\n"
+model_line ModelReading.NoJson = codes "model Json\n"
+model_line ModelReading.NoModel = codes "model Model\n"
+
+-- the line of an entity at fault
+abbrev pub entity_line : List ℕ → Model → Entity → List ℕ
+entity_line word m e = codes "data " ++ word ++ codes " " ++ json_string (set_name m e.set) ++ codes " " ++ decimal e.at ++ codes "\n"
+
+-- the line of a refused data file, and nothing for a world
+abbrev pub data_line : Model → DataReading → List ℕ
+data_line m (DataReading.World' w) = []
+data_line m DataReading.TooLong = codes "data TooLong\n"
+data_line m DataReading.NoJson = codes "data Json\n"
+data_line m (DataReading.Set name) = codes "data Set " ++ json_string name ++ codes "\n"
+data_line m (DataReading.Shape e) = entity_line (codes "Shape") m e
+data_line m (DataReading.TwiceKey e) = entity_line (codes "TwiceKey") m e
+data_line m (DataReading.Dangling e) = entity_line (codes "Dangling") m e

@@ -1,0 +1,84 @@
+//! From the bytes of the input to the replies to its lines.
+ghost use Rattle.std.specs.Prelude.{◌≡◌, ℕ, ◌+◌, OnOk, OnErr, IfOk, position};
+ghost use Rattle.apply_serve.specs.SumResponses.{IsReply};
+ghost use Rattle.std.specs.Str.Lines.{strip_carriage_return};
+ghost use Rattle.apply_io.specs.Causes.{HasCause};
+ghost use Rattle.apply_serve.specs.Requests.{is_line_feed, shown, request_lines};
+ghost use Rattle.apply_serve.specs.Answers.{Responds, RespondsInPart};
+
+use crate::form::first_form;
+use crate::responses::{not_built, out_of_memory};
+use crate::sum::form_response;
+use crate::write::write_whole;
+use apply_io::{Failed, Sink};
+use edm_data::Data;
+use std::alloc::{AllocError, Global};
+
+/// The place of the first LF.
+fn line_end(bytes: &[u8]) -> Option<usize>
+    ensures { result ≡ position is_line_feed bytes.now }
+{
+    bytes.iter().position(|byte| *byte == b'\n')
+}
+
+/// The line that an LF ends: one CR before the LF is dropped.
+fn without_cr(line: &[u8]) -> &[u8]
+    ensures { result.now ≡ strip_carriage_return line.now }
+{
+    match line {
+        [front @ .., b'\r'] => front,
+        _ => line,
+    }
+}
+
+/// The reply to a line.
+#[tactic(auto, using(crate::proofs::Answering::reasons))]
+fn reply_to(alloc: Global, store: &Data, line: &[u8]) -> Result<Vec<u8>, AllocError>
+    ensures { IfOk result (λ r. IsReply store.now line.now r.items) }
+{
+    match first_form(line) {
+        Some(form) => form_response(alloc, store, form),
+        None => not_built(alloc),
+    }
+}
+
+/// Writes the reply to a line, and nothing for an empty one.
+#[tactic(auto, using(crate::proofs::Answering::replies))]
+fn answer_line<K: Sink>(
+    alloc: Global,
+    store: &Data,
+    line: &[u8],
+    output: &mut K,
+) -> Result<(), Failed>
+    ensures cause { HasCause (K.fault_count output.old) (K.fault_count output.new) result }
+    ensures ok { OnOk result (Responds store.now (shown line.now) (K.held output.old) (K.held output.new)) }
+    ensures err { OnErr result (RespondsInPart store.now (shown line.now) (K.held output.old) (K.held output.new)) }
+{
+    if line.is_empty() {
+        return Ok(());
+    }
+    match reply_to(alloc, store, line) {
+        Ok(reply) => write_whole(output, reply.as_slice()),
+        Err(_) => write_whole(output, out_of_memory()),
+    }
+}
+
+/// Writes the replies to the lines of these bytes, in order.
+#[tactic(auto, using(crate::proofs::Answering::streams))]
+pub fn answer_lines<K: Sink>(
+    alloc: Global,
+    store: &Data,
+    bytes: &[u8],
+    output: &mut K,
+) -> Result<(), Failed>
+    ensures cause { HasCause (K.fault_count output.old) (K.fault_count output.new) result }
+    ensures ok { OnOk result (Responds store.now (request_lines bytes.now) (K.held output.old) (K.held output.new)) }
+    ensures err { OnErr result (RespondsInPart store.now (request_lines bytes.now) (K.held output.old) (K.held output.new)) }
+{
+    let mut rest = bytes;
+    while let Some(end) = line_end(rest) {
+        answer_line(alloc, store, without_cr(&rest[..end]), output)?;
+        rest = &rest[end + 1..];
+    }
+    answer_line(alloc, store, rest, output)
+}

@@ -1,0 +1,129 @@
+//! The service: it answers `$apply` requests over typed entity sets that are read from two JSON files.
+//!
+//! [`service::serve`] is the one public call: the program's `main` makes the real objects and calls it. It stands on every
+//! other crate: `apply_io` for the outside, `edm_model` and `edm_data` for the files, `apply_meaning` for what requests
+//! mean, `edm_values` for values. Its contract is the service's promise: where the status is Served, nothing of the input
+//! is left and one framed response for each of its lines was written, in order, each the answer that the definitions in
+//! `specs/` give; and every other status comes only where it has its cause.
+#![tactic(auto)]
+
+ghost use Rattle.std.specs.Prelude.{◌≡◌, ◌<◌};
+
+use apply_io::{DiskFolder, Folder, Sink, Source, StdSink, StdSource};
+use apply_meaning::Steps;
+use service::{INPUT_LIMIT, Status, serve};
+use std::alloc::Global;
+use std::marker::Brand;
+use std::process::ExitCode;
+use std::sync::ledger::{Blank, Ledger};
+use std::thread::Threads;
+use std::{env, io};
+
+mod file;
+mod form;
+mod input;
+mod lines;
+mod load;
+mod refusals;
+mod responses;
+pub mod service;
+mod sum;
+#[cfg(test)]
+mod tests;
+mod words;
+mod write;
+
+/// Serves with a new counter of steps.
+fn run<R: Threads + Sync, F: Folder, S: Source, K: Sink, L: Ledger>(
+    rt: &R,
+    alloc: Global,
+    words: &[String],
+    folder: &mut F,
+    input: &mut S,
+    output: &mut K,
+    blank: Blank,
+) -> Status
+    requires name { blank.name ≡ L.name }
+    requires parts { blank.parts ≡ L.parts }
+    requires some { 0 < blank.parts }
+{
+    let mut steps = Steps::<L>::new(blank);
+    serve(rt, alloc, words, folder, input, output, &mut steps)
+}
+
+/// The number that the program ends with.
+fn code(status: Status) -> u8 {
+    match status {
+        Status::Served => 0,
+        Status::Usage => 1,
+        Status::ModelRefused => 2,
+        Status::DataRefused => 3,
+        Status::ReadFault => 4,
+        Status::WriteFault => 5,
+        Status::Memory => 6,
+        Status::InputLimit => 7,
+    }
+}
+
+/// Tells on standard error what was wrong, where something was.
+fn explain(
+    rt: &impl Eprint,
+    status: Status,
+    words: &[String],
+    input_faults: u64,
+) -> io::Result<()> {
+    let model = words.get(1).map_or("", |name| name.as_str());
+    let data = words.get(3).map_or("", |name| name.as_str());
+    match status {
+        Status::Served => Ok(()),
+        Status::Usage => {
+            eprintln!(rt;
+                "usage: apply_serve --model FILE --data FILE < REQUESTS, the words in this order"
+            )
+        }
+        Status::ModelRefused => {
+            eprintln!(rt;
+                "apply_serve: the model file {model} is refused; standard output says why"
+            )
+        }
+        Status::DataRefused => {
+            eprintln!(rt; "apply_serve: the data file {data} is refused; standard output says why")
+        }
+        Status::ReadFault => {
+            if input_faults > 0 {
+                eprintln!(rt; "apply_serve: standard input could not be read")
+            } else {
+                eprintln!(rt; "apply_serve: a file could not be read: {model} or {data}")
+            }
+        }
+        Status::WriteFault => eprintln!(rt; "apply_serve: standard output could not be written"),
+        Status::Memory => eprintln!(rt; "apply_serve: out of memory"),
+        Status::InputLimit => {
+            eprintln!(rt; "apply_serve: the input has more than {INPUT_LIMIT} bytes")
+        }
+    }
+}
+
+fn main(rt: HostRuntime) -> ExitCode {
+    let Ok(args) = env::args(&rt) else {
+        return ExitCode::from(code(Status::Memory));
+    };
+    let words: Vec<String> = match args.skip(1).collect(rt.alloc()) {
+        Ok(words) => words,
+        Err(_) => return ExitCode::from(code(Status::Memory)),
+    };
+    let mut folder = DiskFolder::new(&rt);
+    let mut input = StdSource::new(rt.reader());
+    let mut output = StdSink::new(io::writer(&rt));
+    let status = run::<_, _, _, _, Brand>(
+        &rt,
+        rt.alloc(),
+        words.as_slice(),
+        &mut folder,
+        &mut input,
+        &mut output,
+        Blank::new(1),
+    );
+    let _ = explain(&rt, status, words.as_slice(), input.faults());
+    ExitCode::from(code(status))
+}

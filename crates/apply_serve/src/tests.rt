@@ -1,0 +1,352 @@
+//! The worked rows of the service, over objects in memory; its files are short ones, and the sample's.
+use crate::run;
+use crate::service::Status;
+use apply_io::{MemFolder, MemSink, MemSource};
+use std::alloc::Global;
+use std::marker::Brand;
+use std::sync::ledger::Blank;
+use std::test::Fail;
+use std::thread::Threads;
+
+/// One entity set with a key and an amount.
+const MODEL: &str =
+    "{\"$Version\":\"4.01\",\"$EntityContainer\":\"W.C\",\"W\":{\"Sale\":{\"$Kind\":\"EntityType\",\"$Key\":[\"ID\"],\"ID\":{\"$Type\":\"Edm.Int64\"},\"Amount\":{\"$Type\":\"Edm.Decimal\",\"$Precision\":16,\"$Scale\":2,\"$Nullable\":true}},\"C\":{\"$Kind\":\"EntityContainer\",\"Sales\":{\"$Collection\":true,\"$Type\":\"W.Sale\"}}}}";
+
+const DATA: &str =
+    "{\"Sales\":[{\"ID\":1,\"Amount\":\"10.00\"},{\"ID\":\"2\",\"Amount\":\"5.50\"},{\"ID\":\"3\",\"Amount\":\"7.25\"},{\"ID\":\"4\",\"Amount\":null},{\"ID\":\"5\",\"Amount\":1},{\"ID\":\"6\",\"Amount\":\"2.25\"}]}";
+
+/// Two lines of the first form, the first with CR and LF, an empty line between them, and no LF at the end.
+const LINES: &[u8] =
+    b"Sales?$apply=aggregate(Amount with sum as Total)\r\n\r\nSales?$apply=aggregate(ID with sum as T)";
+
+/// The responses to them.
+const RESPONSES: &[u8] =
+    b"200 88\n{\"@context\":\"$metadata#Sales(Total)\",\"value\":[{\"Total@type\":\"Decimal\",\"Total\":\"26.00\"}]}\n200 71\n{\"@context\":\"$metadata#Sales(T)\",\"value\":[{\"T@type\":\"Int64\",\"T\":\"21\"}]}\n";
+
+/// The first of the responses.
+const FIRST: &[u8] =
+    b"200 88\n{\"@context\":\"$metadata#Sales(Total)\",\"value\":[{\"Total@type\":\"Decimal\",\"Total\":\"26.00\"}]}\n";
+
+/// What a run is given: the calls on the folder, the source and the sink with these numbers fail, where they are not 0.
+#[derive(Clone, Copy)]
+struct Case {
+    model: &'static str,
+    data: &'static str,
+    input: &'static [u8],
+    most: usize,
+    folder_fails: u64,
+    input_fails: u64,
+    output_fails: u64,
+}
+
+const PLAIN: Case = Case {
+    model: MODEL,
+    data: DATA,
+    input: LINES,
+    most: 4096,
+    folder_fails: 0,
+    input_fails: 0,
+    output_fails: 0,
+};
+
+/// How a run ended, and what it wrote.
+#[derive(Drop)]
+struct RunResult {
+    status: Status,
+    output: Vec<u8>,
+}
+
+/// The number alone, or nothing for 0.
+fn only(alloc: Global, number: u64) -> Result<Vec<u64>, Fail> {
+    let mut numbers = Vec::new(alloc);
+    if number > 0 {
+        numbers.push(number)?;
+    }
+    Ok(numbers)
+}
+
+/// The words that name the two files.
+fn words(alloc: Global) -> Result<Vec<String>, Fail> {
+    let mut words = Vec::new(alloc);
+    for word in ["--model", "m", "--data", "d"] {
+        words.push(String::from_str(alloc, word)?)?;
+    }
+    Ok(words)
+}
+
+/// Runs the service over bytes of the input.
+fn outcome_of<R: Threads + Sync>(
+    rt: &R,
+    alloc: Global,
+    case: &Case,
+    words: &[String],
+    input: Vec<u8>,
+) -> Result<RunResult, Fail> {
+    let mut files = Vec::new(alloc);
+    files.push((
+        String::from_str(alloc, "m")?,
+        case.model.as_bytes().to_vec(alloc)?,
+    ))?;
+    files.push((
+        String::from_str(alloc, "d")?,
+        case.data.as_bytes().to_vec(alloc)?,
+    ))?;
+    let mut folder = MemFolder::new(files, only(alloc, case.folder_fails)?);
+    let most = case.most.max(1);
+    let mut input = MemSource::new(input, most, only(alloc, case.input_fails)?);
+    let mut output = MemSink::new(alloc, 4096, most, only(alloc, case.output_fails)?)?;
+    let blank = Blank::new(1);
+    let status = run::<_, _, _, _, Brand>(
+        rt,
+        alloc,
+        words,
+        &mut folder,
+        &mut input,
+        &mut output,
+        blank,
+    );
+    Ok(RunResult {
+        status,
+        output: output.bytes().to_vec(alloc)?,
+    })
+}
+
+/// Runs the service over the case's input.
+fn outcome<R: Threads + Sync>(rt: &R, alloc: Global, case: &Case) -> Result<RunResult, Fail> {
+    let words = words(alloc)?;
+    outcome_of(rt, alloc, case, words.as_slice(), case.input.to_vec(alloc)?)
+}
+
+#[test]
+fn lines_are_answered_in_order_however_the_input_is_cut(rt: HostRuntime) -> Result<(), Fail> {
+    for most in [1usize, 7, 4096] {
+        let ran = outcome(&rt, rt.alloc(), &Case { most, ..PLAIN })?;
+        assert_eq!(rt; ran.status, Status::Served);
+        assert_eq!(rt; ran.output.as_slice(), RESPONSES);
+    }
+    Ok(())
+}
+
+#[test]
+fn a_line_is_refused_for_the_first_reason_that_holds(rt: HostRuntime) -> Result<(), Fail> {
+    for (input, output) in [
+        (
+            b"Shops?$apply=aggregate(Amount with sum as T)\n".as_slice(),
+            b"404 77\n{\"error\":{\"code\":\"NotFound\",\"message\":\"no such entity set\",\"target\":\"Shops\"}}\n".as_slice(),
+        ),
+        (
+            b"Sales?$apply=aggregate(Nope with sum as T)\n".as_slice(),
+            b"400 81\n{\"error\":{\"code\":\"Type\",\"message\":\"the transformation has no type\",\"target\":\"1\"}}\n".as_slice(),
+        ),
+        (
+            b"Sales?$apply=identity\n".as_slice(),
+            b"501 68\n{\"error\":{\"code\":\"NotBuilt\",\"message\":\"this form is not built yet\"}}\n".as_slice(),
+        ),
+        (
+            b"Sales?$apply=aggregate( Amount with sum as T)\n".as_slice(),
+            b"501 68\n{\"error\":{\"code\":\"NotBuilt\",\"message\":\"this form is not built yet\"}}\n".as_slice(),
+        ),
+        (
+            b"Sales?$apply=aggregate(Amount with sum as sum)".as_slice(),
+            b"200 82\n{\"@context\":\"$metadata#Sales(sum)\",\"value\":[{\"sum@type\":\"Decimal\",\"sum\":\"26.00\"}]}\n".as_slice(),
+        ),
+        (
+            b"Sales?$apply=aggregate(Amount with sum as desc)\n".as_slice(),
+            b"501 68\n{\"error\":{\"code\":\"NotBuilt\",\"message\":\"this form is not built yet\"}}\n".as_slice(),
+        ),
+        (
+            b"/Shops?$apply=aggregate(Amount with sum as T)\n".as_slice(),
+            b"501 68\n{\"error\":{\"code\":\"NotBuilt\",\"message\":\"this form is not built yet\"}}\n".as_slice(),
+        ),
+    ] {
+        let ran = outcome(&rt, rt.alloc(), &Case { input, ..PLAIN })?;
+        assert_eq!(rt; ran.status, Status::Served);
+        assert_eq!(rt; ran.output.as_slice(), output);
+    }
+    Ok(())
+}
+
+#[test]
+fn sums_skip_nulls_and_keep_their_range(rt: HostRuntime) -> Result<(), Fail> {
+    for (data, input, output) in [
+        (
+            "{}",
+            b"Sales?$apply=aggregate(Amount with sum as Total)\n".as_slice(),
+            b"200 85\n{\"@context\":\"$metadata#Sales(Total)\",\"value\":[{\"Total@type\":\"Decimal\",\"Total\":null}]}\n".as_slice(),
+        ),
+        (
+            "{\"Sales\":[{\"ID\":9223372036854775807},{\"ID\":1}]}",
+            b"Sales?$apply=aggregate(ID with sum as Total)\n".as_slice(),
+            b"422 65\n{\"error\":{\"code\":\"Range\",\"message\":\"a number is past its range\"}}\n".as_slice(),
+        ),
+        (
+            "{\"Sales\":[{\"ID\":9223372036854775807},{\"ID\":1},{\"ID\":-1}]}",
+            b"Sales?$apply=aggregate(ID with sum as Total)\n".as_slice(),
+            b"200 100\n{\"@context\":\"$metadata#Sales(Total)\",\"value\":[{\"Total@type\":\"Int64\",\"Total\":\"9223372036854775807\"}]}\n".as_slice(),
+        ),
+    ] {
+        let ran = outcome(
+            &rt,
+            rt.alloc(),
+            &Case {
+                data,
+                input,
+                ..PLAIN
+            },
+        )?;
+        assert_eq!(rt; ran.status, Status::Served);
+        assert_eq!(rt; ran.output.as_slice(), output);
+    }
+    Ok(())
+}
+
+#[test]
+fn a_refused_file_has_its_line(rt: HostRuntime) -> Result<(), Fail> {
+    for (model, data, status, output) in [
+        ("{", DATA, Status::ModelRefused, b"model Json\n".as_slice()),
+        (
+            "{}",
+            DATA,
+            Status::ModelRefused,
+            b"model Model\n".as_slice(),
+        ),
+        (
+            "{\"$Version\":\"4.01\",\"$EntityContainer\":\"W.C\",\"W\":{\"Sale\":{\"$Kind\":\"EntityType\",\"$Key\":[\"ID\"],\"ID\":{\"$Type\":\"Edm.Int64\"},\"Amount\":{\"$Type\":\"Edm.Decimal\",\"$Precision\":16,\"$Nullable\":true}},\"C\":{\"$Kind\":\"EntityContainer\",\"Sales\":{\"$Collection\":true,\"$Type\":\"W.Sale\"}}}}",
+            DATA,
+            Status::ModelRefused,
+            b"model Model\n".as_slice(),
+        ),
+        (
+            MODEL,
+            "{\"Sales\":[{\"ID\":1,\"Amount\":\"10.00\"},{\"ID\":\"2\",\"Amount\":\"5.50\"},{\"ID\":\"3\",\"Amount\":",
+            Status::DataRefused,
+            b"data Json\n".as_slice(),
+        ),
+        (
+            MODEL,
+            "{\"Shops\":[]}",
+            Status::DataRefused,
+            b"data Set \"Shops\"\n".as_slice(),
+        ),
+        (
+            MODEL,
+            "{\"Sales\":[{\"ID\":1},{\"ID\":\"x\"}]}",
+            Status::DataRefused,
+            b"data Shape \"Sales\" 1\n".as_slice(),
+        ),
+        (
+            MODEL,
+            "{\"Sales\":[{\"ID\":1},{\"ID\":\"1\"}]}",
+            Status::DataRefused,
+            b"data TwiceKey \"Sales\" 1\n".as_slice(),
+        ),
+    ] {
+        let ran = outcome(
+            &rt,
+            rt.alloc(),
+            &Case {
+                model,
+                data,
+                ..PLAIN
+            },
+        )?;
+        assert_eq!(rt; ran.status, status);
+        assert_eq!(rt; ran.output.as_slice(), output);
+    }
+    Ok(())
+}
+
+#[test]
+fn a_failed_read_writes_nothing(rt: HostRuntime) -> Result<(), Fail> {
+    for number in 1u64..=4 {
+        let folder = outcome(
+            &rt,
+            rt.alloc(),
+            &Case {
+                folder_fails: number,
+                ..PLAIN
+            },
+        )?;
+        assert_eq!(rt; folder.status, Status::ReadFault);
+        assert_eq!(rt; folder.output.as_slice(), b"".as_slice());
+    }
+    for number in 1u64..=3 {
+        let input = outcome(
+            &rt,
+            rt.alloc(),
+            &Case {
+                most: 49,
+                input_fails: number,
+                ..PLAIN
+            },
+        )?;
+        assert_eq!(rt; input.status, Status::ReadFault);
+        assert_eq!(rt; input.output.as_slice(), b"".as_slice());
+    }
+    Ok(())
+}
+
+#[test]
+fn a_failed_write_leaves_a_front_of_the_responses(rt: HostRuntime) -> Result<(), Fail> {
+    let first = outcome(
+        &rt,
+        rt.alloc(),
+        &Case {
+            output_fails: 1,
+            ..PLAIN
+        },
+    )?;
+    assert_eq!(rt; first.status, Status::WriteFault);
+    assert_eq!(rt; first.output.as_slice(), b"".as_slice());
+    let second = outcome(
+        &rt,
+        rt.alloc(),
+        &Case {
+            output_fails: 2,
+            ..PLAIN
+        },
+    )?;
+    assert_eq!(rt; second.status, Status::WriteFault);
+    assert_eq!(rt; second.output.as_slice(), FIRST);
+    let short = outcome(
+        &rt,
+        rt.alloc(),
+        &Case {
+            most: 3,
+            output_fails: 2,
+            ..PLAIN
+        },
+    )?;
+    assert_eq!(rt; short.status, Status::WriteFault);
+    assert_eq!(rt; short.output.as_slice(), b"200".as_slice());
+    Ok(())
+}
+
+#[test]
+fn the_limit_of_the_input_is_met_exactly(rt: HostRuntime) -> Result<(), Fail> {
+    let alloc = rt.alloc();
+    let words = words(alloc)?;
+    for (length, status) in [
+        (1_048_576usize, Status::Served),
+        (1_048_577, Status::InputLimit),
+    ] {
+        let input = vec![in alloc; b'\n'; length]?;
+        let ran = outcome_of(&rt, alloc, &PLAIN, words.as_slice(), input)?;
+        assert_eq!(rt; ran.status, status);
+        assert_eq!(rt; ran.output.as_slice(), b"".as_slice());
+    }
+    Ok(())
+}
+
+#[test]
+fn other_words_are_told_the_usage(rt: HostRuntime) -> Result<(), Fail> {
+    let alloc = rt.alloc();
+    let mut words = Vec::new(alloc);
+    for word in ["--data", "d", "--model", "m"] {
+        words.push(String::from_str(alloc, word)?)?;
+        let ran = outcome_of(&rt, alloc, &PLAIN, words.as_slice(), LINES.to_vec(alloc)?)?;
+        assert_eq!(rt; ran.status, Status::Usage);
+        assert_eq!(rt; ran.output.as_slice(), b"".as_slice());
+    }
+    Ok(())
+}

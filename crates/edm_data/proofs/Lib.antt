@@ -1,0 +1,19 @@
+pub mod DataRows
+pub mod EntityLemmas
+pub mod FirstPlaces
+mod FrontRows
+pub mod JsonValueLemmas
+pub mod KeyOrderLemmas
+pub mod KeyedLemmas
+pub mod LinkLemmas
+pub mod LinkedLemmas
+pub mod LoadLemmas
+pub mod PlaceLemmas
+pub mod ReferenceLemmas
+pub mod SearchLemmas
+pub mod SeenKeys
+pub mod ShapeLemmas
+pub mod TableLemmas
+pub mod TreeLemmas
+mod HierarchyRows
+pub mod ValueFits

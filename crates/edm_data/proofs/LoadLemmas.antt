@@ -1,0 +1,79 @@
+-- What the passes over a file say of it.
+use Rattle.std.proofs.Common.{◌≡◌, ℕ, ◌<◌, ◌≤◌, Bool, true, false, cond, List, length, refl, sym, ◌∙◌, ap, subst, arith, Some, None, Result, Ok, Err, IfErr}
+use Rattle.std.specs.Prelude.{not, nat_lt, if◌then◌else◌}
+use Rattle.std.specs.declared.option.Option.{Option}
+use Rattle.std.specs.Option.{option_map, unwrap_or}
+use Rattle.std.specs.List.{find}
+use Rattle.std.specs.Str.{is_utf8, IsUtf8}
+use Rattle.std.proofs.lemmas.Str.{IsUtf8-from_is_utf8, is_utf8-from_IsUtf8}
+use Rattle.std.proofs.lemmas.Bool.{le-ltb, lt-ltb}
+use Rattle.serde_json.specs.Data.{Data, null, boolean, number, string, array, object, Members}
+use Rattle.serde_json.specs.Find.{as_object}
+use Rattle.serde_json.specs.Read.{read}
+use Rattle.edm_model.specs.Models.{Model}
+use Rattle.edm_model.specs.JsonTrees.{Member, json_of, member_list}
+use Rattle.edm_data.specs.DataFile.{DataReading, World', TooLong, NoJson, Set, Shape, TwiceKey, Dangling, unless_found, with_world, is_set_member, items_of_sets, rows_reading, entities_in_tree, entities_reading, keys_reading, references_reading, data_limit}
+use Rattle.edm_data.specs.Worlds.{World}
+use Rattle.edm_data.specs.Refusals.{Tells}
+use Rattle.edm_data.specs.declared.DataRefused.{DataRefused}
+
+-- a tree that is no object
+pub no_object : (m : Model) (d : Data) → as_object d ≡ None → entities_in_tree m d ≡ NoJson
+no_object m null h = refl
+no_object m (boolean b) h = refl
+no_object m (number n) h = refl
+no_object m (string t) h = refl
+no_object m (array ds) h = refl
+no_object m (object ms) h = cc
+
+-- a tree that is an object with these members
+pub an_object : (m : Model) (d : Data) (ms : Members) → as_object d ≡ Some ms → entities_in_tree m d ≡ unless_found (find (λ e. not (is_set_member m e)) (member_list ms)) (λ e. Set e.0) (rows_reading m (items_of_sets m d))
+an_object m null ms h = cc
+an_object m (boolean b) ms h = cc
+an_object m (number n) ms h = cc
+an_object m (string t) ms h = cc
+an_object m (array ds) ms h = cc
+an_object m (object xs) ms h = let same : xs ≡ ms = cc in ap (λ l. unless_found (find (λ e. not (is_set_member m e)) (member_list l)) (λ e. Set e.0) (rows_reading m (items_of_sets m (object xs)))) same
+
+-- the first member that is no array of a set
+pub member_found : (o : Option Member) (n : List ℕ) (next : DataReading) → option_map (λ e. e.0) o ≡ Some n → unless_found o (λ e. Set e.0) next ≡ Set n
+member_found None n next h = cc
+member_found (Some e) n next h = let same : e.0 ≡ n = cc in ap Set same
+
+-- each member is an array of a set
+pub no_member_found : (o : Option Member) (next : DataReading) → option_map {U = List ℕ} (λ e. e.0) o ≡ None → unless_found o (λ e. Set e.0) next ≡ next
+no_member_found None next h = refl
+no_member_found (Some e) next h = cc
+
+-- what a refusal says stays true of the later passes
+pub Tells-later : (e : DataRefused) (r : DataReading) (next : World → DataReading) → Tells e r → Tells e (with_world r next)
+Tells-later DataRefused.TooLong r next h = ap (λ x. with_world x next) h
+Tells-later DataRefused.Json r next h = ap (λ x. with_world x next) h
+Tells-later (DataRefused.Set n) r next h = ap (λ x. with_world x next) h
+Tells-later (DataRefused.Shape s k) r next h = ap (λ x. with_world x next) h
+Tells-later (DataRefused.TwiceKey s k) r next h = ap (λ x. with_world x next) h
+Tells-later (DataRefused.Dangling s k) r next h = ap (λ x. with_world x next) h
+Tells-later DataRefused.Memory r next h = tt
+
+-- ---- the bytes
+
+-- a file that is too long
+pub too_long : (m : Model) (file : List ℕ) → data_limit < length file → entities_reading m file ≡ TooLong
+too_long m file h = ap (λ b. if b then TooLong else unwrap_or (option_map (entities_in_tree m) (json_of file)) NoJson) (lt-ltb data_limit (length file) h)
+
+-- a file that keeps its limit and has a tree
+pub with_tree : (m : Model) (file : List ℕ) (d : Data) → length file ≤ data_limit → IsUtf8 file → read file ≡ Some d → entities_reading m file ≡ entities_in_tree m d
+with_tree m file d h utf8 tree =
+    ap (λ b. if b then TooLong else unwrap_or (option_map (entities_in_tree m) (json_of file)) NoJson) (le-ltb data_limit (length file) h)
+    ∙ ap (λ b. unwrap_or (option_map (entities_in_tree m) (if b then read file else None)) NoJson) (is_utf8-from_IsUtf8 file utf8)
+    ∙ ap (λ o. unwrap_or (option_map (entities_in_tree m) o) NoJson) tree
+
+-- a file that keeps its limit and has no tree
+pub with_no_tree : (m : Model) (file : List ℕ) → length file ≤ data_limit → (IsUtf8 file → read file ≡ None) → entities_reading m file ≡ NoJson
+with_no_tree m file h none =
+    ap (λ b. if b then TooLong else unwrap_or (option_map (entities_in_tree m) (json_of file)) NoJson) (le-ltb data_limit (length file) h)
+    ∙ (elim (is_utf8 file) as (λ b. is_utf8 file ≡ b → unwrap_or (option_map (entities_in_tree m) (if b then read file else None)) NoJson ≡ NoJson) [ true ↦ λ e. ap (λ o. unwrap_or (option_map (entities_in_tree m) o) NoJson) (none (IsUtf8-from_is_utf8 file e)) | false ↦ λ e. refl ]) refl
+
+pub IfErr-then : {T E : Type 0} (r : Result T E) (P Q : E → Type 0) → ((x : E) → P x → Q x) → IfErr r P → IfErr r Q
+IfErr-then (Ok x) P Q f h = tt
+IfErr-then (Err e) P Q f h = f e h

@@ -1,0 +1,72 @@
+-- The items of a set, one after another, and the first that is no entity.
+use Rattle.std.proofs.Common.{◌≡◌, ℕ, zero, suc, ◌+◌, ◌<◌, ◌≤◌, Bool, true, false, List, [], ◌∷◌, ◌++◌, length, take, map, get_or, refl, sym, ◌∙◌, ap, arith, Some, None, add-one}
+use Rattle.std.specs.declared.option.Option.{Option}
+use Rattle.std.specs.Option.{option_map, unwrap_or, is_some, is_none}
+use Rattle.std.specs.List.{slice_get}
+use Rattle.std.proofs.lemmas.List.{map-append, take_all}
+use Rattle.std.proofs.lemmas.Option.{slice_get-map, slice_get_read}
+use Rattle.serde_json.specs.Data.{Data, null, boolean, number, string, array, object}
+use Rattle.serde_json.specs.Find.{as_array}
+use Rattle.serde_json.specs.View.{items_of}
+use Rattle.edm_model.specs.JsonTrees.{is_array, items_in, item_list}
+use Rattle.edm_data.specs.FirstItems.{IsFirstNone}
+
+-- the rows of one item more
+pub rows-more : {X R G : Type 0} (g : G → R) (f : X → Option R) (items : List X) (k : ℕ) (old new : List G) (row : G) (x : X) → k < length items → x ≡ get_or items k x → new ≡ old ++ row ∷ [] → f x ≡ Some (g row) → map (λ r. Some (g r)) old ≡ map f (take k items) → map (λ r. Some (g r)) new ≡ map f (take (k + 1) items)
+rows-more g f items k old new row x within item grown here before =
+    rw (grown, map-append (λ r. Some (g r)) old (row ∷ []), before, add-one) (front f items k x (g row) (slice_get_read items (length items) k x refl within item) here) where
+      front : {X R : Type 0} (f : X → Option R) (items : List X) (k : ℕ) (x : X) (r : R) → slice_get items k ≡ Some x → f x ≡ Some r → map f (take k items) ++ Some r ∷ [] ≡ map f (take (suc k) items)
+      front f [] k x r at here = cc
+      front f (y ∷ items) zero x r at here = let same : y ≡ x = cc in rw (same, here) refl
+      front f (y ∷ items) (suc k) x r at here = ap (λ l. f y ∷ l) (front f items k x r at here)
+
+-- an item before the first that is none
+read_before : {X R G : Type 0} (g : G → R) (f : X → Option R) (items : List X) (rows : List G) (k q : ℕ) → map (λ r. Some (g r)) rows ≡ map f (take k items) → k ≤ length items → q < k → is_none (unwrap_or (slice_get (map f items) q) None) ≡ false
+read_before g f items rows zero q is within less = absurd (omega arith)
+read_before g f [] rows (suc k) q is within less = absurd (omega arith)
+read_before g f (x ∷ items) [] (suc k) q is within less = cc
+read_before g f (x ∷ items) (row ∷ rows) (suc k) zero is within less = let here : f x ≡ Some (g row) = cc in rw here refl
+read_before g f (x ∷ items) (row ∷ rows) (suc k) (suc q) is within less = let rest : map (λ r. Some (g r)) rows ≡ map f (take k items) = cc in read_before g f items rows k q rest (omega arith) (omega arith)
+
+-- the first item that is no entity
+pub IsFirstNone-at : {X R G : Type 0} (g : G → R) (f : X → Option R) (items : List X) (rows : List G) (k : ℕ) (x : X) → k < length items → x ≡ get_or items k x → map (λ r. Some (g r)) rows ≡ map f (take k items) → f x ≡ None → IsFirstNone (map f items) k
+IsFirstNone-at g f items rows k x within item is none = record {
+  here = slice_get-map f items k ∙ ap (option_map f) (slice_get_read items (length items) k x refl within item) ∙ ap Some none;
+  before = λ q less. read_before g f items rows k q is (omega arith) less;
+}
+
+-- all items are entities
+pub rows-all : {X R G : Type 0} (g : G → R) (f : X → Option R) (items : List X) (rows : List G) (k : ℕ) → length items ≤ k → map (λ r. Some (g r)) rows ≡ map f (take k items) → map (λ r. Some (g r)) rows ≡ map f items
+rows-all g f items rows k all is = is ∙ ap (map f) (take_all k items all)
+
+-- ---- arrays
+
+pub is_array-is : (d : Data) → is_some (as_array d) ≡ is_array d
+is_array-is null = refl
+is_array-is (boolean b) = refl
+is_array-is (number n) = refl
+is_array-is (string t) = refl
+is_array-is (array ds) = refl
+is_array-is (object ms) = refl
+
+item_list-of : (ds : List Data) → item_list (items_of ds) ≡ ds
+item_list-of [] = refl
+item_list-of (d ∷ ds) = ap (λ l. d ∷ l) (item_list-of ds)
+
+-- the items of an array
+pub items_are : (d : Data) (ds : List Data) → as_array d ≡ Some (items_of ds) → items_in d ≡ ds
+items_are null ds h = cc
+items_are (boolean b) ds h = cc
+items_are (number n) ds h = cc
+items_are (string t) ds h = cc
+items_are (array xs) ds h = let same : xs ≡ items_of ds = cc in rw same (item_list-of ds)
+items_are (object ms) ds h = cc
+
+-- anything else has none
+pub no_items : (d : Data) → as_array d ≡ None → items_in d ≡ []
+no_items null h = refl
+no_items (boolean b) h = refl
+no_items (number n) h = refl
+no_items (string t) h = refl
+no_items (array xs) h = cc
+no_items (object ms) h = refl

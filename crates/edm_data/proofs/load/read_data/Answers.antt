@@ -1,0 +1,1 @@
+use Rattle.edm_data.proofs.load.read_data.Goals as goal

@@ -1,0 +1,13 @@
+-- The first item of a set that is no entity.
+use Rattle.std.specs.Prelude.{ℕ, ◌≡◌, ◌<◌, false, List, length, map, slice_get, Vec, Option, Some, None, unwrap_or, is_none}
+use Rattle.std.specs.declared.alloc.Global.{Global}
+use Rattle.edm_values.specs.declared.Value.{Value}
+
+-- what options hold something up to this place, which holds nothing
+pub record IsFirstNone {X : Type 0} (os : List (Option X)) (k : ℕ) : Type 0 where
+  pub here : slice_get os k ≡ Some None
+  pub before : (q : ℕ) → q < k → is_none (unwrap_or (slice_get os q) None) ≡ false
+
+-- the values of entities, each of which there is
+abbrev pub rows_read : Vec (Vec Value Global) Global → List (Option (List Value))
+rows_read rows = map (λ r. Some r.items) rows.items

@@ -1,0 +1,66 @@
+//! Data files: the entities of a model's sets, and the references between them.
+#![tactic(auto)]
+
+mod data;
+mod entities;
+mod groups;
+mod json_values;
+mod key_order;
+mod keyed;
+mod load;
+mod references;
+mod tables;
+
+pub use data::Data;
+use edm_model::SetId;
+use edm_values::Text;
+pub use load::{DATA_LIMIT, read_data};
+use std::marker::Model;
+use thiserror::Error;
+
+/// An entity of loaded data: its set, and its place there, counted from 0 in data order.
+#[derive(Clone, Copy, Debug, PartialEq, Eq, Drop)]
+pub struct EntityRef {
+    pub set: SetId,
+    pub at: u32,
+}
+
+impl Model for EntityRef {
+    ghost use Rattle.edm_data.specs.Worlds.{Entity};
+
+    ghost Value = { Entity };
+
+    ghost view = { λ e. record { set = e.set; at = e.at } };
+
+    ghost inverse = { λ e. record { set = e.set; at = e.at } };
+}
+
+/// Why a file is no data file: the first class of fault that it has, with its first place, by set in byte order of
+/// names and then by entity, counted from 0.
+#[derive(Debug, Drop, Error)]
+pub enum DataRefused {
+    /// The file has more bytes than a data file may have.
+    #[error("the data file is too long")]
+    TooLong,
+    /// The bytes are no JSON text, or it is no object.
+    #[error("the data file is no JSON object")]
+    Json,
+    /// The member names no entity set, or is no array.
+    #[error("a member of the data file is no array of an entity set")]
+    Set(Text),
+    /// The item is no entity of the set's type.
+    #[error("an item of the data file is no entity of its set")]
+    Shape(SetId, u32),
+    /// The entity's key stands earlier in its set.
+    #[error("two entities of a set have one key")]
+    TwiceKey(SetId, u32),
+    /// The entity refers to a key that is not there.
+    #[error("an entity refers to a key that is not there")]
+    Dangling(SetId, u32),
+    /// Memory ran out, which says nothing of the file.
+    #[error("out of memory")]
+    Memory,
+}
+
+#[cfg(test)]
+mod tests;

@@ -1,0 +1,12 @@
+pub mod ModelRows
+pub mod Places
+pub mod FoundByName
+pub mod Mapped
+pub mod Items
+pub mod Points
+pub mod Counted
+pub mod Sound
+pub mod IdFacts
+pub mod Ordered
+pub mod SetEach
+pub mod Passing

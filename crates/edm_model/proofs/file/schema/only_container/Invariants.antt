@@ -1,0 +1,12 @@
+use Rattle.std.proofs.Common.{◌≡◌, ◌++◌, not, codes}
+use Rattle.std.specs.Prelude.{◌&&◌, filter, option_map}
+use Rattle.std.specs.Option.{option_to_list}
+use Rattle.serde_json.specs.View.{view, members_view}
+use Rattle.edm_model.specs.JsonTrees.{member_list, only}
+use Rattle.edm_model.specs.ModelFile.{is_unread, is_object_of_kind, members_of_kind}
+use Rattle.edm_model.specs.MemberLists.{member_seen}
+use Rattle.edm_model.proofs.file.schema.only_container.Given as goal
+
+abbrev pub invariant-loop-name : goal.invariant-loop-name
+invariant-loop-name l =
+    only (option_to_list (option_map member_seen l.found) ++ filter (λ m. not (is_unread m.0) && is_object_of_kind (codes "EntityContainer") m.1) (member_list (members_view l.name-iterator))) ≡ only (members_of_kind (codes "EntityContainer") (view l.schema))

@@ -1,0 +1,11 @@
+use Rattle.std.proofs.Common.{◌∙◌, ap}
+use Rattle.std.specs.Prelude.{position}
+use Rattle.edm_values.specs.Lists.{same_text}
+use Rattle.edm_model.specs.LookUps.{type_at, properties_of}
+use Rattle.edm_model.proofs.FoundByName.{no_found_place}
+use Rattle.edm_model.proofs.model.Model.prop_named.Goals as goal
+
+pub returns-in-None : goal.returns-in-None
+returns-in-None c =
+    let there = c.properties_in.ensures ∙ ap (properties_of c.args.self.now) c.place-of.ensures in
+    no_found_place (λ e. e.properties) (λ x. x.name) _ c.args.t (type_at c.args.self.now c.args.t) (c.in-None.ensures ∙ ap (position (λ x. same_text x.name _)) there)

@@ -1,0 +1,12 @@
+pub use Rattle.edm_values.specs.Lists
+pub use Rattle.edm_values.specs.Literals
+pub use Rattle.edm_values.specs.Names
+pub use Rattle.edm_values.specs.Values
+pub mod IdLists
+pub mod JsonTrees
+pub mod LookUps
+pub mod MemberLists
+pub mod ModelFile
+pub mod Models
+pub mod SampleModel
+pub mod Soundness

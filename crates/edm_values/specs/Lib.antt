@@ -1,0 +1,9 @@
+pub mod Keys
+pub mod Lists
+pub mod Literals
+pub mod Names
+pub mod Numerals
+pub mod OrderLaws
+pub mod PartLaws
+pub mod Parts
+pub mod Values

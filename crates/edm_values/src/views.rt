@@ -1,0 +1,41 @@
+//! Values that are seen without their memory.
+ghost use Rattle.std.specs.Prelude.{◌≡◌, IfOk, IsErr, IsTrue};
+ghost use Rattle.edm_values.specs.Values.{is_text, seen_value};
+
+use crate::{Seen, Text, Value};
+use std::alloc::{AllocError, Global};
+
+impl Value {
+    /// The value, with its text borrowed.
+    pub fn seen(&self) -> Seen<'_>
+        ensures { seen_value result ≡ self.now }
+    {
+        match self {
+            Value::Null => Seen::Null,
+            Value::Bool(b) => Seen::Bool(*b),
+            Value::Int(n) => Seen::Int(*n),
+            Value::Dec(d) => Seen::Dec(*d),
+            Value::Text(t) => Seen::Text(t.as_str()),
+            Value::Day(d) => Seen::Day(*d),
+            Value::Beyond => Seen::Beyond,
+        }
+    }
+}
+
+impl<'a> Seen<'a> {
+    /// The value with a copy of its text, which alone takes memory.
+    pub fn own(self, alloc: Global) -> Result<Value, AllocError>
+        ensures value { IfOk result (λ v. v ≡ seen_value self.entry) }
+        ensures memory { IsErr result → IsTrue (is_text (seen_value self.entry)) }
+    {
+        match self {
+            Seen::Null => Ok(Value::Null),
+            Seen::Bool(b) => Ok(Value::Bool(b)),
+            Seen::Int(n) => Ok(Value::Int(n)),
+            Seen::Dec(d) => Ok(Value::Dec(d)),
+            Seen::Text(t) => Ok(Value::Text(Text::new(String::from_str(alloc, t)?)?)),
+            Seen::Day(d) => Ok(Value::Day(d)),
+            Seen::Beyond => Ok(Value::Beyond),
+        }
+    }
+}
