@@ -16,7 +16,10 @@ pub struct StdSource<R: Read + Drop> {
 }
 
 impl<R: Read + Drop> StdSource<R> {
-    pub fn new(inner: R) -> StdSource<R> {
+    /// No call has failed yet.
+    pub fn new(inner: R) -> StdSource<R>
+        ensures { result.faults ≡ 0 }
+    {
         StdSource { inner, faults: 0 }
     }
 }
@@ -53,7 +56,10 @@ pub struct StdSink<W: Write + Drop> {
 }
 
 impl<W: Write + Drop> StdSink<W> {
-    pub fn new(inner: W) -> StdSink<W> {
+    /// No call has failed yet.
+    pub fn new(inner: W) -> StdSink<W>
+        ensures { result.faults ≡ 0 }
+    {
         StdSink { inner, faults: 0 }
     }
 }
@@ -99,7 +105,10 @@ pub struct DiskFolder<'a, R: HostFiles> {
 }
 
 impl<'a, R: HostFiles> DiskFolder<'a, R> {
-    pub fn new(rt: &'a R) -> DiskFolder<'a, R> {
+    /// No call has failed yet.
+    pub fn new(rt: &'a R) -> DiskFolder<'a, R>
+        ensures { result.faults ≡ 0 }
+    {
         DiskFolder { rt, faults: 0 }
     }
 }
