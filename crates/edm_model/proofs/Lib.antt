@@ -8,5 +8,6 @@ pub mod Counted
 pub mod Sound
 pub mod IdFacts
 pub mod Ordered
+pub mod NameSearch
 pub mod SetEach
 pub mod Passing

@@ -30,7 +30,7 @@ IsReference m n t = (option_map (λ v. v.many) (navigation_on m n) ≡ Some fals
 abbrev pub AreOfOneKind : Model → Part → Part → Type 0
 AreOfOneKind m p q = option_and_then (λ a. option_map (λ b. same_kind a.kind b.kind) (property_at m q)) (property_at m p) ≡ Some true
 
--- a model of an accepted file: sets and types stand one for one, keys are properties that are not null, navigations lead to types, references go from a property to the target's key, partners and parents are single-valued navigations back, and names are simple identifiers in byte order, each once in its list
+-- a model of an accepted file: sets and types stand one for one, keys are properties that are not null, navigations lead to types, references go from a property to the target's key, partners and parents are single-valued navigations back, the names of properties are simple identifiers, and the names in each list stand in byte order, each once
 pub record IsSound (m : Model) : Type 0 where
   pub set_types : (s : ℕ) → IsSet m s → IsType m (set_type m s)
   pub sets_of_types : (s : ℕ) → IsSet m s → set_of_type m (set_type m s) ≡ s

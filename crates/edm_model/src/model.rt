@@ -1,14 +1,14 @@
 //! Models and their readers.
-ghost use Rattle.std.specs.Prelude.{ℕ, ◌≡◌, ◌<◌, length, Some, false, true, option_map, IfOk};
+ghost use Rattle.std.specs.Prelude.{ℕ, ◌≡◌, ◌<◌, length, map, Some, false, true, option_map, IfOk, IfSome};
 ghost use Rattle.edm_values.specs.Lists.{places};
-ghost use Rattle.edm_model.specs.LookUps.{parts, type_at, property_at, navigation_on, hierarchy_on, properties_of, navigations_of, IsSet, IsType, IsProperty, IsNavigation, IsHierarchy, found_part, property_named, navigation_named, hierarchy_of_type_named, custom_named, hierarchies_of_type, customs_of_type, dependent_of, partner_of, parent_of};
+ghost use Rattle.edm_model.specs.LookUps.{parts, type_at, property_at, navigation_on, hierarchy_on, properties_of, navigations_of, IsSet, IsType, IsProperty, IsNavigation, IsHierarchy, IsCustom, found_part, property_named, navigation_named, hierarchy_of_type_named, custom_named, hierarchies_of_type, customs_of_type, dependent_of, partner_of, parent_of};
 ghost use Rattle.edm_model.specs.LookUps as find;
-ghost use Rattle.edm_model.specs.Soundness.{IsSound, IsReference};
+ghost use Rattle.edm_model.specs.Soundness.{AreOrdered, IsSound, IsReference};
 ghost use Rattle.edm_model.specs.IdLists.{hierarchy_parts, custom_list, HasIds};
 
 use crate::id_lists::{all_customs, all_hier_ids, all_nav_ids, all_prop_ids, set_ids, type_sets};
 use crate::ids::{CustomId, HierId, NavId, PropId, SetId, TypeId};
-use crate::named::place_named;
+use crate::named::find_named;
 use crate::parts::{
     Custom, Definition, EntitySet, EntityType, Hierarchy, Ids, Navigation, Property,
 };
@@ -81,9 +81,10 @@ impl Model {
 
     /// The set of this name.
     pub fn set_named(&self, n: &str) -> Option<SetId>
-        ensures { result ≡ find.set_named self.now n.now }
+        ensures value { result ≡ find.set_named self.now n.now }
+        ensures there { IfSome result (IsSet self.now) }
     {
-        match place_named(self.sets.as_slice(), n) {
+        match find_named(self.sets.as_slice(), n) {
             Some(place) => Some(SetId { place }),
             None => None,
         }
@@ -130,10 +131,11 @@ impl Model {
     #[tactic(auto, using(crate::proofs::FoundByName::found_place))]
     pub fn prop_named(&self, t: TypeId, n: &str) -> Option<PropId>
         requires { IsType self.now t }
-        ensures { result ≡ found_part t (property_named self.now t n.now) }
+        ensures value { result ≡ found_part t (property_named self.now t n.now) }
+        ensures there { IfSome result (IsProperty self.now) }
     {
         let of = t.place();
-        match place_named(self.properties_in(of), n) {
+        match find_named(self.properties_in(of), n) {
             Some(at) => Some(PropId { of, at }),
             None => None,
         }
@@ -143,10 +145,11 @@ impl Model {
     #[tactic(auto, using(crate::proofs::FoundByName::found_place))]
     pub fn nav_named(&self, t: TypeId, n: &str) -> Option<NavId>
         requires { IsType self.now t }
-        ensures { result ≡ found_part t (navigation_named self.now t n.now) }
+        ensures value { result ≡ found_part t (navigation_named self.now t n.now) }
+        ensures there { IfSome result (IsNavigation self.now) }
     {
         let of = t.place();
-        match place_named(self.navigations_in(of), n) {
+        match find_named(self.navigations_in(of), n) {
             Some(at) => Some(NavId { of, at }),
             None => None,
         }
@@ -156,10 +159,11 @@ impl Model {
     #[tactic(auto, using(crate::proofs::FoundByName::found_place))]
     pub fn hier_named(&self, s: SetId, q: &str) -> Option<HierId>
         requires { IsSet self.now s }
-        ensures { let t = find.set_type self.now s in result ≡ found_part t (hierarchy_of_type_named self.now t q.now) }
+        ensures value { let t = find.set_type self.now s in result ≡ found_part t (hierarchy_of_type_named self.now t q.now) }
+        ensures there { IfSome result (IsHierarchy self.now) }
     {
         let of = self.set_type(s).place();
-        match place_named(self.hierarchies_in(of), q) {
+        match find_named(self.hierarchies_in(of), q) {
             Some(at) => Some(HierId { of, at }),
             None => None,
         }
@@ -169,10 +173,11 @@ impl Model {
     #[tactic(auto, using(crate::proofs::FoundByName::found_place))]
     pub fn custom_named(&self, t: TypeId, n: &str) -> Option<CustomId>
         requires { IsType self.now t }
-        ensures { result ≡ found_part t (custom_named self.now t n.now) }
+        ensures value { result ≡ found_part t (custom_named self.now t n.now) }
+        ensures there { IfSome result (IsCustom self.now) }
     {
         let of = t.place();
-        match place_named(self.customs_in(of), n) {
+        match find_named(self.customs_in(of), n) {
             Some(at) => Some(CustomId { of, at }),
             None => None,
         }
@@ -344,7 +349,8 @@ impl Model {
     /// The properties of the type at this place.
     fn properties_in(&self, t: usize) -> &[Property]
         requires { IsType self.now t }
-        ensures { result.now ≡ properties_of self.now t }
+        ensures value { result.now ≡ properties_of self.now t }
+        ensures ordered { AreOrdered (map (λ p. p.name) result.now) }
     {
         let entity_type = &self.types[t];
         entity_type.properties.as_slice()
@@ -353,7 +359,8 @@ impl Model {
     /// The navigation properties of the type at this place.
     fn navigations_in(&self, t: usize) -> &[Navigation]
         requires { IsType self.now t }
-        ensures { result.now ≡ navigations_of self.now t }
+        ensures value { result.now ≡ navigations_of self.now t }
+        ensures ordered { AreOrdered (map (λ n. n.name) result.now) }
     {
         let entity_type = &self.types[t];
         entity_type.navigations.as_slice()
@@ -362,7 +369,8 @@ impl Model {
     /// The hierarchies of the type at this place.
     fn hierarchies_in(&self, t: usize) -> &[Hierarchy]
         requires { IsType self.now t }
-        ensures { result.now ≡ hierarchies_of_type self.now t }
+        ensures value { result.now ≡ hierarchies_of_type self.now t }
+        ensures ordered { AreOrdered (map (λ h. h.qualifier) result.now) }
     {
         let entity_type = &self.types[t];
         entity_type.hierarchies.as_slice()
@@ -371,7 +379,8 @@ impl Model {
     /// The custom aggregates of the type at this place.
     fn customs_in(&self, t: usize) -> &[Definition]
         requires { IsType self.now t }
-        ensures { result.now ≡ customs_of_type self.now t }
+        ensures value { result.now ≡ customs_of_type self.now t }
+        ensures ordered { AreOrdered (map (λ c. c.name) result.now) }
     {
         let entity_type = &self.types[t];
         entity_type.customs.as_slice()

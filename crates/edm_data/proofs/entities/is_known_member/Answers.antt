@@ -12,7 +12,7 @@ returns-else-contains c =
     let bytes = string_bytes c.args.name.now in
     let none : list_any (λ b. nat_eq b 64) c.as_bytes.result.now ≡ false = sym c.contains.ensures.value ∙ c.if-contains.false in
     let plain : is_annotation bytes ≡ false = sym (annotation_is bytes) ∙ (rw c.as_bytes.ensures.value at none) in
-    c.is_some.ensures ∙ ap is_some c.prop_named.ensures
+    c.is_some.ensures ∙ ap is_some c.prop_named.ensures.value
     ∙ ap (λ n. is_some (found_part c.args.t (property_named c.args.model.now c.args.t n))) c.as_str.ensures.value
     ∙ prop_is_named c.args.model.now c.args.t bytes
     ∙ ap (λ b. b || list_any (λ p. same_text p.name bytes) (properties_of c.args.model.now c.args.t)) (sym plain)

@@ -12,12 +12,12 @@ pub returns-then-is_some : goal.returns-then-is_some
 returns-then-is_some c =
     let n = string_bytes c.args.name.now in
     let sets = c.args.model.now.sets in
-    let named : list_any (λ s. same_text s.name n) sets ≡ true = sym (is_some-position (λ s. same_text s.name n) sets) ∙ ap (λ t. is_some (position (λ s. same_text s.name t) sets)) (sym c.as_str.ensures.value) ∙ ap is_some (sym c.set_named.ensures) ∙ sym c.is_some.ensures ∙ c.if-is_some.true in
+    let named : list_any (λ s. same_text s.name n) sets ≡ true = sym (is_some-position (λ s. same_text s.name n) sets) ∙ ap (λ t. is_some (position (λ s. same_text s.name t) sets)) (sym c.as_str.ensures.value) ∙ ap is_some (sym c.set_named.ensures.value) ∙ sym c.is_some.ensures ∙ c.if-is_some.true in
     c.is_array.ensures ∙ is_array-is (view c.args.value.now) ∙ ap (λ b. b && is_array (view c.args.value.now)) (sym named)
 
 pub returns-else-is_some : goal.returns-else-is_some
 returns-else-is_some c =
     let n = string_bytes c.args.name.now in
     let sets = c.args.model.now.sets in
-    let named : list_any (λ s. same_text s.name n) sets ≡ false = sym (is_some-position (λ s. same_text s.name n) sets) ∙ ap (λ t. is_some (position (λ s. same_text s.name t) sets)) (sym c.as_str.ensures.value) ∙ ap is_some (sym c.set_named.ensures) ∙ sym c.is_some.ensures ∙ c.if-is_some.false in
+    let named : list_any (λ s. same_text s.name n) sets ≡ false = sym (is_some-position (λ s. same_text s.name n) sets) ∙ ap (λ t. is_some (position (λ s. same_text s.name t) sets)) (sym c.as_str.ensures.value) ∙ ap is_some (sym c.set_named.ensures.value) ∙ sym c.is_some.ensures ∙ c.if-is_some.false in
     c.if-is_some.false ∙ ap (λ b. b && is_array (view c.args.value.now)) (sym named)

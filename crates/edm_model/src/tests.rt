@@ -1,0 +1,348 @@
+//! Model files that are read and refused, and what is read of the sample. The expected answers come from the rules of
+//! model files and from a program that was written apart from this one.
+ghost use Rattle.edm_model.specs.LookUps.{IsSet, IsNavigation};
+
+use crate::{Method, Model, ModelRefused, NavId, SetId, read_model};
+use edm_values::EdmType;
+use std::alloc::Global;
+use std::process::Abort;
+use std::test::Fail;
+
+/// The sample: sales to customers by organisations, which form a hierarchy.
+const SAMPLE: &str =
+    "{\"$Version\":\"4.01\",\"$EntityContainer\":\"W.C\",\"W\":{\"Sale\":{\"$Kind\":\"EntityType\",\"$Key\":[\"ID\"],\"ID\":{\"$Type\":\"Edm.Int64\"},\"Amount\":{\"$Type\":\"Edm.Decimal\",\"$Precision\":16,\"$Scale\":2,\"$Nullable\":true},\"CustomerID\":{},\"OrgID\":{\"$Nullable\":true},\"Customer\":{\"$Kind\":\"NavigationProperty\",\"$Type\":\"W.Customer\",\"$Partner\":\"Sales\",\"$ReferentialConstraint\":{\"CustomerID\":\"ID\"}},\"Org\":{\"$Kind\":\"NavigationProperty\",\"$Type\":\"W.Org\",\"$Nullable\":true,\"$ReferentialConstraint\":{\"OrgID\":\"ID\"}},\"@Org.OData.Aggregation.V1.CustomAggregate#Best\":\"Edm.Decimal\",\"@Local.Apply.V1.Definition#Best\":{\"Of\":\"Amount\",\"With\":\"sum\",\"Per\":[\"CustomerID\"],\"Then\":\"max\"}},\"Customer\":{\"$Kind\":\"EntityType\",\"$Key\":[\"ID\"],\"ID\":{},\"Name\":{},\"Country\":{},\"Since\":{\"$Type\":\"Edm.Date\",\"$Nullable\":true},\"Sales\":{\"$Kind\":\"NavigationProperty\",\"$Collection\":true,\"$Type\":\"W.Sale\",\"$Partner\":\"Customer\"}},\"Org\":{\"$Kind\":\"EntityType\",\"$Key\":[\"ID\"],\"ID\":{},\"ParentID\":{\"$Nullable\":true},\"Superordinate\":{\"$Kind\":\"NavigationProperty\",\"$Type\":\"W.Org\",\"$Nullable\":true,\"$ReferentialConstraint\":{\"ParentID\":\"ID\"}},\"@Org.OData.Aggregation.V1.RecursiveHierarchy#OrgTree\":{\"NodeProperty\":\"ID\",\"ParentNavigationProperty\":\"Superordinate\"}},\"C\":{\"$Kind\":\"EntityContainer\",\"Sales\":{\"$Collection\":true,\"$Type\":\"W.Sale\"},\"Customers\":{\"$Collection\":true,\"$Type\":\"W.Customer\"},\"Orgs\":{\"$Collection\":true,\"$Type\":\"W.Org\"}}}}";
+
+/// What a text is as a model file.
+fn reading(alloc: Global, text: &str) -> &'static str {
+    match read_model(alloc, text.as_bytes()) {
+        Ok(_) => "model",
+        Err(ModelRefused::TooLong) => "too long",
+        Err(ModelRefused::Json) => "no JSON",
+        Err(ModelRefused::Model) => "no model",
+        Err(ModelRefused::Memory) => "no memory",
+    }
+}
+
+#[test]
+fn each_rule_broken_once(rt: HostRuntime) -> Result<(), Fail> {
+    let rows = [
+        ("\"$Version\":\"4.01\"", "\"$Version\":4", "no model"),
+        ("\"W.C\"", "\"W\"", "no model"),
+        (
+            "\"$Version\":\"4.01\",",
+            "\"$Version\":\"4.01\",\"Other\":{},",
+            "no model",
+        ),
+        ("\"C\":{\"$Kind\"", "\"D\":{\"$Kind\"", "no model"),
+        (
+            "\"C\":{\"$Kind\"",
+            "\"D\":{\"$Kind\":\"EntityContainer\"},\"C\":{\"$Kind\"",
+            "no model",
+        ),
+        (
+            "\"$Key\":[\"ID\"],\"ID\":{\"$Type\":\"Edm.Int64\"}",
+            "\"$Key\":[\"OrgID\"],\"ID\":{\"$Type\":\"Edm.Int64\"}",
+            "no model",
+        ),
+        (
+            "\"$Type\":\"Edm.Date\"",
+            "\"$Type\":\"Edm.Double\"",
+            "no model",
+        ),
+        (
+            "\"$Precision\":16,\"$Scale\":2,",
+            "\"$Precision\":16,",
+            "no model",
+        ),
+        ("\"$Precision\":16,", "", "model"),
+        ("\"$Precision\":16,", "\"$Precision\":1,", "no model"),
+        ("\"$Scale\":2", "\"$Scale\":10", "no model"),
+        ("\"Country\":{}", "\"Country\":{\"$Scale\":2}", "no model"),
+        (
+            "\"Country\":{}",
+            "\"Country\":{\"$MaxLength\":2,\"@Core.Description\":\"x\"}",
+            "model",
+        ),
+        ("\"Country\":{}", "\"Country\":{\"$Scales\":2}", "no model"),
+        (
+            "\"$Type\":\"W.Customer\",\"$Partner\"",
+            "\"$Type\":\"W.Nobody\",\"$Partner\"",
+            "no model",
+        ),
+        ("{\"OrgID\":\"ID\"}", "{\"OrgID\":\"ParentID\"}", "no model"),
+        (
+            "{\"OrgID\":\"ID\"}",
+            "{\"OrgID\":\"ID\",\"CustomerID\":\"ID\"}",
+            "no model",
+        ),
+        (
+            "\"$Type\":\"W.Sale\",\"$Partner\":\"Customer\"",
+            "\"$Type\":\"W.Sale\",\"$Partner\":\"Org\"",
+            "no model",
+        ),
+        (
+            "\"Orgs\":{\"$Collection\":true,\"$Type\":\"W.Org\"}",
+            "\"Orgs\":{\"$Collection\":true,\"$Type\":\"W.Sale\"}",
+            "no model",
+        ),
+        ("\"Name\":{}", "\"and\":{}", "no model"),
+        (
+            "\"NodeProperty\":\"ID\"",
+            "\"NodeProperty\":\"ParentID\"",
+            "no model",
+        ),
+        ("\"Edm.Decimal\",\"@Local", "1,\"@Local", "no model"),
+        ("CustomAggregate#Best", "CustomAggregate#Worst", "no model"),
+        ("\"With\":\"sum\"", "\"With\":\"average\"", "no model"),
+        ("\"Then\":\"max\"", "\"Then\":\"most\"", "no model"),
+        ("\"Per\":[\"CustomerID\"],", "", "no model"),
+        ("\"$Precision\":16,", "\"$Precision\":19,", "no model"),
+        ("\"$Scale\":2", "\"$Scale\":9", "model"),
+        (
+            "\"ID\":{\"$Type\":\"Edm.Int64\"}",
+            "\"ID\":{\"$Type\":\"Edm.Int64\",\"$Nullable\":true}",
+            "no model",
+        ),
+        (
+            "\"ID\":{\"$Type\":\"Edm.Int64\"}",
+            "\"ID\":{\"$Type\":\"Edm.Boolean\"}",
+            "no model",
+        ),
+        (
+            "\"Country\":{}",
+            "\"Country\":{\"$Kind\":\"Property\",\"$Type\":\"Edm.Boolean\"}",
+            "model",
+        ),
+        ("\"Name\":{}", "\"Name\":{\"$Nullable\":null}", "no model"),
+        (
+            "\"$Key\":[\"ID\"],\"ID\":{},\"Name\"",
+            "\"$Key\":[\"ID\",\"Name\"],\"ID\":{},\"Name\"",
+            "no model",
+        ),
+        (
+            "\"$Key\":[\"ID\"],\"ID\":{},\"Name\"",
+            "\"$Key\":[\"Nobody\"],\"ID\":{},\"Name\"",
+            "no model",
+        ),
+        (
+            "\"Orgs\":{\"$Collection\":true,\"$Type\":\"W.Org\"}",
+            "\"Orgs\":{\"$Collection\":true,\"$Type\":\"W.Org\"},\"Units\":{\"$Collection\":true,\"$Type\":\"W.Org\"}",
+            "no model",
+        ),
+        (
+            ",\"Orgs\":{\"$Collection\":true,\"$Type\":\"W.Org\"}",
+            "",
+            "no model",
+        ),
+        (
+            "\"ParentNavigationProperty\":\"Superordinate\"",
+            "\"ParentNavigationProperty\":\"ParentID\"",
+            "no model",
+        ),
+        ("Definition#Best", "Definition#Amount", "no model"),
+        ("\"Per\":[\"CustomerID\"]", "\"Per\":[]", "no model"),
+        ("{\"$Version\"", "[\"$Version\"", "no JSON"),
+    ];
+    let alloc = rt.alloc();
+    assert_eq!(rt; reading(alloc, SAMPLE), "model");
+    for (from, to, wanted) in rows {
+        let text = SAMPLE.replace(alloc, from, to)?;
+        assert_eq!(rt; reading(alloc, text.as_str()), wanted, "{from} to {to}");
+    }
+    Ok(())
+}
+
+#[test]
+fn texts_that_are_no_objects(rt: HostRuntime) -> Result<(), Fail> {
+    let alloc = rt.alloc();
+    assert_eq!(rt; reading(alloc, ""), "no JSON");
+    assert_eq!(rt; reading(alloc, "{"), "no JSON");
+    assert_eq!(rt; reading(alloc, "[]"), "no JSON");
+    assert_eq!(rt; reading(alloc, "{}"), "no model");
+    let nested = "[".repeat(alloc, 128)?;
+    assert_eq!(rt; reading(alloc, nested.as_str()), "no JSON");
+    let long = " ".repeat(alloc, 1_048_577)?;
+    assert_eq!(rt; reading(alloc, long.as_str()), "too long");
+    let bytes = [0xffu8, 0x7b, 0x7d];
+    assert!(rt; matches!(read_model(alloc, &bytes), Err(ModelRefused::Json)));
+    Ok(())
+}
+
+/// The set of this name, which is there.
+fn found_set(rt: &impl Abort, model: &Model, name: &str) -> SetId
+    ensures { IsSet model.now result }
+{
+    match model.set_named(name) {
+        Some(found) => found,
+        None => panic!(rt; "no set {name}"),
+    }
+}
+
+/// Finds a set of this type with this key, and with so many properties and navigation properties.
+fn expect_set(
+    rt: &impl Abort,
+    model: &Model,
+    set: &str,
+    of: &str,
+    key: &str,
+    parts: (usize, usize),
+) {
+    let found = found_set(rt, model, set);
+    let entity_type = model.set_type(found);
+    assert_eq!(rt; model.set_name(found), set);
+    assert_eq!(rt; model.type_name(entity_type), of);
+    assert_eq!(rt; model.type_set(entity_type), found);
+    assert_eq!(rt; model.prop_name(model.key_of(entity_type)), key);
+    assert_eq!(rt; model.props(entity_type).len(), parts.0);
+    assert_eq!(rt; model.navs(entity_type).len(), parts.1);
+}
+
+/// Finds a property of a set's type that has this type, and may be null or not.
+fn expect_property(
+    rt: &impl Abort,
+    model: &Model,
+    set: &str,
+    name: &str,
+    kind: EdmType,
+    nullable: bool,
+) {
+    let of = model.set_type(found_set(rt, model, set));
+    match model.prop_named(of, name) {
+        Some(found) => {
+            assert_eq!(rt; model.prop_name(found), name);
+            assert_eq!(rt; model.prop_type(found), kind);
+            assert_eq!(rt; model.prop_nullable(found), nullable);
+        }
+        None => panic!(rt; "no property {name}"),
+    }
+}
+
+/// The name of what leads back from a navigation property: its partner, or the property that refers to the key.
+fn back_name(model: &Model, navigation: NavId) -> &str
+    requires { IsNavigation model.now navigation }
+{
+    if model.nav_many(navigation) {
+        model.nav_name(model.nav_partner(navigation))
+    } else {
+        model.prop_name(model.nav_dependent(navigation))
+    }
+}
+
+/// Finds a navigation property of a set's type that leads to this type, to many or to one, with this way back.
+fn expect_navigation(
+    rt: &impl Abort,
+    model: &Model,
+    set: &str,
+    name: &str,
+    target: &str,
+    many: bool,
+    back: &str,
+) {
+    let of = model.set_type(found_set(rt, model, set));
+    match model.nav_named(of, name) {
+        Some(found) => {
+            assert_eq!(rt; model.nav_name(found), name);
+            assert_eq!(rt; model.type_name(model.nav_target(found)), target);
+            assert_eq!(rt; model.nav_many(found), many);
+            assert_eq!(rt; back_name(model, found), back);
+        }
+        None => panic!(rt; "no navigation property {name}"),
+    }
+}
+
+#[test]
+fn sets_are_found_by_name(rt: HostRuntime) -> Result<(), Fail> {
+    let alloc = rt.alloc();
+    let model = read_model(alloc, SAMPLE.as_bytes())?;
+    assert_eq!(rt; model.sets().len(), 3);
+    expect_set(&rt, &model, "Customers", "Customer", "ID", (4, 1));
+    expect_set(&rt, &model, "Orgs", "Org", "ID", (2, 1));
+    expect_set(&rt, &model, "Sales", "Sale", "ID", (4, 2));
+    for absent in [
+        "",
+        "Customer",
+        "Customers ",
+        "Org",
+        "Orgz",
+        "Sale",
+        "sales",
+        "Saless",
+    ] {
+        assert!(rt; model.set_named(absent).is_none(), "the set {absent}");
+    }
+    Ok(())
+}
+
+#[test]
+fn properties_are_found_by_name(rt: HostRuntime) -> Result<(), Fail> {
+    let alloc = rt.alloc();
+    let model = read_model(alloc, SAMPLE.as_bytes())?;
+    let amount = EdmType::Dec {
+        scale: 2,
+        precision: 16,
+    };
+    expect_property(&rt, &model, "Customers", "Country", EdmType::Text, false);
+    expect_property(&rt, &model, "Customers", "Since", EdmType::Day, true);
+    expect_property(&rt, &model, "Orgs", "ParentID", EdmType::Text, true);
+    expect_property(&rt, &model, "Sales", "Amount", amount, true);
+    expect_property(&rt, &model, "Sales", "CustomerID", EdmType::Text, false);
+    expect_property(&rt, &model, "Sales", "ID", EdmType::Int, false);
+    expect_property(&rt, &model, "Sales", "OrgID", EdmType::Text, true);
+    Ok(())
+}
+
+#[test]
+fn navigations_are_found_by_name(rt: HostRuntime) -> Result<(), Fail> {
+    let alloc = rt.alloc();
+    let model = read_model(alloc, SAMPLE.as_bytes())?;
+    expect_navigation(&rt, &model, "Customers", "Sales", "Sale", true, "Customer");
+    expect_navigation(
+        &rt,
+        &model,
+        "Orgs",
+        "Superordinate",
+        "Org",
+        false,
+        "ParentID",
+    );
+    expect_navigation(
+        &rt,
+        &model,
+        "Sales",
+        "Customer",
+        "Customer",
+        false,
+        "CustomerID",
+    );
+    expect_navigation(&rt, &model, "Sales", "Org", "Org", false, "OrgID");
+    Ok(())
+}
+
+#[test]
+fn hierarchies_and_custom_aggregates_are_found_by_name(rt: HostRuntime) -> Result<(), Fail> {
+    let alloc = rt.alloc();
+    let model = read_model(alloc, SAMPLE.as_bytes())?;
+    let orgs = found_set(&rt, &model, "Orgs");
+    let Some(tree) = model.hier_named(orgs, "OrgTree") else {
+        panic!(rt; "no hierarchy");
+    };
+    assert_eq!(rt; model.hiers(), [tree].as_slice());
+    assert_eq!(rt; model.hier_name(tree), "OrgTree");
+    assert_eq!(rt; model.hier_set(tree), orgs);
+    assert_eq!(rt; model.nav_name(model.hier_parent(tree)), "Superordinate");
+    assert!(rt; model.hier_named(orgs, "Best").is_none());
+    let sale = model.set_type(found_set(&rt, &model, "Sales"));
+    let best = model.custom_named(sale, "Best");
+    assert_eq!(rt; model.customs().len(), 1);
+    let custom = &model.customs()[0];
+    assert_eq!(rt; Some(custom.id), best);
+    assert_eq!(rt; custom.owner, sale);
+    assert_eq!(rt; custom.name.as_str(), "Best");
+    assert_eq!(rt; custom.of.as_str(), "Amount");
+    assert_eq!(rt; custom.method, Method::Sum);
+    assert_eq!(rt; custom.outer, Some(Method::Max));
+    let groups = custom.per.as_slice();
+    assert_eq!(rt; groups.len(), 1);
+    assert_eq!(rt; groups[0].as_str(), "CustomerID");
+    Ok(())
+}
