@@ -1,16 +1,13 @@
 -- Entities read from JSON, property by property and member by member.
-use Rattle.std.proofs.Common.{◌≡◌, ℕ, zero, suc, ◌+◌, ◌<◌, ◌≤◌, Bool, true, false, ◌||◌, List, [], ◌∷◌, ◌++◌, length, take, map, get_or, refl, sym, ◌∙◌, ap, arith, Some, None, IsTrue, add-one, nat_eq}
+use Rattle.std.proofs.Common.{◌≡◌, ℕ, zero, suc, ◌+◌, ◌<◌, ◌≤◌, ◌||◌, List, [], ◌∷◌, ◌++◌, length, take, map, get_or, refl, sym, ◌∙◌, ap, Some, None, IsTrue, add-one, nat_eq}
 use Rattle.std.specs.Cmp.{nat_eq_equiv}
 use Rattle.std.proofs.lemmas.List.{map-append, take_all}
 use Rattle.std.proofs.lemmas.Option.{slice_get-map}
 use Rattle.edm_model.specs.ModelFile.{is_annotation}
-use Rattle.std.specs.Prelude.{◌&&◌}
 use Rattle.std.specs.declared.option.Option.{Option}
 use Rattle.std.specs.Option.{option_map, is_some}
-use Rattle.std.specs.List.{list_any, list_all, slice_get, position}
-use Rattle.std.proofs.lemmas.Bool.{false≢true}
+use Rattle.std.specs.List.{list_any, slice_get, position}
 use Rattle.edm_values.specs.Lists.{all_some, same_text}
-use Rattle.edm_values.specs.declared.Value.{Value}
 use Rattle.edm_values.specs.declared.EdmType.{EdmType}
 use Rattle.edm_model.specs.Models.{Property, Model, Part}
 use Rattle.edm_model.specs.LookUps.{property_at, property_named, found_part, properties_of, type_at, parts, IsType, IsProperty}

@@ -1,7 +1,6 @@
 -- The values of JSON that is no text and no Boolean.
-use Rattle.std.proofs.Common.{◌≡◌, ℕ, zero, suc, ◌+◌, ◌*◌, ◌^◌, ◌<◌, ◌≤◌, Bool, true, false, cond, refl, sym, ◌∙◌, ap, subst, arith, Some, None, IsTrue, ℤ, pos, negsuc, ◌*ℤ◌}
+use Rattle.std.proofs.Common.{◌≡◌, ℕ, ◌*◌, ◌^◌, ◌≤◌, true, false, cond, refl, sym, ◌∙◌, ap, arith, Some, None, IsTrue, ℤ, pos, ◌*ℤ◌}
 use Rattle.std.specs.Prelude.{nat_abs, nat_lt, nat_le, ◌&&◌}
-use Rattle.std.specs.declared.option.Option.{Option}
 use Rattle.std.specs.Option.{option_map, option_and_then}
 use Rattle.std.proofs.lemmas.Bool.{leb-true, le-ltb, ltb-false}
 use Rattle.std.proofs.lemmas.Option.{none-some}
@@ -11,7 +10,7 @@ use Rattle.serde_json.specs.Data.{Num, unsigned, negative, float, Data, null, bo
 use Rattle.serde_json.specs.Find.{as_str, as_bool, as_number, as_i64, as_integer}
 use Rattle.edm_values.specs.declared.Value.{Value}
 use Rattle.edm_values.specs.declared.EdmType.{EdmType}
-use Rattle.edm_values.specs.Literals.{integer_in_range, decimal_in_range, value_or_past, PastRange}
+use Rattle.edm_values.specs.Literals.{value_or_past, PastRange}
 use Rattle.edm_values.specs.Values.{decimal_of}
 use Rattle.edm_model.specs.Soundness.{is_declared_kind}
 use Rattle.edm_data.specs.DataFile.{written, whole_value, json_value}

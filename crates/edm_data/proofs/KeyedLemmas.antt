@@ -1,7 +1,6 @@
 -- The order of the keys of every set, and what it says of the world.
-use Rattle.std.proofs.Common.{◌≡◌, ℕ, ◌+◌, ◌<◌, ◌≤◌, Bool, true, false, List, [], ◌∷◌, ◌++◌, length, take, map, get_or, refl, sym, ◌∙◌, ap, subst, arith, ⊎_elim, Some, None, Result, Ok, Err, IfOk, OnOk, vec_len, Vec}
+use Rattle.std.proofs.Common.{◌≡◌, ℕ, ◌+◌, ◌<◌, ◌≤◌, false, List, [], ◌∷◌, ◌++◌, length, take, map, refl, sym, ◌∙◌, ap, subst, arith, ⊎_elim, Some, None, Result, Ok, Err, IfOk, Vec}
 use Rattle.std.specs.declared.alloc.Global.{Global}
-use Rattle.std.specs.declared.option.Option.{Option}
 use Rattle.std.specs.declared.cmp.Ordering.{Ordering}
 use Rattle.std.specs.Option.{option_map, unwrap_or}
 use Rattle.std.specs.List.{slice_get, list_any, find}
@@ -15,16 +14,16 @@ use Rattle.edm_values.specs.Values.{value_cmp, value_in}
 use Rattle.edm_values.specs.Lists.{is_some_and}
 use Rattle.edm_model.specs.LookUps.{key_at}
 use Rattle.edm_data.specs.Worlds.{World, entity_at, all_places}
-use Rattle.edm_data.specs.References.{entities_of, count, key, keys_of}
+use Rattle.edm_data.specs.References.{entities_of, count, keys_of}
 use Rattle.edm_data.specs.Fitting.{FitsModel}
-use Rattle.edm_data.specs.KeyOrders.{is_twice, IsFirstTwice, AreDistinct, IsKeyOrder, keyed}
+use Rattle.edm_data.specs.KeyOrders.{is_twice, IsFirstTwice, AreDistinct, IsKeyOrder}
 use Rattle.edm_data.specs.KeptOrders.{list_at, HasKeyOrders}
-use Rattle.edm_data.specs.DataFile.{DataReading, World', TwiceKey, unless_found, has_earlier_key, keys_reading}
+use Rattle.edm_data.specs.DataFile.{World', TwiceKey, unless_found, has_earlier_key, keys_reading}
 use Rattle.edm_data.specs.Refusals.{Tells}
 use Rattle.edm_data.specs.declared.DataRefused.{DataRefused}
 use Rattle.edm_data.specs.declared.key_order.KeysRefused.{KeysRefused}
 use Rattle.edm_data.proofs.PlaceLemmas.{slice_get-push_before, slice_get-push_at}
-use Rattle.edm_data.proofs.FirstPlaces.{size_at, find-all_places_none, find-all_places_first}
+use Rattle.edm_data.proofs.FirstPlaces.{find-all_places_none, find-all_places_first}
 
 pub IfOk-then : {T E : Type 0} (r : Result T E) (P Q : T → Type 0) → ((x : T) → P x → Q x) → IfOk r P → IfOk r Q
 IfOk-then (Ok x) P Q f h = f x h
@@ -33,7 +32,7 @@ IfOk-then (Err e) P Q f h = tt
 no_key : {K : Type 0} (R : K → K → Ordering) (keys : List K) (k : ℕ) → length keys ≤ k → is_twice R keys k ≡ false
 no_key R keys k h = rw (slice_get_past keys k h) refl
 
-key_number : (w : World) (s : ℕ) → length (keys_of w s) ≡ count w s
+pub key_number : (w : World) (s : ℕ) → length (keys_of w s) ≡ count w s
 key_number w s = length-map (entities_of w s) (λ vs. value_in vs (key_at w.model s))
 
 inside_earlier : {X : Type 0} (rows : List X) (f : X → Value) (d : X) (keys : List Value) (k : ℕ) → k < length rows → is_some_and (λ x. list_any (λ y. is_eq (value_cmp x y)) keys) (slice_get (map f rows) k) ≡ list_any (λ y. is_eq (value_cmp (f (unwrap_or (slice_get rows k) d)) y)) keys

@@ -2,6 +2,7 @@ pub mod DataRows
 pub mod EntityLemmas
 pub mod FirstPlaces
 mod FrontRows
+pub mod GroupLemmas
 pub mod JsonValueLemmas
 pub mod KeyOrderLemmas
 pub mod KeyedLemmas

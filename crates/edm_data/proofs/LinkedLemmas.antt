@@ -1,15 +1,12 @@
 -- The references of every set, and what they say of the world.
-use Rattle.std.proofs.Common.{◌≡◌, ℕ, ◌+◌, ◌<◌, ◌≤◌, true, false, List, [], ◌∷◌, ◌++◌, length, refl, sym, ◌∙◌, ap, subst, arith, ⊎_elim, Some, None, Vec}
+use Rattle.std.proofs.Common.{◌≡◌, ℕ, ◌+◌, ◌<◌, ◌≤◌, false, [], ◌∷◌, ◌++◌, length, refl, sym, ◌∙◌, ap, subst, arith, ⊎_elim, Some, None, Vec}
 use Rattle.std.specs.declared.alloc.Global.{Global}
-use Rattle.std.specs.declared.option.Option.{Option}
 use Rattle.std.specs.Option.{option_map, option_and_then, unwrap_or}
 use Rattle.std.specs.Prelude.{if◌then◌else◌}
 use Rattle.std.specs.List.{slice_get, find}
 use Rattle.std.proofs.lemmas.Bool.{cases_lt}
 use Rattle.std.proofs.lemmas.Option.{slice_get_past}
-use Rattle.edm_model.specs.Models.{Model}
-use Rattle.edm_model.specs.LookUps.{navigation_at}
-use Rattle.edm_data.specs.Worlds.{World, Entity, entity_at, all_places}
+use Rattle.edm_data.specs.Worlds.{World, entity_at, all_places}
 use Rattle.edm_data.specs.References.{count, follow, referred}
 use Rattle.edm_data.specs.Fitting.{FitsModel}
 use Rattle.edm_data.specs.Links.{Links, AreLinks, HasLinks, IsFirstDangling, link_at, links_of}

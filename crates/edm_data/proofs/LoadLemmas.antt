@@ -1,6 +1,6 @@
 -- What the passes over a file say of it.
-use Rattle.std.proofs.Common.{◌≡◌, ℕ, ◌<◌, ◌≤◌, Bool, true, false, cond, List, length, refl, sym, ◌∙◌, ap, subst, arith, Some, None, Result, Ok, Err, IfErr}
-use Rattle.std.specs.Prelude.{not, nat_lt, if◌then◌else◌}
+use Rattle.std.proofs.Common.{◌≡◌, ℕ, ◌<◌, ◌≤◌, true, false, List, length, refl, ◌∙◌, ap, Some, None, Result, Ok, Err, IfErr}
+use Rattle.std.specs.Prelude.{not, if◌then◌else◌}
 use Rattle.std.specs.declared.option.Option.{Option}
 use Rattle.std.specs.Option.{option_map, unwrap_or}
 use Rattle.std.specs.List.{find}
@@ -12,7 +12,7 @@ use Rattle.serde_json.specs.Find.{as_object}
 use Rattle.serde_json.specs.Read.{read}
 use Rattle.edm_model.specs.Models.{Model}
 use Rattle.edm_model.specs.JsonTrees.{Member, json_of, member_list}
-use Rattle.edm_data.specs.DataFile.{DataReading, World', TooLong, NoJson, Set, Shape, TwiceKey, Dangling, unless_found, with_world, is_set_member, items_of_sets, rows_reading, entities_in_tree, entities_reading, keys_reading, references_reading, data_limit}
+use Rattle.edm_data.specs.DataFile.{DataReading, TooLong, NoJson, Set, unless_found, with_world, is_set_member, items_of_sets, rows_reading, entities_in_tree, entities_reading, data_limit}
 use Rattle.edm_data.specs.Worlds.{World}
 use Rattle.edm_data.specs.Refusals.{Tells}
 use Rattle.edm_data.specs.declared.DataRefused.{DataRefused}

@@ -7,13 +7,13 @@ use Rattle.edm_values.specs.Lists.{places}
 use Rattle.edm_data.proofs.PlaceLemmas.{length-places, get_or-places, slice_get-push_before, slice_get-push_at}
 use Rattle.std.specs.declared.option.Option.{Option}
 use Rattle.std.specs.Option.{option_map, option_and_then, unwrap_or, is_none}
-use Rattle.std.specs.Prelude.{not, ◌&&◌, if◌then◌else◌}
+use Rattle.std.specs.Prelude.{if◌then◌else◌}
 use Rattle.std.specs.List.{slice_get, list_any}
 use Rattle.edm_values.specs.Lists.{is_some_and}
 use Rattle.edm_values.specs.Values.{is_null}
 use Rattle.edm_model.specs.Models.{Model, Navigation, EntitySet, EntityType, Part}
 use Rattle.edm_model.specs.LookUps.{type_at, type_of_set, set_type, set_of_type, navigation_at, navigation_on, navigations_of, dependent_of, parts, IsSet, IsType, IsNavigation}
-use Rattle.edm_data.specs.Worlds.{World, Entity, entity_at}
+use Rattle.edm_data.specs.Worlds.{World, Entity}
 use Rattle.edm_data.specs.References.{property, by_key, referred, follow, navigations_in}
 use Rattle.edm_data.specs.DataFile.{dangles}
 

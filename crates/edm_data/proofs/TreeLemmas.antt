@@ -1,12 +1,12 @@
 -- The sets of a file, one after another.
-use Rattle.std.proofs.Common.{◌≡◌, ℕ, zero, suc, ◌+◌, ◌<◌, ◌≤◌, ◌^◌, Bool, true, false, List, [], ◌∷◌, ◌++◌, length, take, map, get_or, refl, sym, ◌∙◌, ap, subst, arith, ⊎_elim, Some, None, IfSome, Vec, add-one, lit<}
+use Rattle.std.proofs.Common.{◌≡◌, ℕ, zero, suc, ◌+◌, ◌<◌, ◌≤◌, ◌^◌, true, false, List, [], ◌∷◌, ◌++◌, length, take, map, get_or, refl, sym, ◌∙◌, ap, subst, arith, ⊎_elim, Some, None, IfSome, Vec, add-one, lit<}
 use Rattle.std.specs.Prelude.{◌&&◌, if◌then◌else◌}
 use Rattle.std.specs.declared.alloc.Global.{Global}
 use Rattle.std.specs.declared.option.Option.{Option}
 use Rattle.std.specs.Option.{option_map, option_and_then, unwrap_or, is_none}
 use Rattle.std.specs.List.{slice_get, find, list_all}
 use Rattle.std.proofs.lemmas.Bool.{cases_lt}
-use Rattle.std.proofs.lemmas.List.{map-append, length-map, take_all}
+use Rattle.std.proofs.lemmas.List.{map-append, length-map}
 use Rattle.std.proofs.lemmas.Simd.{map-map}
 use Rattle.std.proofs.lemmas.Option.{slice_get-map, slice_get_past, slice_get_within, slice_get-get_or, none-some}
 use Rattle.serde_json.specs.Data.{Data, null}
@@ -17,7 +17,7 @@ use Rattle.edm_model.specs.Models.{Model, EntitySet, Property}
 use Rattle.edm_model.specs.JsonTrees.{items_in, is_object, members_in}
 use Rattle.edm_model.specs.LookUps.{set_name, set_type, properties_of, IsSet}
 use Rattle.edm_data.specs.Worlds.{World, entity_at, all_places}
-use Rattle.edm_data.specs.References.{entities_of, count}
+use Rattle.edm_data.specs.References.{entities_of}
 use Rattle.edm_data.specs.Rows.{rows_of, world_in}
 use Rattle.edm_data.specs.Fitting.{FitsModel, are_values_of}
 use Rattle.edm_data.proofs.ValueFits.{values_fit}

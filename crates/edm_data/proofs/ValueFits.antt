@@ -1,5 +1,5 @@
 -- The values that are read from JSON are values of their properties.
-use Rattle.std.proofs.Common.{◌≡◌, ℕ, ℤ, pos, zero, suc, ◌<◌, ◌^◌, ◌*ℤ◌, ◌==◌, Bool, true, false, ◌&&◌, List, [], ◌∷◌, nat_abs, nat_le, nat_lt, map, refl, ap, sym, ◌∙◌, subst, arith, Some, None}
+use Rattle.std.proofs.Common.{◌≡◌, ℕ, ℤ, pos, ◌^◌, ◌*ℤ◌, ◌==◌, Bool, true, false, ◌&&◌, List, [], ◌∷◌, nat_abs, nat_le, nat_lt, map, refl, subst, arith, Some, None}
 use Rattle.std.specs.Prelude.{if◌then◌else◌, not, IsTrue}
 use Rattle.std.specs.declared.option.Option.{Option}
 use Rattle.std.specs.Option.{option_map, option_and_then, unwrap_or}
@@ -10,7 +10,7 @@ use Rattle.std.specs.Prelude.{slice_range}
 use Rattle.std.specs.Str.Parse.{digits_value, without_leading_sign}
 use Rattle.edm_values.specs.Lists.{all_some}
 use Rattle.edm_values.specs.Parts.{mantissa_max, scale_max, is_decimal, is_day}
-use Rattle.edm_values.specs.Values.{is_null, is_beyond, fits_integer, where_true, decimal, decimal_of, day_from, day_of}
+use Rattle.edm_values.specs.Values.{is_null, is_beyond, fits_integer, where_true, decimal, decimal_of, day_from}
 use Rattle.edm_values.specs.Literals.{Literal, Written, NoLiteral, PastRange, is_digits, is_decimal_text, is_day_text, is_of_kind, integer_in_range, value_or_past, with_sign_of, mantissa_digits, decimal_in_range, integer_literal, decimal_literal, day_in_range, day_literal}
 use Rattle.edm_values.specs.declared.Dec.{Dec}
 use Rattle.edm_values.specs.declared.Day.{Day}

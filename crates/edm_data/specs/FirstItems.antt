@@ -1,5 +1,5 @@
 -- The first item of a set that is no entity.
-use Rattle.std.specs.Prelude.{ℕ, ◌≡◌, ◌<◌, false, List, length, map, slice_get, Vec, Option, Some, None, unwrap_or, is_none}
+use Rattle.std.specs.Prelude.{ℕ, ◌≡◌, ◌<◌, false, List, map, slice_get, Vec, Option, Some, None, unwrap_or, is_none}
 use Rattle.std.specs.declared.alloc.Global.{Global}
 use Rattle.edm_values.specs.declared.Value.{Value}
 

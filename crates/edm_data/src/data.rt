@@ -1,14 +1,15 @@
 //! Loaded data and its readers.
-ghost use Rattle.std.specs.Prelude.{◌≡◌, filter, IfOk, OnOk, IfErr};
+ghost use Rattle.std.specs.Prelude.{◌≡◌, map, IfOk, OnOk, IfErr};
 ghost use Rattle.edm_model.specs.LookUps.{IsSet, IsNavigation, set_type};
 ghost use Rattle.edm_values.specs.Values.{seen_value};
-ghost use Rattle.edm_data.specs.DataFile.{references_reading, World'};
+ghost use Rattle.edm_data.specs.DataFile.{keys_reading, references_reading, World'};
 ghost use Rattle.edm_data.specs.Fitting.{FitsModel};
-ghost use Rattle.edm_data.specs.Links.{is_link_to};
+ghost use Rattle.edm_data.specs.Links.{IsGroup};
 ghost use Rattle.edm_data.specs.References as world;
 ghost use Rattle.edm_data.specs.Refusals.{Tells};
+ghost use Rattle.edm_data.specs.Worlds.{entity_at};
 
-use crate::groups::link_at;
+use crate::groups::{all_groups, group_of, link_of};
 use crate::keyed::Keyed;
 use crate::references::all_links;
 use crate::{DataRefused, EntityRef};
@@ -21,17 +22,18 @@ use std::alloc::{AllocError, Global};
 pub struct Data {
     keyed: Keyed,
     links: Vec<Vec<Vec<Option<EntityRef>>>>,
+    groups: Vec<Vec<Vec<Vec<u32>>>>,
 }
 
 impl std::marker::Model for Data {
     ghost use Rattle.edm_data.specs.Worlds.{World};
-    ghost use Rattle.edm_data.specs.Links.{HasLinks};
+    ghost use Rattle.edm_data.specs.Links.{HasReferences};
 
     ghost Value = { World };
 
     ghost view = { λ d. d.keyed };
 
-    ghost invariant = { λ d. HasLinks d.keyed d.links };
+    ghost invariant = { λ d. HasReferences d.keyed d.links d.groups };
 }
 
 impl Data {
@@ -41,9 +43,17 @@ impl Data {
         ensures sound { OnOk result (references_reading keyed ≡ World' keyed) }
         ensures refused { IfErr result (λ refused. Tells refused (references_reading keyed)) }
     {
-        match all_links(alloc, &keyed) {
-            Ok(links) => Ok(Data { keyed, links }),
-            Err(refused) => Err(refused),
+        let links = match all_links(alloc, &keyed) {
+            Ok(links) => links,
+            Err(refused) => return Err(refused),
+        };
+        match all_groups(alloc, &keyed, &links) {
+            Ok(groups) => Ok(Data {
+                keyed,
+                links,
+                groups,
+            }),
+            Err(_) => Err(DataRefused::Memory),
         }
     }
 
@@ -51,7 +61,10 @@ impl Data {
     pub fn model(&self) -> &edm_model::Model
         ensures value { result.now ≡ self.now.model }
         ensures fits { FitsModel self.now }
+        ensures distinct { keys_reading self.now ≡ World' self.now }
+        ensures sound { references_reading self.now ≡ World' self.now }
     {
+        let _ = &self.links;
         self.keyed.tables().model()
     }
 
@@ -73,10 +86,7 @@ impl Data {
     pub fn follow(&self, e: EntityRef, n: NavId) -> Option<EntityRef>
         ensures { result ≡ world.follow self.now e n.at }
     {
-        match self.links.get(e.set.place()) {
-            Some(links) => link_at(links, e.at as usize, n.place()),
-            None => None,
-        }
+        link_of(&self.links, e.set, e.at, n.place())
     }
 
     /// The entity of a set that has this key.
@@ -96,33 +106,25 @@ impl Data {
         ensures { IfOk result (λ found. found.items ≡ world.related self.now e n.at) }
     {
         let model = self.model();
-        if !model.nav_many(n) {
-            return Ok(Vec::new(*self.links.allocator()));
-        }
-        self.linked(model.type_set(model.nav_target(n)), model.nav_partner(n), e)
+        let set = model.type_set(model.nav_target(n));
+        entities_at(*self.groups.allocator(), set, self.places(e, n))
     }
 
-    /// The entities of a set that refer to this one by a navigation property, in data order.
-    fn linked(&self, set: SetId, n: NavId, e: EntityRef) -> Result<Vec<EntityRef>, AllocError>
-        ensures { IfOk result (λ found. found.items ≡ filter (λ x. world.refers_to self.now n.at x e) (world.entities_in self.now set)) }
+    /// The places of the entities that a navigation relates an entity to.
+    fn places(&self, e: EntityRef, n: NavId) -> &[u32]
+        ensures { IsGroup self.now e.set n.at e.at result.now }
     {
-        let mut found = Vec::new(*self.links.allocator());
-        for at in 0..self.count(set) {
-            let from = EntityRef { set, at };
-            if is_link_to(e, self.follow(from, n)) {
-                found.push(from)?;
-            }
-        }
-        Ok(found)
+        group_of(&self.groups, e.set, n.place(), e.at)
     }
 }
 
-/// Whether a reference is one to this entity.
-fn is_link_to(e: EntityRef, link: Option<EntityRef>) -> bool
-    ensures { result ≡ is_link_to e link }
+/// The entities of a set at these places.
+fn entities_at(alloc: Global, set: SetId, places: &[u32]) -> Result<Vec<EntityRef>, AllocError>
+    ensures { IfOk result (λ found. found.items ≡ map (entity_at set) places.now) }
 {
-    match link {
-        Some(to) => e.set == to.set && e.at == to.at,
-        None => false,
+    let mut found = Vec::with_capacity(alloc, places.len())?;
+    for at in places {
+        found.push(EntityRef { set, at: *at })?;
     }
+    Ok(found)
 }

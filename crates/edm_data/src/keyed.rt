@@ -25,13 +25,13 @@ pub(crate) struct Keyed {
 
 impl std::marker::Model for Keyed {
     ghost use Rattle.edm_data.specs.Worlds.{World};
-    ghost use Rattle.edm_data.specs.KeptOrders.{HasKeyOrders};
+    ghost use Rattle.edm_data.specs.KeptOrders.{HasDistinctKeys};
 
     ghost Value = { World };
 
     ghost view = { λ k. k.tables };
 
-    ghost invariant = { λ k. HasKeyOrders k.tables k.orders };
+    ghost invariant = { λ k. HasDistinctKeys k.tables k.orders };
 }
 
 impl Keyed {
@@ -49,8 +49,10 @@ impl Keyed {
 
     /// The tables.
     pub(crate) fn tables(&self) -> &Tables
-        ensures { result.now ≡ self.now }
+        ensures value { result.now ≡ self.now }
+        ensures distinct { keys_reading self.now ≡ World' self.now }
     {
+        let _ = &self.orders;
         &self.tables
     }
 

@@ -1,4 +1,15 @@
 //! Data files: the entities of a model's sets, and the references between them.
+//!
+//! `read_data` reads a JSON file over a model and gives its `Data`, or the first fault that the file has. `Data` answers
+//! which value an entity has, which entity has a key, what an entity refers to, and what it is related to.
+//! `docs/data-file.md` states the form of a file.
+//!
+//! The crate stands on `edm_model` for models, on `edm_values` for values and their order, and on `serde_json`.
+//!
+//! It promises that the data is the world of the file (`specs/DataFile`), that each refusal comes exactly where the file
+//! is so, memory aside, with its first place, and that each reader equals a search or a filter of the world's lists
+//! (`specs/References`). Keys, references and related entities are looked up in indexes that are made while a file is
+//! loaded; how fast they are is measured and not proved.
 #![tactic(auto)]
 
 mod data;

@@ -1,4 +1,4 @@
-use Rattle.std.proofs.Common.{◌≡◌, ◌+◌, ◌<◌, ◌≤◌, length, Err, ap, ◌∙◌, arith, below_more}
+use Rattle.std.proofs.Common.{◌≡◌, ◌+◌, ◌≤◌, length, Err, ap, ◌∙◌, arith, below_more}
 use Rattle.edm_values.specs.Lists.{places}
 use Rattle.edm_values.specs.Values.{value_cmp}
 use Rattle.edm_data.specs.References.{keys_of}

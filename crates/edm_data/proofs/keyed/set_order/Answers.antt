@@ -1,5 +1,4 @@
-use Rattle.std.proofs.Common.{◌≡◌, refl, List}
-use Rattle.edm_values.specs.declared.Value.{Value}
+use Rattle.std.proofs.Common.{refl}
 use Rattle.edm_values.specs.Values.{value_cmp}
 use Rattle.edm_data.specs.References.{keys_of}
 use Rattle.edm_data.specs.KeyOrders.{IsKeyOrder, AreDistinct}

@@ -1,10 +1,9 @@
-use Rattle.std.proofs.Common.{◌≡◌, ◌+◌, ◌<◌, ◌≤◌, ◌^◌, length, map, Err, Some, ap, subst, sym, ◌∙◌, arith, below_more}
+use Rattle.std.proofs.Common.{◌≡◌, ◌<◌, ◌≤◌, ◌^◌, length, map, Err, Some, ap, subst, ◌∙◌, arith, below_more}
 use Rattle.std.specs.Option.{option_map}
 use Rattle.std.specs.List.{slice_get}
 use Rattle.std.proofs.lemmas.List.{length-map, take_all}
 use Rattle.std.proofs.lemmas.Option.{slice_get-map}
 use Rattle.serde_json.specs.View.{view}
-use Rattle.edm_model.specs.LookUps.{IsSet}
 use Rattle.edm_data.specs.DataFile.{items_of_set, items_of_sets}
 use Rattle.edm_data.specs.FirstItems.{rows_read}
 use Rattle.edm_data.proofs.FirstPlaces.{size_at}

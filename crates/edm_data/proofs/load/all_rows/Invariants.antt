@@ -1,5 +1,4 @@
-use Rattle.std.proofs.Common.{◌≡◌, ℕ, ◌<◌, ◌^◌, map, take, length}
-use Rattle.std.specs.List.{slice_get}
+use Rattle.std.proofs.Common.{◌≡◌, ℕ, ◌<◌, ◌^◌, map, take}
 use Rattle.serde_json.specs.View.{view}
 use Rattle.edm_data.specs.DataFile.{items_of_set, items_of_sets}
 use Rattle.edm_data.specs.FirstItems.{rows_read}

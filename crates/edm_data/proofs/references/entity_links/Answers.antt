@@ -1,4 +1,4 @@
-use Rattle.std.proofs.Common.{◌≡◌, ◌+◌, ◌≤◌, length, take, ap, subst, sym, ◌∙◌, arith}
+use Rattle.std.proofs.Common.{◌≡◌, ◌+◌, ◌≤◌, length, ap, subst, sym, ◌∙◌, arith}
 use Rattle.std.specs.List.{list_any}
 use Rattle.std.proofs.lemmas.List.{take_all}
 use Rattle.edm_values.specs.Lists.{is_some_and}
@@ -11,12 +11,12 @@ use Rattle.edm_data.proofs.references.entity_links.Goals as goal
 
 pub resolve-requires-clause-of : goal.resolve-requires-clause-of
 resolve-requires-clause-of c =
-    let nav = subst (λ w. IsNavAt w.model c.args.s c.loop-n.n-index c.n-item.result) c.tables.ensures (nav_item c.tables.result.now.model c.args.s c.navs-n-items.result.now c.loop-n.n-index c.n-item.result c.navs-n-items.ensures.there c.navs-n-items.ensures.value c.loop-n-test.true c.n-item.is) in
+    let nav = subst (λ w. IsNavAt w.model c.args.s c.loop-n.n-index c.n-item.result) c.tables.ensures.value (nav_item c.tables.result.now.model c.args.s c.navs-n-items.result.now c.loop-n.n-index c.n-item.result c.navs-n-items.ensures.there c.navs-n-items.ensures.value c.loop-n-test.true c.n-item.is) in
     nav.of
 
 pub resolve-requires-clause-there : goal.resolve-requires-clause-there
 resolve-requires-clause-there c =
-    let nav = subst (λ w. IsNavAt w.model c.args.s c.loop-n.n-index c.n-item.result) c.tables.ensures (nav_item c.tables.result.now.model c.args.s c.navs-n-items.result.now c.loop-n.n-index c.n-item.result c.navs-n-items.ensures.there c.navs-n-items.ensures.value c.loop-n-test.true c.n-item.is) in
+    let nav = subst (λ w. IsNavAt w.model c.args.s c.loop-n.n-index c.n-item.result) c.tables.ensures.value (nav_item c.tables.result.now.model c.args.s c.navs-n-items.result.now c.loop-n.n-index c.n-item.result c.navs-n-items.ensures.there c.navs-n-items.ensures.value c.loop-n-test.true c.n-item.is) in
     nav.there
 
 pub returns-in-Err-clause-missing : goal.returns-in-Err-clause-missing
@@ -29,7 +29,7 @@ pub loop-n-preserved : goal.loop-n-preserved
 loop-n-preserved c =
     let w = c.args.keyed.now in
     let e = entity_at c.args.s c.args.at in
-    let nav = subst (λ w. IsNavAt w.model c.args.s c.loop-n.n-index c.n-item.result) c.tables.ensures (nav_item c.tables.result.now.model c.args.s c.navs-n-items.result.now c.loop-n.n-index c.n-item.result c.navs-n-items.ensures.there c.navs-n-items.ensures.value c.loop-n-test.true c.n-item.is) in
+    let nav = subst (λ w. IsNavAt w.model c.args.s c.loop-n.n-index c.n-item.result) c.tables.ensures.value (nav_item c.tables.result.now.model c.args.s c.navs-n-items.result.now c.loop-n.n-index c.n-item.result c.navs-n-items.ensures.there c.navs-n-items.ensures.value c.loop-n-test.true c.n-item.is) in
     let grown = c.in_ok-push-in-Ok.ensures.len in
     let so_far = c.loop-n.invariant.len in
     let size : length c.loop-n.links.items ≡ c.loop-n.n-index = omega (arith, c.loop-n.links.ok.0) in
@@ -42,7 +42,7 @@ loop-n-preserved c =
 pub returns-clause-found : goal.returns-clause-found
 returns-clause-found c =
     let w = c.args.keyed.now in
-    let number = subst (λ w. length c.navs-n-items.result.now ≡ length (navigations_in w.model c.args.s)) c.tables.ensures (nav_number c.tables.result.now.model c.args.s c.navs-n-items.result.now (rw c.tables.ensures c.requires) c.navs-n-items.ensures.value) in
+    let number = subst (λ w. length c.navs-n-items.result.now ≡ length (navigations_in w.model c.args.s)) c.tables.ensures.value (nav_number c.tables.result.now.model c.args.s c.navs-n-items.result.now (rw c.tables.ensures.value c.requires) c.navs-n-items.ensures.value) in
     let over : length c.navs-n-items.result.now ≤ c.loop-n.n-index = omega arith in
     let so_far = c.loop-n.invariant.len in
     let size : length c.loop-n.links.items ≡ c.loop-n.n-index = omega (arith, c.loop-n.links.ok.0) in
@@ -52,6 +52,6 @@ pub returns-clause-sound : goal.returns-clause-sound
 returns-clause-sound c =
     let w = c.args.keyed.now in
     let e = entity_at c.args.s c.args.at in
-    let number = subst (λ w. length c.navs-n-items.result.now ≡ length (navigations_in w.model c.args.s)) c.tables.ensures (nav_number c.tables.result.now.model c.args.s c.navs-n-items.result.now (rw c.tables.ensures c.requires) c.navs-n-items.ensures.value) in
+    let number = subst (λ w. length c.navs-n-items.result.now ≡ length (navigations_in w.model c.args.s)) c.tables.ensures.value (nav_number c.tables.result.now.model c.args.s c.navs-n-items.result.now (rw c.tables.ensures.value c.requires) c.navs-n-items.ensures.value) in
     let over : length c.navs-n-items.result.now ≤ c.loop-n.n-index = omega arith in
     ap (list_any (dangles w e)) (sym (take_all c.loop-n.n-index (navigations_in w.model c.args.s) (rw number at over))) ∙ c.loop-n.invariant.sound

@@ -1,4 +1,4 @@
-use Rattle.std.proofs.Common.{◌≡◌, ℕ, ◌<◌, Bool, false, take, vec_len, None}
+use Rattle.std.proofs.Common.{◌≡◌, ℕ, ◌<◌, false, take, vec_len, None}
 use Rattle.std.specs.List.{slice_get, list_any}
 use Rattle.std.specs.Option.{unwrap_or}
 use Rattle.edm_data.specs.References.{follow, navigations_in}

@@ -1,6 +1,6 @@
-use Rattle.std.proofs.Common.{◌≡◌, ℕ, ◌<◌, ◌≤◌, false, vec_len}
+use Rattle.std.proofs.Common.{◌≡◌, ℕ, ◌<◌, false, vec_len}
 use Rattle.edm_data.specs.Worlds.{entity_at}
-use Rattle.edm_data.specs.References.{follow, count}
+use Rattle.edm_data.specs.References.{follow}
 use Rattle.edm_data.specs.DataFile.{is_dangling}
 use Rattle.edm_data.specs.Links.{link_at}
 use Rattle.edm_data.proofs.references.set_links.Given as goal

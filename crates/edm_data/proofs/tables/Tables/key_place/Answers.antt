@@ -1,5 +1,5 @@
 use Rattle.std.proofs.Common.{ap, ◌∙◌}
-use Rattle.edm_model.specs.LookUps.{key_at, key_of, set_type}
+use Rattle.edm_model.specs.LookUps.{key_of, set_type}
 use Rattle.edm_data.proofs.TableLemmas.{key_facts, key_place}
 use Rattle.edm_data.proofs.tables.Tables.key_place.Goals as goal
 

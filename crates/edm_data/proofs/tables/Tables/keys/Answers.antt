@@ -1,8 +1,6 @@
-use Rattle.std.proofs.Common.{◌≡◌, ◌<◌, length, sym, ap, ◌∙◌, arith, Some}
+use Rattle.std.proofs.Common.{◌≡◌, arith, Some}
 use Rattle.std.specs.List.{slice_get}
-use Rattle.std.proofs.lemmas.Option.{unwrap_or-slice_get}
 use Rattle.edm_values.specs.Values.{value_in}
-use Rattle.edm_values.specs.declared.Value.{Value}
 use Rattle.edm_model.specs.LookUps.{key_at}
 use Rattle.edm_data.specs.References.{entities_of}
 use Rattle.edm_data.proofs.TableLemmas.{few_keys, column-more, column-all, row_there, value_there}
