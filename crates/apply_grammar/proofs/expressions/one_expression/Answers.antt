@@ -1,0 +1,5 @@
+use Rattle.apply_grammar.proofs.ExprWhole.{one_expr}
+use Rattle.apply_grammar.proofs.expressions.one_expression.Goals as goal
+
+pub returns : goal.returns
+returns c = one_expr

@@ -1,0 +1,10 @@
+pub use Rattle.apply_ast.specs.Counts
+pub use Rattle.apply_ast.specs.Grammar
+pub use Rattle.apply_ast.specs.Trees
+pub mod FrameReading
+pub mod Frames
+pub mod Gives
+pub mod Limits
+pub mod PipeReading
+pub mod Reading
+pub mod Requests
