@@ -1,8 +1,8 @@
 -- The replies to lines, one after another.
-use Rattle.std.proofs.Common.{◌≡◌, ℕ, ◌+◌, ◌-◌, ◌<◌, ◌≤◌, List, [], ◌∷◌, ◌++◌, length, take, drop, None, Some, refl, sym, ap, subst, ◌∙◌, true, arith, append_assoc, Ok, Err, OnOk, OnErr, IfOk, Vec, Global}
+use Rattle.std.proofs.Common.{◌≡◌, ℕ, ◌+◌, ◌-◌, ◌<◌, ◌≤◌, List, [], ◌∷◌, ◌++◌, length, take, drop, None, Some, refl, sym, ap, subst, ◌∙◌, true, arith, append_assoc, Bool, false, Ok, Err, OnOk, OnErr, IfOk, Vec, Global}
 use Rattle.std.specs.declared.result.Result.{Result}
 use Rattle.std.proofs.lemmas.Result.{on_ok_weaker, on_err_weaker}
-use Rattle.std.specs.Prelude.{position}
+use Rattle.std.specs.Prelude.{position, nat_lt, ◌↔◌, IsErrOf}
 use Rattle.std.specs.declared.option.Option.{Option}
 use Rattle.std.specs.Str.Lines.{strip_carriage_return}
 use Rattle.std.specs.Io.KnownBytes.{Appends}
@@ -10,10 +10,16 @@ use Rattle.std.proofs.KnownBytes.{Appends-nil, Appends-trans}
 use Rattle.std.proofs.lemmas.List.{append-nil, take_rest}
 use Rattle.std.proofs.lemmas.Bool.Decides.{nat_tests}
 use Rattle.edm_data.specs.Worlds.{World}
+use Rattle.apply_grammar.specs.Frames.{line_limit}
+use Rattle.apply_grammar.specs.FrameReading.{Asked}
+use Rattle.apply_grammar.specs.Requests.{IsRequest, IsNoRequest, asked_of}
+use Rattle.apply_grammar.specs.declared.refusals.GrammarRefused.{GrammarRefused}
+use Rattle.apply_grammar.specs.declared.refusals.GrammarRefused.TheVariants as grammar
+use Rattle.apply_ast.specs.declared.steps.Request.{Request}
 use Rattle.apply_serve.specs.Requests.{is_line_feed, is_shown, shown, request_lines}
-use Rattle.apply_serve.specs.Responses.{NotBuilt, Memory, refused}
-use Rattle.apply_serve.specs.FirstForm.{IsFirstForm}
-use Rattle.apply_serve.specs.SumResponses.{IsReply, built, other, memory, form_response}
+use Rattle.apply_serve.specs.Responses.{TooLong, Syntax, Memory, refused}
+use Rattle.apply_serve.specs.Replies.{IsReply, too_long, no_request, request, no_memory, response}
+use Rattle.apply_serve.specs.ReplyBytes.{bytes_made}
 use Rattle.apply_serve.specs.Answers.{IsOut, Responds, RespondsInPart, RespondsUpTo, WritesFront}
 use Rattle.apply_serve.proofs.CutLines.{request_lines-first, request_lines-last}
 
@@ -29,12 +35,21 @@ module _ (w : World) where
   IsOut-append (l ∷ ls) ms o p h k =
       (h.0, h.1 ++ p, h.2, IsOut-append ls ms h.1 p h.3 k, ap (λ t. t ++ p) h.4 ∙ append_assoc h.0 h.1 p)
 
+  some_reply_by : (line : List ℕ) (long : Bool) → nat_lt line_limit (length line) ≡ long → (r : List ℕ) × IsReply w line r
+  some_reply_by line true e = (refused TooLong, too_long (grind (arith, nat_tests, e)))
+  some_reply_by line false e = (refused Memory, no_memory (grind (arith, nat_tests, e)))
+
+  -- there is a reply to each line
+  some_reply : (line : List ℕ) → (r : List ℕ) × IsReply w line r
+  some_reply line = some_reply_by line (nat_lt line_limit (length line)) refl
+
   -- there are replies to all lines
   pub some_out : (ls : List (List ℕ)) → (o : List ℕ) × IsOut w ls o
   some_out [] = ([], refl)
   some_out (l ∷ ls) =
       let more = some_out ls in
-      (refused Memory ++ more.0, (refused Memory, more.0, memory, more.1, refl))
+      let r = some_reply l in
+      (r.0 ++ more.0, (r.0, more.0, r.1, more.1, refl))
 
   one_line : (line r : List ℕ) → 0 < length line → IsReply w line r → IsOut w (shown line) r
   one_line [] r some reply = absurd (omega arith)
@@ -134,19 +149,62 @@ err-reply result w line old new r bytes some reply e h =
     let P : List ℕ → Type 0 = λ t. IsReply w line t in
     on_err_weaker result (RespondsInPart-line w old new line bytes some (subst P (sym e) reply)) h
 
--- the response to a line of the first form
-pub IfOk-built : {E : Type 0} (result : Result (Vec ℕ Global) E) (w : World) (line set property name : List ℕ) → IsFirstForm line set property name → IfOk result (λ r. r.items ≡ form_response w set property name) → IfOk result (λ r. IsReply w line r.items)
-IfOk-built (Ok r) w line set property name form h =
-    let P : List ℕ → Type 0 = λ t. IsReply w line t in subst P (sym h) (built form)
-IfOk-built (Err e) w line set property name form h = tt
+-- ---- the reasons of replies
 
--- the response to a line of another form
-pub IfOk-other : {E : Type 0} (result : Result (Vec ℕ Global) E) (w : World) (line : List ℕ) → ((set property name : List ℕ) → ¬ IsFirstForm line set property name) → IfOk result (λ r. r.items ≡ refused NotBuilt) → IfOk result (λ r. IsReply w line r.items)
-IfOk-other (Ok r) w line none h =
-    let P : List ℕ → Type 0 = λ t. IsReply w line t in subst P (sym h) (other none)
-IfOk-other (Err e) w line none h = tt
+-- the line is told too long
+abbrev IsLong : Result Request GrammarRefused → Type 0
+IsLong read = IsErrOf read grammar.TooLong
 
-pub ruleset reasons = (IfOk-built, IfOk-other)
+-- what is said of a line that is too long
+abbrev Told : Result Request GrammarRefused → List ℕ → Type 0
+Told read line = IsLong read ↔ line_limit < length line
+
+within-by : (n : ℕ) (long : Bool) → nat_lt line_limit n ≡ long → ¬ (line_limit < n) → n ≤ line_limit
+within-by n true e refuse = absurd (refuse (grind (arith, nat_tests, e)))
+within-by n false e refuse = grind (arith, nat_tests, e)
+
+-- a line that is not told too long keeps its limit
+within-limit : (read : Result Request GrammarRefused) (line : List ℕ) → Told read line → ¬ IsLong read → length line ≤ line_limit
+within-limit read line told refuse = within-by (length line) (nat_lt line_limit (length line)) refl (λ long. refuse (told.1 long))
+
+found-other : (r : Request) → ¬ IsLong (Ok r)
+found-other r h = cc
+
+syntax-other : (k : ℕ) → ¬ IsLong (Err (grammar.Syntax k))
+syntax-other k h = cc
+
+memory-other : ¬ IsLong (Err grammar.Memory)
+memory-other h = cc
+
+made-request : {E : Type 0} (made : Result (Vec ℕ Global) E) (w : World) (line : List ℕ) (asked : Asked) → length line ≤ line_limit → IsRequest line asked → IfOk made (λ r. r.items ≡ response w asked) → IsReply w line (bytes_made made)
+made-request (Ok r) w line asked within is e = let P : List ℕ → Type 0 = λ t. IsReply w line t in subst P (sym e) (request asked within is)
+made-request (Err x) w line asked within is e = no_memory within
+
+made-no_request : {E : Type 0} (made : Result (Vec ℕ Global) E) (w : World) (line : List ℕ) (k : ℕ) → length line ≤ line_limit → IsNoRequest line k → IfOk made (λ r. r.items ≡ refused (Syntax k)) → IsReply w line (bytes_made made)
+made-no_request (Ok r) w line k within none e = let P : List ℕ → Type 0 = λ t. IsReply w line t in subst P (sym e) (no_request k within none)
+made-no_request (Err x) w line k within none e = no_memory within
+
+-- the reply to a request that was read
+pub reply-found : {E : Type 0} (made : Result (Vec ℕ Global) E) (w : World) (line bytes : List ℕ) (r : Request) → Told (Ok r) line → IsRequest line (asked_of r) → IfOk made (λ x. x.items ≡ response w (asked_of r)) → bytes ≡ bytes_made made → IsReply w line bytes
+reply-found made w line bytes r told is e same =
+    let P : List ℕ → Type 0 = λ t. IsReply w line t in
+    subst P (sym same) (made-request made w line (asked_of r) (within-limit (Ok r) line told (found-other r)) is e)
+
+-- the reply to a line that is no request
+pub reply-stops : {E : Type 0} (made : Result (Vec ℕ Global) E) (w : World) (line bytes : List ℕ) (k : ℕ) → Told (Err (grammar.Syntax k)) line → IsNoRequest line k → IfOk made (λ x. x.items ≡ refused (Syntax k)) → bytes ≡ bytes_made made → IsReply w line bytes
+reply-stops made w line bytes k told none e same =
+    let P : List ℕ → Type 0 = λ t. IsReply w line t in
+    subst P (sym same) (made-no_request made w line k (within-limit (Err (grammar.Syntax k)) line told (syntax-other k)) none e)
+
+-- the reply to a line that is too long
+pub reply-long : (w : World) (line bytes : List ℕ) → line_limit < length line → bytes ≡ refused TooLong → IsReply w line bytes
+reply-long w line bytes long e = let P : List ℕ → Type 0 = λ t. IsReply w line t in subst P (sym e) (too_long long)
+
+-- the reply to a line for which memory was wanting
+pub reply-memory : (w : World) (line bytes : List ℕ) → Told (Err grammar.Memory) line → bytes ≡ refused Memory → IsReply w line bytes
+reply-memory w line bytes told e =
+    let P : List ℕ → Type 0 = λ t. IsReply w line t in
+    subst P (sym e) (no_memory (within-limit (Err grammar.Memory) line told memory-other))
 
 pub ruleset replies = (Responds-nothing, Responds-line, RespondsInPart-line)
 

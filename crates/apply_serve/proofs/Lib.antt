@@ -1,4 +1,4 @@
-mod FirstForms
+mod BuiltForms
 mod Fronts
 mod Known
 mod Loading

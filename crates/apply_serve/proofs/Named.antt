@@ -1,21 +1,16 @@
--- Sets and properties that were found by name.
+-- Properties that were found by name.
 use Rattle.std.proofs.Common.{◌≡◌, ℕ, zero, suc, ◌+◌, ◌<◌, Bool, true, false, List, [], ◌∷◌, length, None, Some, IfSome, refl, sym, ap, subst, ◌∙◌, arith, cond}
-use Rattle.std.specs.Prelude.{find, slice_get, option_map, option_and_then, unwrap_or, position, if◌then◌else◌}
+use Rattle.std.specs.Prelude.{find, slice_get, option_map, option_and_then, unwrap_or, if◌then◌else◌}
 use Rattle.std.specs.declared.option.Option.{Option}
 use Rattle.std.specs.List.{enumerate_from}
-use Rattle.std.proofs.lemmas.List.Quantifiers.{position-Some}
 use Rattle.std.proofs.lemmas.Option.{slice_get_within}
 use Rattle.edm_values.specs.Lists.{same_text}
 use Rattle.edm_values.specs.Literals.{is_number_kind}
 use Rattle.edm_values.specs.declared.EdmType.{EdmType}
 use Rattle.edm_model.specs.Models.{Model, EntityType, Property, Part}
-use Rattle.edm_model.specs.LookUps.{IsSet, IsType, IsProperty, set_type, set_named, type_at, properties_of, property_at, property_named, found_part, item_named}
+use Rattle.edm_model.specs.LookUps.{IsType, IsProperty, set_type, type_at, properties_of, property_at, property_named, found_part, item_named}
 use Rattle.apply_meaning.specs.Sums.{HasNumberType}
 use Rattle.apply_serve.specs.SumResponses.{number_named, IsNumberOf}
-
-pub set_there : (m : Model) (name : List ℕ) (result : Option ℕ) → result ≡ set_named m name → IfSome result (IsSet m)
-set_there m name None e = tt
-set_there m name (Some k) e = (position-Some (λ s. same_text s.name name) m.sets k (record { name = []; of = 0 }) (sym e)).0
 
 -- an item that was found with its place stands there
 module _ {X : Type 0} (test : X → Bool) where
@@ -55,10 +50,6 @@ property_found m t name p h =
     let there : property_at m p ≡ Some f.0.1 = ap (property_at m) f.2 ∙ q.2 in
     let type_there : p.of < length m.types = slice_get_within m.types p.of q.0 (ap (slice_get m.types) of ∙ q.1) in
     (f.0, f.1, at, (type_there, slice_get_within (properties_of m p.of) p.at f.0.1 there), there)
-
-pub property_there : (m : Model) (t : ℕ) (name : List ℕ) (result : Option Part) → result ≡ found_part t (property_named m t name) → IfSome result (IsProperty m)
-property_there m t name None e = tt
-property_there m t name (Some p) e = (property_found m t name p e).3
 
 -- a property that was found is a number or not
 pub number_found : (m : Model) (set : ℕ) (name : List ℕ) (p : Part) (kind : EdmType) → Some p ≡ found_part (set_type m set) (property_named m (set_type m set) name) → option_map (λ (q : Property). q.kind) (property_at m p) ≡ Some kind → number_named m set name ≡ (if is_number_kind kind then Some (p.at, kind) else None)

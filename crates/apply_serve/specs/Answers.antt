@@ -4,7 +4,7 @@ use Rattle.std.specs.declared.option.Option.{Option}
 use Rattle.std.specs.Io.KnownBytes.{Appends}
 use Rattle.edm_data.specs.Worlds.{World}
 use Rattle.apply_serve.specs.Requests.{request_lines}
-use Rattle.apply_serve.specs.SumResponses.{IsReply}
+use Rattle.apply_serve.specs.Replies.{IsReply}
 
 -- one reply for each line, in order
 abbrev pub IsOut : World → List (List ℕ) → List ℕ → Type 0

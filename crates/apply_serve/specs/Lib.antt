@@ -1,7 +1,9 @@
 pub mod Answers
-pub mod FirstForm
+pub mod Built
+pub mod ExitCodes
 pub mod Loads
-pub mod NamesBefore
+pub mod Replies
+pub mod ReplyBytes
 pub mod Requests
 pub mod Responses
 pub mod Service

@@ -24,7 +24,11 @@ error_body_at code message target = compact_text (object (member (codes "error")
 
 -- why a line is not answered by a body
 pub data Refusal : Type 0 where
-  -- its form is not built
+  -- it has more bytes than a line may have
+  TooLong : Refusal
+  -- it is no request: 0, or the number of the transformation, from 1, where its text stops being a pipeline
+  Syntax : ℕ → Refusal
+  -- the request is not built
   NotBuilt : Refusal
   -- the model has no set of this name
   NotFound : List ℕ → Refusal
@@ -37,6 +41,8 @@ pub data Refusal : Type 0 where
 
 -- the response to a refused line
 abbrev pub refused : Refusal → List ℕ
+refused TooLong = framed (codes "414") (error_body (codes "TooLong") (codes "the line is too long"))
+refused (Syntax k) = framed (codes "400") (error_body_at (codes "Syntax") (codes "the text is no pipeline") (decimal k))
 refused NotBuilt = framed (codes "501") (error_body (codes "NotBuilt") (codes "this form is not built yet"))
 refused (NotFound set) = framed (codes "404") (error_body_at (codes "NotFound") (codes "no such entity set") set)
 refused (Type' k) = framed (codes "400") (error_body_at (codes "Type") (codes "the transformation has no type") (decimal k))

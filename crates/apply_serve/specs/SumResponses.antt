@@ -1,15 +1,13 @@
--- The responses to a line of the first form: this project's own, and for its first steps alone.
+-- The response with one sum over an entity set.
 use Rattle.std.specs.Prelude.{◌≡◌, ℕ, if◌then◌else◌, List, ◌∷◌, [], ◌++◌, codes, Option, Some, None, option_and_then}
 use Rattle.edm_values.specs.Literals.{is_number_kind, plain_text}
 use Rattle.edm_values.specs.Values.{is_null, is_beyond}
 use Rattle.edm_values.specs.declared.EdmType.{EdmType}
 use Rattle.edm_values.specs.declared.Value.{Value}
 use Rattle.edm_model.specs.Models.{Model, Part}
-use Rattle.edm_model.specs.LookUps.{IsProperty, set_type, set_named, property_named}
-use Rattle.edm_data.specs.Worlds.{World}
-use Rattle.apply_meaning.specs.Sums.{HasNumberType, sum_of}
-use Rattle.apply_serve.specs.FirstForm.{IsFirstForm}
-use Rattle.apply_serve.specs.Responses.{NotBuilt, NotFound, Type', Range, Memory, refused, answered}
+use Rattle.edm_model.specs.LookUps.{IsProperty, set_type, property_named}
+use Rattle.apply_meaning.specs.Sums.{HasNumberType}
+use Rattle.apply_serve.specs.Responses.{Range, refused, answered}
 
 -- the property of this name of the set's type, where it is a number: its place and its type
 abbrev pub number_named : Model → ℕ → List ℕ → Option (ℕ × EdmType)
@@ -39,23 +37,3 @@ sum_body set name kind sum =
 -- the response with the sum, or that it is past its range
 unfoldable pub sum_response : List ℕ → List ℕ → EdmType → Value → List ℕ
 sum_response set name kind sum = if is_beyond sum then refused Range else answered (sum_body set name kind sum)
-
--- the response over a set of this place
-abbrev pub response_over : World → List ℕ → List ℕ → ℕ → Option (ℕ × EdmType) → List ℕ
-response_over w set_name name set None = refused (Type' 1)
-response_over w set_name name set (Some property) = sum_response set_name name property.1 (sum_of w set property.0)
-
--- the response to the first that holds: there is no such set; the property is no number of its type; the sum is past its range; else with the sum
-abbrev pub first_response : World → List ℕ → List ℕ → List ℕ → Option ℕ → List ℕ
-first_response w set_name property name None = refused (NotFound set_name)
-first_response w set_name property name (Some set) = response_over w set_name name set (number_named w.model set property)
-
--- the response to a line of the first form, over any accepted world
-abbrev pub form_response : World → List ℕ → List ℕ → List ℕ → List ℕ
-form_response w set_name property name = first_response w set_name property name (set_named w.model set_name)
-
--- the response to a line: every line of the first form is built, and no other; and memory may be wanting
-pub data IsReply (w : World) (line : List ℕ) : List ℕ → Type 0 where
-  built : {set_name property name : List ℕ} → IsFirstForm line set_name property name → IsReply w line (form_response w set_name property name)
-  other : ((set_name property name : List ℕ) → ¬ IsFirstForm line set_name property name) → IsReply w line (refused NotBuilt)
-  memory : IsReply w line (refused Memory)

@@ -1,18 +1,15 @@
 //! From the bytes of the input to the replies to its lines.
-ghost use Rattle.std.specs.Prelude.{◌≡◌, ℕ, ◌+◌, OnOk, OnErr, IfOk, position};
-ghost use Rattle.apply_serve.specs.SumResponses.{IsReply};
+ghost use Rattle.std.specs.Prelude.{◌≡◌, ℕ, ◌+◌, OnOk, OnErr, position};
 ghost use Rattle.std.specs.Str.Lines.{strip_carriage_return};
 ghost use Rattle.apply_io.specs.Causes.{HasCause};
 ghost use Rattle.apply_serve.specs.Requests.{is_line_feed, shown, request_lines};
 ghost use Rattle.apply_serve.specs.Answers.{Responds, RespondsInPart};
 
-use crate::form::first_form;
-use crate::responses::{not_built, out_of_memory};
-use crate::sum::form_response;
+use crate::replies::reply_to;
 use crate::write::write_whole;
 use apply_io::{Failed, Sink};
 use edm_data::Data;
-use std::alloc::{AllocError, Global};
+use std::alloc::Global;
 
 /// The place of the first LF.
 fn line_end(bytes: &[u8]) -> Option<usize>
@@ -31,17 +28,6 @@ fn without_cr(line: &[u8]) -> &[u8]
     }
 }
 
-/// The reply to a line.
-#[tactic(auto, using(crate::proofs::Answering::reasons))]
-fn reply_to(alloc: Global, store: &Data, line: &[u8]) -> Result<Vec<u8>, AllocError>
-    ensures { IfOk result (λ r. IsReply store.now line.now r.items) }
-{
-    match first_form(line) {
-        Some(form) => form_response(alloc, store, form),
-        None => not_built(alloc),
-    }
-}
-
 /// Writes the reply to a line, and nothing for an empty one.
 #[tactic(auto, using(crate::proofs::Answering::replies))]
 fn answer_line<K: Sink>(
@@ -57,10 +43,8 @@ fn answer_line<K: Sink>(
     if line.is_empty() {
         return Ok(());
     }
-    match reply_to(alloc, store, line) {
-        Ok(reply) => write_whole(output, reply.as_slice()),
-        Err(_) => write_whole(output, out_of_memory()),
-    }
+    let reply = reply_to(alloc, store, line);
+    write_whole(output, reply.bytes())
 }
 
 /// Writes the replies to the lines of these bytes, in order.

@@ -1,30 +1,38 @@
 //! The service: it answers `$apply` requests over typed entity sets that are read from two JSON files.
 //!
 //! [`service::serve`] is the one public call: the program's `main` makes the real objects and calls it. It stands on every
-//! other crate: `apply_io` for the outside, `edm_model` and `edm_data` for the files, `apply_meaning` for what requests
-//! mean, `edm_values` for values. Its contract is the service's promise: where the status is Served, nothing of the input
-//! is left and one framed response for each of its lines was written, in order, each the answer that the definitions in
-//! `specs/` give; and every other status comes only where it has its cause.
+//! other crate: `apply_io` for the outside, `edm_model` and `edm_data` for the files, `apply_grammar` and `apply_ast` for
+//! the lines, `apply_meaning` for what requests mean, `edm_values` for values. Its contract is the service's promise: where
+//! the status is Served, nothing of the input is left and one framed response for each of its lines was written, in order,
+//! each the answer that the definitions in `specs/` give; and every other status, want of memory aside, comes only where it
+//! has its cause.
+//!
+//! `words` has the command's words, `file` and `load` read and judge the files, `input` reads the input, `lines` cuts it
+//! into lines, `replies` has the reply to a line, `built` which requests are built, `sum` the response with a sum,
+//! `responses` frames and errors, `refusals` the lines of refused files, and `write` writes.
 #![tactic(auto)]
 
 ghost use Rattle.std.specs.Prelude.{◌≡◌, ◌<◌};
+ghost use Rattle.apply_serve.specs.ExitCodes.{exit_code};
 
 use apply_io::{DiskFolder, Folder, Sink, Source, StdSink, StdSource};
 use apply_meaning::Steps;
 use service::{INPUT_LIMIT, Status, serve};
 use std::alloc::Global;
+use std::env::Env;
 use std::marker::Brand;
 use std::process::ExitCode;
 use std::sync::ledger::{Blank, Ledger};
 use std::thread::Threads;
 use std::{env, io};
 
+pub mod built;
 mod file;
-mod form;
 mod input;
 mod lines;
 mod load;
 mod refusals;
+mod replies;
 mod responses;
 pub mod service;
 mod sum;
@@ -52,7 +60,9 @@ fn run<R: Threads + Sync, F: Folder, S: Source, K: Sink, L: Ledger>(
 }
 
 /// The number that the program ends with.
-fn code(status: Status) -> u8 {
+fn code(status: Status) -> u8
+    ensures { result ≡ exit_code status }
+{
     match status {
         Status::Served => 0,
         Status::Usage => 1,
@@ -104,13 +114,29 @@ fn explain(
     }
 }
 
-fn main(rt: HostRuntime) -> ExitCode {
-    let Ok(args) = env::args(&rt) else {
-        return ExitCode::from(code(Status::Memory));
+/// The words behind the program's name; or how the program ends where one is no UTF-8 text, or memory is wanting.
+fn words_of<R: Env + Alloc<A = Global>>(rt: &R) -> Result<Vec<String>, Status> {
+    let args = match env::args(rt) {
+        Ok(args) => args,
+        Err(e) => match e.kind() {
+            io::ErrorKind::InvalidData => return Err(Status::Usage),
+            _ => return Err(Status::Memory),
+        },
     };
-    let words: Vec<String> = match args.skip(1).collect(rt.alloc()) {
+    match args.skip(1).collect(rt.alloc()) {
+        Ok(words) => Ok(words),
+        Err(_) => Err(Status::Memory),
+    }
+}
+
+/// Serves over the real objects, and tells on standard error what was wrong.
+fn main(rt: HostRuntime) -> ExitCode {
+    let words = match words_of(&rt) {
         Ok(words) => words,
-        Err(_) => return ExitCode::from(code(Status::Memory)),
+        Err(status) => {
+            let _ = explain(&rt, status, &[], 0);
+            return ExitCode::from(code(status));
+        }
     };
     let mut folder = DiskFolder::new(&rt);
     let mut input = StdSource::new(rt.reader());

@@ -14,6 +14,13 @@ pub fn out_of_memory() -> &'static [u8]
     b"503 53\n{\"error\":{\"code\":\"Memory\",\"message\":\"out of memory\"}}\n"
 }
 
+/// The response to a line that has more bytes than a line may have. It takes no memory.
+pub fn too_long() -> &'static [u8]
+    ensures { result.now ≡ spec.refused spec.TooLong }
+{
+    b"414 61\n{\"error\":{\"code\":\"TooLong\",\"message\":\"the line is too long\"}}\n"
+}
+
 /// `code SP length LF body LF`.
 pub fn framed(alloc: Global, code: &str, body: &[u8]) -> Result<Vec<u8>, AllocError>
     ensures { IfOk result (λ r. r.items ≡ spec.framed code.now body.now) }
@@ -80,7 +87,16 @@ fn error_body_at(
     value.to_string(alloc)
 }
 
-/// The response to a line whose form is not built.
+/// The response to a line that is no request from this step on, counted from 1; 0 where it has no frame.
+pub fn no_pipeline(alloc: Global, step: u32) -> Result<Vec<u8>, AllocError>
+    ensures { IfOk result (λ r. r.items ≡ spec.refused (spec.Syntax step)) }
+{
+    let step = step.to_string(alloc)?;
+    let body = error_body_at(alloc, "Syntax", "the text is no pipeline", step.as_str())?;
+    framed(alloc, "400", body.as_bytes())
+}
+
+/// The response to a request that is not built.
 pub fn not_built(alloc: Global) -> Result<Vec<u8>, AllocError>
     ensures { IfOk result (λ r. r.items ≡ spec.refused spec.NotBuilt) }
 {

@@ -127,7 +127,7 @@ pub fn serve<R: Threads + Sync, F: Folder, S: Source, K: Sink, L: Ledger>(
     ensures usage { (result ≡ Status.Usage) ↔ (words_of.file_names (texts_of words.now) ≡ None) }
     ensures usage_quiet { result ≡ Status.Usage → (folder.new ≡ folder.old) × (input.new ≡ input.old) × (output.new ≡ output.old) }
 
-    // The headline: nothing is left, and one framed response for each line was written, in order.
+    // The promise: nothing is left, and one framed response for each line was written, in order.
     ensures end { result ≡ Status.Served → IsAtEnd (S.left input.new) }
     ensures served { result ≡ Status.Served → ServesAll (F.files folder.old) (texts_of words.now) INPUT_LIMIT
         (S.left input.old) (S.left input.new) (K.held output.old) (K.held output.new) }

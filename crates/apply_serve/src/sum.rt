@@ -1,4 +1,4 @@
-//! The response to a line of the first form: one sum over an entity set.
+//! The response with one sum over an entity set.
 ghost use Rattle.std.specs.Prelude.{◌≡◌, ◌++◌, ℕ, IfOk, IfSome, OnOk, option_map};
 ghost use Rattle.std.specs.Bool.{IsFalse};
 ghost use Rattle.edm_model.specs.LookUps.{IsSet, IsProperty};
@@ -8,32 +8,19 @@ ghost use Rattle.edm_values.specs.Values.{seen_value, is_beyond};
 ghost use Rattle.apply_serve.specs.SumResponses.{IsNumberOf};
 ghost use Rattle.apply_serve.specs.SumResponses as spec;
 
-use crate::form::FirstForm;
-use crate::responses::{framed, not_found, past_range, untyped};
-use apply_meaning::first_sum;
-use edm_data::Data;
+use crate::responses::{framed, past_range};
 use edm_model::{Model, PropId, SetId};
 use edm_values::{EdmType, Seen, Value, print_value};
 use std::alloc::{AllocError, Global};
 
 /// A property that is a number, and its type.
 #[derive(Clone, Copy, Debug)]
-struct NumberProperty {
-    property: PropId,
-    kind: EdmType,
-}
-
-/// The set of this name.
-#[tactic(auto, using(crate::proofs::Named::set_there))]
-fn set_named(model: &Model, name: &str) -> Option<SetId>
-    ensures value { result ≡ find.set_named model.now name.now }
-    ensures there { IfSome result (IsSet model.now) }
-{
-    model.set_named(name)
+pub struct NumberProperty {
+    pub property: PropId,
+    pub kind: EdmType,
 }
 
 /// The property of this name of the set's type.
-#[tactic(auto, using(crate::proofs::Named::property_there))]
 fn property_named(model: &Model, set: SetId, name: &str) -> Option<PropId>
     requires { IsSet model.now set }
     ensures value { result ≡ find.found_part (find.set_type model.now set) (find.property_named model.now (find.set_type model.now set) name.now) }
@@ -43,7 +30,7 @@ fn property_named(model: &Model, set: SetId, name: &str) -> Option<PropId>
 }
 
 /// The property of this name of the set's type, where it is a number.
-fn number_named(model: &Model, set: SetId, name: &str) -> Option<NumberProperty>
+pub fn number_named(model: &Model, set: SetId, name: &str) -> Option<NumberProperty>
     requires { IsSet model.now set }
     ensures value { option_map (λ p. (p.property.at, p.kind)) result ≡ spec.number_named model.now set name.now }
     ensures found { IfSome result (λ p. IsNumberOf model.now set p.property) }
@@ -113,7 +100,7 @@ fn sum_body(
 
 /// The response with the sum, or that it is past its range.
 #[tactic(auto, unfolding(crate::specs::SumResponses::sum_response))]
-fn sum_response(
+pub fn sum_response(
     alloc: Global,
     set: &str,
     name: &str,
@@ -127,23 +114,4 @@ fn sum_response(
     }
     let body = sum_body(alloc, set, name, kind, sum.seen())?;
     framed(alloc, "200", body.as_slice())
-}
-
-/// The response to a line of the first form.
-pub fn form_response(
-    alloc: Global,
-    store: &Data,
-    form: FirstForm<'_>,
-) -> Result<Vec<u8>, AllocError>
-    ensures { IfOk result (λ r. r.items ≡ spec.form_response store.now form.entry.set.now form.entry.property.now form.entry.name.now) }
-{
-    let model = store.model();
-    let Some(set) = set_named(model, form.set) else {
-        return not_found(alloc, form.set);
-    };
-    let Some(number) = number_named(model, set, form.property) else {
-        return untyped(alloc, 1);
-    };
-    let sum = first_sum(store, set, number.property);
-    sum_response(alloc, form.set, form.name, number.kind, &sum)
 }

@@ -1,6 +1,6 @@
 //! The worked rows of the service, over objects in memory; its files are short ones, and the sample's.
-use crate::run;
 use crate::service::Status;
+use crate::{code, run};
 use apply_io::{MemFolder, MemSink, MemSource};
 use std::alloc::Global;
 use std::marker::Brand;
@@ -143,8 +143,36 @@ fn a_line_is_refused_for_the_first_reason_that_holds(rt: HostRuntime) -> Result<
             b"501 68\n{\"error\":{\"code\":\"NotBuilt\",\"message\":\"this form is not built yet\"}}\n".as_slice(),
         ),
         (
-            b"Sales?$apply=aggregate( Amount with sum as T)\n".as_slice(),
+            b"/Sales?%24apply=aggregate( Amount with sum as T)\n".as_slice(),
+            b"200 76\n{\"@context\":\"$metadata#Sales(T)\",\"value\":[{\"T@type\":\"Decimal\",\"T\":\"26.00\"}]}\n".as_slice(),
+        ),
+        (
+            b"Sales?$apply=filter(not ID eq 1)\n".as_slice(),
             b"501 68\n{\"error\":{\"code\":\"NotBuilt\",\"message\":\"this form is not built yet\"}}\n".as_slice(),
+        ),
+        (
+            b"explain Sales?$apply=aggregate(Amount with sum as T)\n".as_slice(),
+            b"501 68\n{\"error\":{\"code\":\"NotBuilt\",\"message\":\"this form is not built yet\"}}\n".as_slice(),
+        ),
+        (
+            b"Shops?$apply=identity\n".as_slice(),
+            b"404 77\n{\"error\":{\"code\":\"NotFound\",\"message\":\"no such entity set\",\"target\":\"Shops\"}}\n".as_slice(),
+        ),
+        (
+            b"Sales\n".as_slice(),
+            b"400 76\n{\"error\":{\"code\":\"Syntax\",\"message\":\"the text is no pipeline\",\"target\":\"0\"}}\n".as_slice(),
+        ),
+        (
+            b"Sales?$apply=aggregate(Amount with average as X)\n".as_slice(),
+            b"400 76\n{\"error\":{\"code\":\"Syntax\",\"message\":\"the text is no pipeline\",\"target\":\"1\"}}\n".as_slice(),
+        ),
+        (
+            b"Sales?$apply=filter(ID eq 1)/aggregate(\n".as_slice(),
+            b"400 76\n{\"error\":{\"code\":\"Syntax\",\"message\":\"the text is no pipeline\",\"target\":\"2\"}}\n".as_slice(),
+        ),
+        (
+            b"Shops?$apply=identity/\n".as_slice(),
+            b"400 76\n{\"error\":{\"code\":\"Syntax\",\"message\":\"the text is no pipeline\",\"target\":\"2\"}}\n".as_slice(),
         ),
         (
             b"Sales?$apply=aggregate(Amount with sum as sum)".as_slice(),
@@ -152,11 +180,7 @@ fn a_line_is_refused_for_the_first_reason_that_holds(rt: HostRuntime) -> Result<
         ),
         (
             b"Sales?$apply=aggregate(Amount with sum as desc)\n".as_slice(),
-            b"501 68\n{\"error\":{\"code\":\"NotBuilt\",\"message\":\"this form is not built yet\"}}\n".as_slice(),
-        ),
-        (
-            b"/Shops?$apply=aggregate(Amount with sum as T)\n".as_slice(),
-            b"501 68\n{\"error\":{\"code\":\"NotBuilt\",\"message\":\"this form is not built yet\"}}\n".as_slice(),
+            b"400 76\n{\"error\":{\"code\":\"Syntax\",\"message\":\"the text is no pipeline\",\"target\":\"1\"}}\n".as_slice(),
         ),
     ] {
         let ran = outcome(&rt, rt.alloc(), &Case { input, ..PLAIN })?;
@@ -164,6 +188,41 @@ fn a_line_is_refused_for_the_first_reason_that_holds(rt: HostRuntime) -> Result<
         assert_eq!(rt; ran.output.as_slice(), output);
     }
     Ok(())
+}
+
+#[test]
+fn a_line_that_is_too_long_is_told_so_and_the_next_is_answered(
+    rt: HostRuntime,
+) -> Result<(), Fail> {
+    let alloc = rt.alloc();
+    let words = words(alloc)?;
+    let mut input = vec![in alloc; b'x'; 65_536]?;
+    input.extend_from_slice(b"x\nSales?$apply=aggregate(Amount with sum as Total)\n")?;
+    let ran = outcome_of(&rt, alloc, &PLAIN, words.as_slice(), input)?;
+    let mut expected =
+        b"414 61\n{\"error\":{\"code\":\"TooLong\",\"message\":\"the line is too long\"}}\n"
+            .as_slice()
+            .to_vec(alloc)?;
+    expected.extend_from_slice(FIRST)?;
+    assert_eq!(rt; ran.status, Status::Served);
+    assert_eq!(rt; ran.output.as_slice(), expected.as_slice());
+    Ok(())
+}
+
+#[test]
+fn each_status_has_its_number(rt: HostRuntime) {
+    for (status, number) in [
+        (Status::Served, 0u8),
+        (Status::Usage, 1),
+        (Status::ModelRefused, 2),
+        (Status::DataRefused, 3),
+        (Status::ReadFault, 4),
+        (Status::WriteFault, 5),
+        (Status::Memory, 6),
+        (Status::InputLimit, 7),
+    ] {
+        assert_eq!(rt; code(status), number);
+    }
 }
 
 #[test]

@@ -1,0 +1,16 @@
+-- The bytes that the program has for a reply.
+use Rattle.std.specs.Prelude.{ℕ, List, Result, Ok, Err, Vec}
+use Rattle.std.specs.declared.alloc.Global.{Global}
+use Rattle.apply_serve.specs.declared.replies.Reply.{Reply}
+use Rattle.apply_serve.specs.declared.replies.Reply.TheVariants.{Made, Constant}
+use Rattle.apply_serve.specs.Responses.{Memory, refused}
+
+-- the bytes of a reply
+abbrev pub bytes_of : Reply → List ℕ
+bytes_of (Made bytes) = bytes.items
+bytes_of (Constant bytes) = bytes.now
+
+-- the bytes of a response that was made, or that memory was wanting
+abbrev pub bytes_made : {E : Type 0} → Result (Vec ℕ Global) E → List ℕ
+bytes_made (Ok bytes) = bytes.items
+bytes_made (Err e) = refused Memory
