@@ -22,9 +22,10 @@ use std::alloc::Global;
 use std::env::Env;
 use std::marker::Brand;
 use std::process::ExitCode;
+use std::rt::Files as HostFiles;
 use std::sync::ledger::{Blank, Ledger};
 use std::thread::Threads;
-use std::{env, io};
+use std::{env, fs, io};
 
 pub mod built;
 mod file;
@@ -75,9 +76,17 @@ fn code(status: Status) -> u8
     }
 }
 
+/// The file of the two that cannot be opened, the model file first.
+fn unreadable<'a, R: HostFiles>(rt: &R, model: &'a str, data: &'a str) -> &'a str {
+    match fs::open(rt, model) {
+        Ok(_) => data,
+        Err(_) => model,
+    }
+}
+
 /// Tells on standard error what was wrong, where something was.
-fn explain(
-    rt: &impl Eprint,
+fn explain<R: Eprint + HostFiles>(
+    rt: &R,
     status: Status,
     words: &[String],
     input_faults: u64,
@@ -103,7 +112,8 @@ fn explain(
             if input_faults > 0 {
                 eprintln!(rt; "apply_serve: standard input could not be read")
             } else {
-                eprintln!(rt; "apply_serve: a file could not be read: {model} or {data}")
+                let name = unreadable(rt, model, data);
+                eprintln!(rt; "apply_serve: the file {name} could not be read")
             }
         }
         Status::WriteFault => eprintln!(rt; "apply_serve: standard output could not be written"),
