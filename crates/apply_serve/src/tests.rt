@@ -12,6 +12,10 @@ use std::thread::Threads;
 const MODEL: &str =
     "{\"$Version\":\"4.01\",\"$EntityContainer\":\"W.C\",\"W\":{\"Sale\":{\"$Kind\":\"EntityType\",\"$Key\":[\"ID\"],\"ID\":{\"$Type\":\"Edm.Int64\"},\"Amount\":{\"$Type\":\"Edm.Decimal\",\"$Precision\":16,\"$Scale\":2,\"$Nullable\":true}},\"C\":{\"$Kind\":\"EntityContainer\",\"Sales\":{\"$Collection\":true,\"$Type\":\"W.Sale\"}}}}";
 
+/// Organisations, each below another or none.
+const ORGS: &str =
+    "{\"$Version\":\"4.01\",\"$EntityContainer\":\"W.C\",\"W\":{\"Org\":{\"$Kind\":\"EntityType\",\"$Key\":[\"ID\"],\"ID\":{},\"ParentID\":{\"$Nullable\":true},\"Superordinate\":{\"$Kind\":\"NavigationProperty\",\"$Type\":\"W.Org\",\"$ReferentialConstraint\":{\"ParentID\":\"ID\"}}},\"C\":{\"$Kind\":\"EntityContainer\",\"Orgs\":{\"$Collection\":true,\"$Type\":\"W.Org\"}}}}";
+
 const DATA: &str =
     "{\"Sales\":[{\"ID\":1,\"Amount\":\"10.00\"},{\"ID\":\"2\",\"Amount\":\"5.50\"},{\"ID\":\"3\",\"Amount\":\"7.25\"},{\"ID\":\"4\",\"Amount\":null},{\"ID\":\"5\",\"Amount\":1},{\"ID\":\"6\",\"Amount\":\"2.25\"}]}";
 
@@ -298,6 +302,24 @@ fn a_refused_file_has_its_line(rt: HostRuntime) -> Result<(), Fail> {
             "{\"Sales\":[{\"ID\":1},{\"ID\":\"1\"}]}",
             Status::DataRefused,
             b"data TwiceKey \"Sales\" 1\n".as_slice(),
+        ),
+        (
+            ORGS,
+            "{\"Orgs\":[{\"ID\":\"A\"},{\"ID\":\"A\"}]}",
+            Status::DataRefused,
+            b"data TwiceKey \"Orgs\" 1\n".as_slice(),
+        ),
+        (
+            ORGS,
+            "{\"Orgs\":[{\"ID\":\"A\",\"ParentID\":\"Z\"}]}",
+            Status::DataRefused,
+            b"data Dangling \"Orgs\" 0\n".as_slice(),
+        ),
+        (
+            ORGS,
+            "{\"Orgs\":[{\"ID\":7}]}",
+            Status::DataRefused,
+            b"data Shape \"Orgs\" 0\n".as_slice(),
         ),
     ] {
         let ran = outcome(
