@@ -1,5 +1,5 @@
 -- From the bytes that were read to what the files make.
-use Rattle.std.proofs.Common.{◌≡◌, ◌≢◌, ℕ, ◌+◌, ◌<◌, ◌≤◌, Bool, true, false, List, length, take, nat_lt, None, Some, IsSome, refl, sym, ap, subst, ◌∙◌, arith}
+use Rattle.std.proofs.Common.{◌≡◌, ℕ, ◌+◌, ◌<◌, ◌≤◌, Bool, true, false, List, length, take, nat_lt, None, Some, IsSome, refl, sym, ap, subst, ◌∙◌, arith}
 use Rattle.std.specs.declared.option.Option.{Option}
 use Rattle.std.proofs.lemmas.List.{take_all, length-take}
 use Rattle.std.proofs.lemmas.Bool.Decides.{nat_tests}
@@ -8,10 +8,9 @@ use Rattle.edm_model.specs.Models.{Model}
 use Rattle.edm_model.specs.ModelFile.{ModelReading, model_limit, model_reading}
 use Rattle.edm_data.specs.Worlds.{World}
 use Rattle.edm_data.specs.DataFile.{DataReading, data_limit, data_reading}
-use Rattle.apply_serve.specs.Responses.{model_line, data_line}
 use Rattle.apply_serve.specs.Words.{FileNames, file_names}
 use Rattle.apply_serve.specs.Transfers.{IsRead}
-use Rattle.apply_serve.specs.Loads.{Outcome, Missing, RefusedModel, RefusedData, Loaded, outcome, files_outcome, model_outcome, data_outcome, judged_model, judged_data, HasOutcome, FilesMake, MakesModel, RefusesModel, MakesWorld, RefusesData, Lacks}
+use Rattle.apply_serve.specs.Loads.{Outcome, Missing, RefusedModel, RefusedData, Loaded, files_outcome, model_outcome, data_outcome, judged_model, judged_data, HasOutcome, FilesMake, MakesModel, RefusesModel, MakesWorld, RefusesData, Lacks}
 use Rattle.apply_serve.proofs.Fronts.{kept_files}
 
 -- ---- a file that was read up to its limit is judged as the whole file

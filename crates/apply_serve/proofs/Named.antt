@@ -1,5 +1,5 @@
 -- Properties that were found by name.
-use Rattle.std.proofs.Common.{◌≡◌, ℕ, zero, suc, ◌+◌, ◌<◌, Bool, true, false, List, [], ◌∷◌, length, None, Some, IfSome, refl, sym, ap, subst, ◌∙◌, arith, cond}
+use Rattle.std.proofs.Common.{◌≡◌, ℕ, suc, ◌+◌, ◌<◌, Bool, true, false, List, [], ◌∷◌, length, None, Some, refl, sym, ap, subst, ◌∙◌, arith, cond}
 use Rattle.std.specs.Prelude.{find, slice_get, option_map, option_and_then, unwrap_or, if◌then◌else◌}
 use Rattle.std.specs.declared.option.Option.{Option}
 use Rattle.std.specs.List.{enumerate_from}
@@ -8,8 +8,7 @@ use Rattle.edm_values.specs.Lists.{same_text}
 use Rattle.edm_values.specs.Literals.{is_number_kind}
 use Rattle.edm_values.specs.declared.EdmType.{EdmType}
 use Rattle.edm_model.specs.Models.{Model, EntityType, Property, Part}
-use Rattle.edm_model.specs.LookUps.{IsType, IsProperty, set_type, type_at, properties_of, property_at, property_named, found_part, item_named}
-use Rattle.apply_meaning.specs.Sums.{HasNumberType}
+use Rattle.edm_model.specs.LookUps.{IsProperty, set_type, type_at, properties_of, property_at, property_named, found_part, item_named}
 use Rattle.apply_serve.specs.SumResponses.{number_named, IsNumberOf}
 
 -- an item that was found with its place stands there

@@ -10,7 +10,6 @@ use Rattle.edm_model.specs.Models.{Model, EntitySet}
 use Rattle.edm_model.specs.LookUps.{set_name}
 use Rattle.edm_data.specs.Worlds.{entity_at}
 use Rattle.edm_data.specs.DataFile.{DataReading}
-use Rattle.apply_serve.specs.Responses.{json_string, data_line}
 use Rattle.apply_serve.specs.Loads.{RefusedData, judged_data}
 use Rattle.apply_serve.specs.DataRefusals.{name_at, fault_line, IsLineOf}
 use Rattle.edm_data.specs.Refusals.{Tells}

@@ -1,4 +1,4 @@
-use Rattle.std.proofs.Common.{◌≡◌, ◌+◌, length, take, arith, rules, ap}
+use Rattle.std.proofs.Common.{◌≡◌, length, take, arith, rules, ap}
 use Rattle.std.proofs.lemmas.List.{length-take-le}
 use Rattle.apply_serve.proofs.Fronts.{IsFront-more, front-ended, KeepsFiles-more}
 use Rattle.apply_serve.proofs.file.read_file.Goals as goal

@@ -1,4 +1,4 @@
-use Rattle.std.proofs.Common.{◌≡◌, arith, ◌∙◌, ap, ◌++◌, ◌∷◌, [], map, string_bytes, subst, List, ℕ, sym, length}
+use Rattle.std.proofs.Common.{arith, ◌∙◌, ap, ◌∷◌, [], map, string_bytes, length}
 use Rattle.std.proofs.lemmas.List.{map-append}
 use Rattle.apply_serve.proofs.SetNames.{set_at, name_more, name_all}
 use Rattle.apply_serve.proofs.refusals.set_names.Goals as goal

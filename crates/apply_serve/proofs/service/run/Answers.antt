@@ -1,4 +1,4 @@
-use Rattle.std.proofs.Common.{◌≡◌, refl, sym, ap, Err, inl, inr}
+use Rattle.std.proofs.Common.{refl, sym, ap, Err, inl, inr}
 use Rattle.apply_serve.specs.Service.{in_model_line, in_data_line, in_responses}
 use Rattle.apply_serve.proofs.Loading.{HasOutcome-files}
 use Rattle.apply_serve.proofs.service.run.Goals as goal

@@ -1,5 +1,4 @@
-use Rattle.std.proofs.Common.{ℕ}
-use Rattle.apply_serve.proofs.Completeness.{Says, model_comes, data_comes, limit_comes, all_served}
+use Rattle.apply_serve.proofs.Completeness.{model_comes, data_comes, limit_comes, all_served}
 use Rattle.apply_serve.proofs.service.serve.Goals as goal
 
 pub returns-clause-model_comes : goal.returns-clause-model_comes
