@@ -1,5 +1,5 @@
 -- What contracts see of the objects in memory.
-use Rattle.std.specs.Prelude.{ℕ, ◌+◌, ◌-◌, ◌^◌, min, List}
+use Rattle.std.specs.Prelude.{ℕ, List}
 use Rattle.apply_io.specs.Files.{Files}
 
 -- a source: the bytes that are left, the most that a call gives, the numbers of the calls that fail,
@@ -26,7 +26,3 @@ pub record FolderState : Type 0 where
   pub fails : List ℕ
   pub calls : ℕ
   pub faults : ℕ
-
--- a count after one more; it stands still at the last value of its type
-abbrev pub next_count : ℕ → ℕ
-next_count n = min (n + 1) (2 ^ 64 - 1)

@@ -5,10 +5,11 @@
 //! last value, and it then leaves what the object tells as it was. What an object holds is optional: over memory it is
 //! told, so that contracts can speak of the bytes; over a file, a terminal or a pipe nothing is told.
 //!
-//! The crate stands on `std` alone, and `thiserror` for its error. `MemSource`, `MemSink` and `MemFolder` are objects in
-//! memory that fail in the calls that they are told to, for tests. `StdSource`, `StdSink` and `DiskFolder` are the trusted
-//! edge, which only the program's `main` uses. It promises that every object meets its trait, that those in memory do
-//! exactly what their contracts say, and that no call but `MemSink::new` takes memory.
+//! The crate stands on `std`, on `thiserror` for its error, and on `arrayvec` for the names that a folder keeps.
+//! `MemSource`, `MemSink` and `MemFolder` are objects in memory that fail in the calls that they are told to, for tests.
+//! `StdSource`, `StdSink` and `DiskFolder` are the trusted edge, which only the program's `main` makes. The crate promises
+//! that every object meets its trait and that those in memory do exactly what their contracts say. Of the calls over
+//! objects in memory only `MemSink::new` takes memory; a source or a sink over std takes what its reader or writer takes.
 #![tactic(auto)]
 
 ghost use Rattle.std.specs.Prelude.{◌≡◌, ◌≢◌, ℕ, ◌+◌, ◌-◌, ◌^◌, ◌<◌, ◌≤◌, ◌↔◌, List, [], length, min, take, drop, Contains, OnErr, OnOk, IfOk, IsOk, IsErr, IsSome, Ok, Some, vec_len, vec_capacity};
@@ -22,8 +23,6 @@ use thiserror::Error;
 
 mod adapters;
 mod memory;
-#[cfg(test)]
-mod tests;
 
 pub use adapters::{DiskFolder, StdSink, StdSource};
 pub use memory::{MemFolder, MemSink, MemSource};

@@ -2,8 +2,7 @@
 ghost use Rattle.std.specs.Prelude.{◌≡◌, ℕ, ◌+◌, ◌-◌, ◌^◌, ◌<◌, ◌≤◌, ◌↔◌, List, [], length, min, take, drop, Contains, OnErr, OnOk, IfOk, IsOk, IsErr, MatchResult, Ok, Some, IsSome, IsNone, ◌⊎◌, refl, vec_len, vec_capacity, map};
 ghost use Rattle.std.specs.Io.{ReadsAtMost, WritesAtMost};
 ghost use Rattle.std.specs.Io.KnownBytes.{ReadConsumes, WriteAppends};
-ghost use Rattle.apply_io.specs.Causes.{HasCause};
-ghost use Rattle.apply_io.specs.Memory.{next_count};
+ghost use Rattle.apply_io.specs.Causes.{HasCause, next_count, CountsFault};
 ghost use Rattle.std.specs.Option.{option_copied, ForSome};
 ghost use Rattle.std.specs.List.{IsDistinct};
 ghost use Rattle.std.specs.Str.{bytes_eq};
@@ -83,7 +82,7 @@ impl Source for MemSource {
         ensures bound { ReadsAtMost result buf.new }
         ensures bytes { ReadConsumes (Some self.old.left) (Some self.new.left) result buf.new }
         ensures cause { HasCause self.old.faults self.new.faults result }
-        ensures faults { MatchResult result (λ _. self.new.faults ≡ self.old.faults) (λ _. self.new.faults ≡ next_count self.old.faults) }
+        ensures faults { CountsFault self.old.faults self.new.faults result }
         ensures no_room { length buf.old ≡ 0 → (result ≡ Ok 0) × (self.new ≡ self.old) }
         ensures fails { 0 < length buf.old → IsErr result ↔ Contains self.old.fails (next_count self.old.calls) }
         ensures count { IfOk result (λ n. n ≡ min (min (length buf.old) self.old.most) (length self.old.left)) }
@@ -178,7 +177,7 @@ impl Sink for MemSink {
         ensures some { IfOk result (λ n. 0 < length piece.now → 0 < n) }
         ensures bytes { WriteAppends (Some self.old.held) (Some self.new.held) result piece.now }
         ensures cause { HasCause self.old.faults self.new.faults result }
-        ensures faults { MatchResult result (λ _. self.new.faults ≡ self.old.faults) (λ _. self.new.faults ≡ next_count self.old.faults) }
+        ensures faults { CountsFault self.old.faults self.new.faults result }
         ensures no_piece { length piece.now ≡ 0 → (result ≡ Ok 0) × (self.new ≡ self.old) }
         ensures fails { 0 < length piece.now → IsErr result
             ↔ (Contains self.old.fails (next_count self.old.calls) ⊎ (self.old.room ≡ 0)) }
@@ -270,7 +269,7 @@ impl Folder for MemFolder {
         ensures steady { self.old.fails ≡ [] → (self.new.fails ≡ [])
             × (IsSome (content self.old.files name.now) → IsOk result) }
         ensures cause { HasCause self.old.faults self.new.faults result }
-        ensures faults { MatchResult result (λ _. self.new.faults ≡ self.old.faults) (λ _. self.new.faults ≡ next_count self.old.faults) }
+        ensures faults { CountsFault self.old.faults self.new.faults result }
         ensures no_room { length buf.old ≡ 0 → (result ≡ Ok 0) × (self.new ≡ self.old) }
         ensures fails { 0 < length buf.old → IsErr result
             ↔ (Contains self.old.fails (next_count self.old.calls) ⊎ IsNone (content self.old.files name.now)) }
