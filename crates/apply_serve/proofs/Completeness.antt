@@ -7,19 +7,9 @@ use Rattle.apply_io.specs.Files.{Files}
 use Rattle.edm_data.specs.Worlds.{World}
 use Rattle.apply_serve.specs.Words.{file_names}
 use Rattle.apply_serve.specs.Loads.{Outcome, Missing, RefusedModel, RefusedData, Loaded, files_outcome, HasOutcome}
-use Rattle.apply_serve.specs.Service.{ServesAll, Refuses, Overruns, IsFault, Tells, IsUndisturbed}
+use Rattle.apply_serve.specs.Service.{Run, Says, ReadFailed, input_limit, IsFault, Tells, IsUndisturbed}
 use Rattle.apply_serve.specs.declared.service.Status.{Status}
 use Rattle.apply_serve.specs.declared.service.Status.TheVariants as status
-
--- what each status says of a run
-pub record Says (told : Option Files) (steady : Type 0) (words : List (List ℕ)) (limit : ℕ) (left0 left1 held0 held1 : Option (List ℕ)) (input0 input1 output0 output1 folder0 folder1 : ℕ) (result : Status) : Type 0 where
-  pub usage : result ≡ status.Usage → file_names words ≡ None
-  pub served : result ≡ status.Served → ServesAll told words limit left0 left1 held0 held1
-  pub model : result ≡ status.ModelRefused → Refuses told words RefusedModel held0 held1
-  pub refused : result ≡ status.DataRefused → Refuses told words RefusedData held0 held1
-  pub read : result ≡ status.ReadFault → Rose input0 input1 ⊎ (Rose folder0 folder1 × (steady → HasOutcome told words Missing))
-  pub limited : result ≡ status.InputLimit → Overruns told words limit left0 left1
-  pub write : result ≡ status.WriteFault → Rose output0 output1
 
 -- two outcomes of one folder are one
 one_outcome : (told : Option Files) (words : List (List ℕ)) (a b : Outcome) → HasOutcome told words a → Tells told words b → a ≡ b
@@ -44,55 +34,67 @@ taken_more (Some all) (Some left) limit bytes taken e h size =
     let sum : length all ≡ length (taken ++ left) = ap length h in
     omega (arith, sum, length-append taken left, ap length same)
 
-module _ (told : Option Files) (steady : Type 0) (words : List (List ℕ)) (limit : ℕ) (left0 left1 held0 held1 : Option (List ℕ)) (input0 input1 output0 output1 folder0 folder1 : ℕ) where
+module _ (r : Run) (is_steady same_folder same_input same_output : Type 0) (h : Says r is_steady same_folder same_input same_output) where
   -- a refused model file
-  pub model_comes : (result : Status) → Says told steady words limit left0 left1 held0 held1 input0 input1 output0 output1 folder0 folder1 result → (line : List ℕ) → Tells told words (RefusedModel line) → (result ≡ status.ModelRefused) ⊎ IsFault result
-  model_comes status.Served h line t = let e = one_outcome told words _ _ (h.served refl).loaded t in absurd cc
-  model_comes status.Usage h line t = let e = no_words told words _ (h.usage refl) t in absurd cc
-  model_comes status.ModelRefused h line t = inl refl
-  model_comes status.DataRefused h line t = let e = one_outcome told words _ _ (h.refused refl).judged t in absurd cc
-  model_comes status.ReadFault h line t = inr (inl refl)
-  model_comes status.WriteFault h line t = inr (inr (inl refl))
-  model_comes status.Memory h line t = inr (inr (inr refl))
-  model_comes status.InputLimit h line t = let e = one_outcome told words _ _ (h.limited refl).loaded t in absurd cc
+  pub model_comes : (line : List ℕ) → Tells r.files r.words (RefusedModel line) → (r.status ≡ status.ModelRefused) ⊎ IsFault r.status
+  model_comes line t = by r.status refl
+    where
+      by : (s : Status) → r.status ≡ s → (r.status ≡ status.ModelRefused) ⊎ IsFault r.status
+      by status.Served e = let o = one_outcome r.files r.words _ _ (h.served e).loaded t in absurd cc
+      by status.Usage e = let o = no_words r.files r.words _ (h.usage e).0 t in absurd cc
+      by status.ModelRefused e = inl e
+      by status.DataRefused e = let o = one_outcome r.files r.words _ _ (h.data_refused e).0.judged t in absurd cc
+      by status.ReadFault e = inr (inl e)
+      by status.WriteFault e = inr (inr (inl e))
+      by status.Memory e = inr (inr (inr e))
+      by status.InputLimit e = let o = one_outcome r.files r.words _ _ (h.overrun e).0.loaded t in absurd cc
 
   -- a refused data file
-  pub data_comes : (result : Status) → Says told steady words limit left0 left1 held0 held1 input0 input1 output0 output1 folder0 folder1 result → (line : List ℕ) → Tells told words (RefusedData line) → (result ≡ status.DataRefused) ⊎ IsFault result
-  data_comes status.Served h line t = let e = one_outcome told words _ _ (h.served refl).loaded t in absurd cc
-  data_comes status.Usage h line t = let e = no_words told words _ (h.usage refl) t in absurd cc
-  data_comes status.ModelRefused h line t = let e = one_outcome told words _ _ (h.model refl).judged t in absurd cc
-  data_comes status.DataRefused h line t = inl refl
-  data_comes status.ReadFault h line t = inr (inl refl)
-  data_comes status.WriteFault h line t = inr (inr (inl refl))
-  data_comes status.Memory h line t = inr (inr (inr refl))
-  data_comes status.InputLimit h line t = let e = one_outcome told words _ _ (h.limited refl).loaded t in absurd cc
+  pub data_comes : (line : List ℕ) → Tells r.files r.words (RefusedData line) → (r.status ≡ status.DataRefused) ⊎ IsFault r.status
+  data_comes line t = by r.status refl
+    where
+      by : (s : Status) → r.status ≡ s → (r.status ≡ status.DataRefused) ⊎ IsFault r.status
+      by status.Served e = let o = one_outcome r.files r.words _ _ (h.served e).loaded t in absurd cc
+      by status.Usage e = let o = no_words r.files r.words _ (h.usage e).0 t in absurd cc
+      by status.ModelRefused e = let o = one_outcome r.files r.words _ _ (h.model_refused e).0.judged t in absurd cc
+      by status.DataRefused e = inl e
+      by status.ReadFault e = inr (inl e)
+      by status.WriteFault e = inr (inr (inl e))
+      by status.Memory e = inr (inr (inr e))
+      by status.InputLimit e = let o = one_outcome r.files r.words _ _ (h.overrun e).0.loaded t in absurd cc
 
   -- an input past its limit
-  pub limit_comes : (result : Status) → Says told steady words limit left0 left1 held0 held1 input0 input1 output0 output1 folder0 folder1 result → (w : World) (bytes : List ℕ) → Tells told words (Loaded w) → left0 ≡ Some bytes → limit < length bytes → (result ≡ status.InputLimit) ⊎ IsFault result
-  limit_comes status.Served h w bytes t e long =
-      let s = h.served refl in
-      absurd (omega (arith, taken_within left0 left1 limit bytes s.bytes e s.taken.taken s.taken.ended s.taken.within))
-  limit_comes status.Usage h w bytes t e long = let f = no_words told words _ (h.usage refl) t in absurd cc
-  limit_comes status.ModelRefused h w bytes t e long = let f = one_outcome told words _ _ (h.model refl).judged t in absurd cc
-  limit_comes status.DataRefused h w bytes t e long = let f = one_outcome told words _ _ (h.refused refl).judged t in absurd cc
-  limit_comes status.ReadFault h w bytes t e long = inr (inl refl)
-  limit_comes status.WriteFault h w bytes t e long = inr (inr (inl refl))
-  limit_comes status.Memory h w bytes t e long = inr (inr (inr refl))
-  limit_comes status.InputLimit h w bytes t e long = inl refl
+  pub limit_comes : (w : World) (bytes : List ℕ) → Tells r.files r.words (Loaded w) → r.left ≡ Some bytes → input_limit < length bytes → (r.status ≡ status.InputLimit) ⊎ IsFault r.status
+  limit_comes w bytes t tells long = by r.status refl
+    where
+      by : (s : Status) → r.status ≡ s → (r.status ≡ status.InputLimit) ⊎ IsFault r.status
+      by status.Served e =
+          let s = h.served e in
+          absurd (omega (arith, long, taken_within r.left r.left_after input_limit bytes s.bytes tells s.taken.taken s.taken.ended s.taken.within))
+      by status.Usage e = let o = no_words r.files r.words _ (h.usage e).0 t in absurd cc
+      by status.ModelRefused e = let o = one_outcome r.files r.words _ _ (h.model_refused e).0.judged t in absurd cc
+      by status.DataRefused e = let o = one_outcome r.files r.words _ _ (h.data_refused e).0.judged t in absurd cc
+      by status.ReadFault e = inr (inl e)
+      by status.WriteFault e = inr (inr (inl e))
+      by status.Memory e = inr (inr (inr e))
+      by status.InputLimit e = inl e
 
   -- nothing is in the way
-  pub all_served : (result : Status) → Says told steady words limit left0 left1 held0 held1 input0 input1 output0 output1 folder0 folder1 result → IsUndisturbed told steady words limit left0 input0 input1 output0 output1 → (result ≡ status.Served) ⊎ (result ≡ status.Memory)
-  all_served status.Served h u = inl refl
-  all_served status.Usage h u = let e = no_words told words _ (h.usage refl) u.loads in absurd cc
-  all_served status.ModelRefused h u = let e = one_outcome told words _ _ (h.model refl).judged u.loads in absurd cc
-  all_served status.DataRefused h u = let e = one_outcome told words _ _ (h.refused refl).judged u.loads in absurd cc
-  all_served status.ReadFault h u = absurd (no_read (h.read refl))
+  pub all_served : IsUndisturbed r.files is_steady r.words input_limit r.left r.input_faults r.input_faults_after r.output_faults r.output_faults_after → (r.status ≡ status.Served) ⊎ (r.status ≡ status.Memory)
+  all_served u = by r.status refl
     where
-      no_read : Rose input0 input1 ⊎ (Rose folder0 folder1 × (steady → HasOutcome told words Missing)) → ⊥
+      no_read : ReadFailed r is_steady → ⊥
       no_read (inl rose) = u.no_read_failed rose
-      no_read (inr f) = let e = one_outcome told words _ _ (f.1 u.steady) u.loads in cc
-  all_served status.WriteFault h u = absurd (u.no_write_failed (h.write refl))
-  all_served status.Memory h u = inr refl
-  all_served status.InputLimit h u =
-      let o = (h.limited refl).taken in
-      absurd (omega (arith, u.within, taken_more left0 left1 limit u.bytes o.bytes u.tells o.taken o.count))
+      no_read (inr f) = let o = one_outcome r.files r.words _ _ (f.1 u.steady) u.loads in cc
+
+      by : (s : Status) → r.status ≡ s → (r.status ≡ status.Served) ⊎ (r.status ≡ status.Memory)
+      by status.Served e = inl e
+      by status.Usage e = let o = no_words r.files r.words _ (h.usage e).0 u.loads in absurd cc
+      by status.ModelRefused e = let o = one_outcome r.files r.words _ _ (h.model_refused e).0.judged u.loads in absurd cc
+      by status.DataRefused e = let o = one_outcome r.files r.words _ _ (h.data_refused e).0.judged u.loads in absurd cc
+      by status.ReadFault e = absurd (no_read (h.read_fault e).0)
+      by status.WriteFault e = absurd (u.no_write_failed (h.write_fault e).0)
+      by status.Memory e = inr e
+      by status.InputLimit e =
+          let o = (h.overrun e).0.taken in
+          absurd (omega (arith, u.within, taken_more r.left r.left_after input_limit u.bytes o.bytes u.tells o.taken o.count))

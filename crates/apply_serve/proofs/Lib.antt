@@ -6,4 +6,5 @@ mod Named
 mod SetNames
 mod Answering
 mod Completeness
+mod Ends
 mod CutLines

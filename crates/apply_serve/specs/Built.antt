@@ -1,11 +1,10 @@
 -- Which requests are built: this project's own, and for its first steps alone. Built is one sum of a property over an entity set.
-use Rattle.std.specs.Prelude.{Bool, true, false, [], ◌∷◌, is_some}
+use Rattle.std.specs.Prelude.{Bool, true, false, [], ◌∷◌}
 use Rattle.std.specs.declared.option.Option.{Option}
 use Rattle.std.specs.declared.option.Option.TheVariants.{Some, None}
 use Rattle.edm_values.specs.declared.Method.TheVariants as method
 use Rattle.edm_values.specs.Names.{Name, Path}
 use Rattle.apply_ast.specs.Trees.{Expr, AggItem, Step, Pipe}
-use Rattle.apply_grammar.specs.FrameReading.{Asked}
 
 -- the name of a path of one name
 abbrev pub only_name : Path → Option Name
@@ -32,11 +31,7 @@ abbrev pub sum_pipe : Pipe → Option (Name × Name)
 sum_pipe (Pipe.Then step Pipe.End) = sum_step step
 sum_pipe pipe = None
 
--- the same, of a request that does not ask for the plan
+-- the same, of a request that does not ask for the plan; the requests that ask for a sum are those that are built
 abbrev pub sum_asked : Bool → Pipe → Option (Name × Name)
 sum_asked true pipe = None
 sum_asked false pipe = sum_pipe pipe
-
--- whether what a line asks for is built
-abbrev pub is_built : Asked → Bool
-is_built asked = is_some (sum_asked asked.0 asked.2)

@@ -1,5 +1,5 @@
 -- One run of the service, seen from outside: what each of its ends says.
-use Rattle.std.specs.Prelude.{◌≡◌, ℕ, ◌≤◌, ◌⊎◌, List, length, Some}
+use Rattle.std.specs.Prelude.{◌≡◌, ℕ, ◌≤◌, ◌⊎◌, List, length, Some, None}
 use Rattle.std.specs.declared.option.Option.{Option}
 use Rattle.std.specs.Io.KnownBytes.{Appends}
 use Rattle.apply_io.specs.Causes.{Rose}
@@ -8,9 +8,30 @@ use Rattle.edm_data.specs.Worlds.{World}
 use Rattle.apply_serve.specs.Requests.{request_lines}
 use Rattle.apply_serve.specs.Answers.{Responds, RespondsInPart, WritesFront}
 use Rattle.apply_serve.specs.Transfers.{TakesAll, TakesOneMore}
-use Rattle.apply_serve.specs.Loads.{Outcome, RefusedModel, RefusedData, Loaded, outcome, HasOutcome}
+use Rattle.apply_serve.specs.Words.{file_names}
+use Rattle.apply_serve.specs.Loads.{Outcome, Missing, RefusedModel, RefusedData, Loaded, outcome, HasOutcome}
 use Rattle.apply_serve.specs.declared.service.Status.{Status}
-use Rattle.apply_serve.specs.declared.service.Status.TheVariants.{ReadFault, WriteFault, Memory}
+use Rattle.apply_serve.specs.declared.service.Status.TheVariants.{Served, Usage, ModelRefused, DataRefused, ReadFault, WriteFault, Memory, InputLimit}
+
+-- the input has at most so many bytes
+abbrev pub input_limit : ℕ
+input_limit = 1048576
+
+-- what is seen of a run: the words; what the folder, the source and the sink tell, none where they do not tell, and their counts of faults, before and after; and the status
+pub record Run : Type 0 where
+  pub words : List (List ℕ)
+  pub files : Option Files
+  pub folder_faults : ℕ
+  pub folder_faults_after : ℕ
+  pub left : Option (List ℕ)
+  pub left_after : Option (List ℕ)
+  pub input_faults : ℕ
+  pub input_faults_after : ℕ
+  pub held : Option (List ℕ)
+  pub held_after : Option (List ℕ)
+  pub output_faults : ℕ
+  pub output_faults_after : ℕ
+  pub status : Status
 
 -- The files make a world, the source's bytes were taken to their end, and the responses to their lines were written in order.
 pub record ServesAll (told : Option Files) (words : List (List ℕ)) (limit : ℕ) (left0 left1 held0 held1 : Option (List ℕ)) : Type 0 where
@@ -37,6 +58,31 @@ pub data BreaksOff (told : Option Files) (words : List (List ℕ)) (limit : ℕ)
   in_model_line : {line : List ℕ} → HasOutcome told words (RefusedModel line) → WritesFront line held0 held1 → BreaksOff told words limit left0 left1 held0 held1
   in_data_line : {line : List ℕ} → HasOutcome told words (RefusedData line) → WritesFront line held0 held1 → BreaksOff told words limit left0 left1 held0 held1
   in_responses : {world : World} {bytes : List ℕ} → HasOutcome told words (Loaded world) → TakesAll left0 left1 limit bytes → RespondsInPart world (request_lines bytes) held0 held1 → BreaksOff told words limit left0 left1 held0 held1
+
+-- a read of the source failed; or one of the folder, which is to blame only where it lacks a file, if it is steady
+abbrev pub ReadFailed : Run → Type 0 → Type 0
+ReadFailed r is_steady =
+    Rose r.input_faults r.input_faults_after
+    ⊎ (Rose r.folder_faults r.folder_faults_after × (is_steady → HasOutcome r.files r.words Missing))
+
+-- What each status says of a run. The last three are that the folder, the source and the sink are as they were.
+pub record Says (r : Run) (is_steady same_folder same_input same_output : Type 0) : Type 0 where
+  -- the words name no files, and nothing was touched; and words that name none are told so
+  pub usage : r.status ≡ Usage → (file_names r.words ≡ None) × same_folder × same_input × same_output
+  pub usage_comes : file_names r.words ≡ None → r.status ≡ Usage
+  -- the promise: nothing is left, and one framed response for each line was written, in order
+  pub served : r.status ≡ Served → ServesAll r.files r.words input_limit r.left r.left_after r.held r.held_after
+  -- a refused file has its line, and the input is not read
+  pub model_refused : r.status ≡ ModelRefused → Refuses r.files r.words RefusedModel r.held r.held_after × same_input
+  pub data_refused : r.status ≡ DataRefused → Refuses r.files r.words RefusedData r.held r.held_after × same_input
+  -- a failed read has its cause, and nothing was written
+  pub read_fault : r.status ≡ ReadFault → ReadFailed r is_steady × same_output
+  -- one byte more than the limit came, and nothing was written
+  pub overrun : r.status ≡ InputLimit → Overruns r.files r.words input_limit r.left r.left_after × same_output
+  -- a failed write has its cause, and a front of what was to be written was written
+  pub write_fault : r.status ≡ WriteFault → Rose r.output_faults r.output_faults_after × BreaksOff r.files r.words input_limit r.left r.left_after r.held r.held_after
+  -- want of memory writes nothing
+  pub memory : r.status ≡ Memory → same_output
 
 -- a fault of the outside, or want of memory, which may come in place of a status that is else exact
 abbrev pub IsFault : Status → Type 0

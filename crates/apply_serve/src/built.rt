@@ -1,7 +1,6 @@
 //! Which requests are built, and what they ask for.
 ghost use Rattle.std.specs.Prelude.{◌≡◌, option_map};
 ghost use Rattle.apply_ast.specs.Views.{agg_of, step_of, pipe_of};
-ghost use Rattle.apply_grammar.specs.Requests.{asked_of};
 ghost use Rattle.apply_serve.specs.Built as spec;
 
 use apply_ast::{AggItem, Expr, Method, Path, Pipe, Request, Step};
@@ -60,7 +59,8 @@ fn sum_pipe(pipe: &Pipe) -> Option<Sum<'_>>
     }
 }
 
-/// The sum that a request asks for, if it is built.
+/// The sum that a request asks for, if it is built: it is no `explain`, and its pipeline is one `aggregate` with one item
+/// `PROPERTY with sum as NAME`, the property a path of one name.
 pub fn sum_asked(request: &Request) -> Option<Sum<'_>>
     ensures { option_map (λ s. (s.property.now, s.name.now)) result ≡ spec.sum_asked request.now.explain (pipe_of request.now.pipe) }
 {
@@ -68,12 +68,4 @@ pub fn sum_asked(request: &Request) -> Option<Sum<'_>>
         return None;
     }
     sum_pipe(&request.pipe)
-}
-
-/// Whether a request is built: it is no `explain`, and its pipeline is one `aggregate` with one item
-/// `PROPERTY with sum as NAME`, the property a path of one name.
-pub fn is_built(request: &Request) -> bool
-    ensures { result ≡ spec.is_built (asked_of request.now) }
-{
-    sum_asked(request).is_some()
 }

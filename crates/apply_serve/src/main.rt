@@ -14,6 +14,8 @@
 
 ghost use Rattle.std.specs.Prelude.{◌≡◌, ◌<◌};
 ghost use Rattle.apply_serve.specs.ExitCodes.{exit_code};
+ghost use Rattle.apply_serve.specs.Service.{Run, Says};
+ghost use Rattle.apply_serve.specs.Words.{texts_of};
 
 use apply_io::{DiskFolder, Folder, Sink, Source, StdSink, StdSource};
 use apply_meaning::Steps;
@@ -22,10 +24,9 @@ use std::alloc::Global;
 use std::env::Env;
 use std::marker::Brand;
 use std::process::ExitCode;
-use std::rt::Files as HostFiles;
 use std::sync::ledger::{Blank, Ledger};
 use std::thread::Threads;
-use std::{env, fs, io};
+use std::{env, io};
 
 pub mod built;
 mod file;
@@ -41,24 +42,6 @@ mod sum;
 mod tests;
 mod words;
 mod write;
-
-/// Serves with a new counter of steps.
-fn run<R: Threads + Sync, F: Folder, S: Source, K: Sink, L: Ledger>(
-    rt: &R,
-    alloc: Global,
-    words: &[String],
-    folder: &mut F,
-    input: &mut S,
-    output: &mut K,
-    blank: Blank,
-) -> Status
-    requires name { blank.name ≡ L.name }
-    requires parts { blank.parts ≡ L.parts }
-    requires some { 0 < blank.parts }
-{
-    let mut steps = Steps::<L>::new(blank);
-    serve(rt, alloc, words, folder, input, output, &mut steps)
-}
 
 /// The number that the program ends with.
 fn code(status: Status) -> u8
@@ -76,19 +59,57 @@ fn code(status: Status) -> u8
     }
 }
 
-/// The file of the two that cannot be opened, the model file first.
-fn unreadable<'a, R: HostFiles>(rt: &R, model: &'a str, data: &'a str) -> &'a str {
-    match fs::open(rt, model) {
-        Ok(_) => data,
-        Err(_) => model,
+/// How a run of the service ended, and the number that tells it.
+#[derive(Clone, Copy, Debug)]
+struct Ended {
+    status: Status,
+    number: u8,
+}
+
+/// Serves with a new counter of steps.
+fn run<R: Threads + Sync, F: Folder, S: Source, K: Sink, L: Ledger>(
+    rt: &R,
+    alloc: Global,
+    words: &[String],
+    folder: &mut F,
+    input: &mut S,
+    output: &mut K,
+    blank: Blank,
+) -> Ended
+    requires name { blank.name ≡ L.name }
+    requires parts { blank.parts ≡ L.parts }
+    requires some { 0 < blank.parts }
+    ensures number { result.number ≡ exit_code result.status }
+    ensures says { Says (record {
+        words = texts_of words.now;
+        files = F.files folder.old;
+        folder_faults = F.fault_count folder.old;
+        folder_faults_after = F.fault_count folder.new;
+        left = S.left input.old;
+        left_after = S.left input.new;
+        input_faults = S.fault_count input.old;
+        input_faults_after = S.fault_count input.new;
+        held = K.held output.old;
+        held_after = K.held output.new;
+        output_faults = K.fault_count output.old;
+        output_faults_after = K.fault_count output.new;
+        status = result.status;
+    }) (F.is_steady folder.old) (folder.new ≡ folder.old) (input.new ≡ input.old) (output.new ≡ output.old) }
+{
+    let mut steps = Steps::<L>::new(blank);
+    let status = serve(rt, alloc, words, folder, input, output, &mut steps);
+    Ended {
+        status,
+        number: code(status),
     }
 }
 
 /// Tells on standard error what was wrong, where something was.
-fn explain<R: Eprint + HostFiles>(
+fn explain<R: Eprint>(
     rt: &R,
     status: Status,
     words: &[String],
+    failed_name: Option<&str>,
     input_faults: u64,
 ) -> io::Result<()> {
     let model = words.get(1).map_or("", |name| name.as_str());
@@ -108,14 +129,13 @@ fn explain<R: Eprint + HostFiles>(
         Status::DataRefused => {
             eprintln!(rt; "apply_serve: the data file {data} is refused; standard output says why")
         }
-        Status::ReadFault => {
-            if input_faults > 0 {
+        Status::ReadFault => match failed_name {
+            Some(name) => eprintln!(rt; "apply_serve: the file {name} could not be read"),
+            None if input_faults > 0 => {
                 eprintln!(rt; "apply_serve: standard input could not be read")
-            } else {
-                let name = unreadable(rt, model, data);
-                eprintln!(rt; "apply_serve: the file {name} could not be read")
             }
-        }
+            None => eprintln!(rt; "apply_serve: a file could not be read"),
+        },
         Status::WriteFault => eprintln!(rt; "apply_serve: standard output could not be written"),
         Status::Memory => eprintln!(rt; "apply_serve: out of memory"),
         Status::InputLimit => {
@@ -144,14 +164,14 @@ fn main(rt: HostRuntime) -> ExitCode {
     let words = match words_of(&rt) {
         Ok(words) => words,
         Err(status) => {
-            let _ = explain(&rt, status, &[], 0);
+            let _ = explain(&rt, status, &[], None, 0);
             return ExitCode::from(code(status));
         }
     };
     let mut folder = DiskFolder::new(&rt);
     let mut input = StdSource::new(rt.reader());
     let mut output = StdSink::new(io::writer(&rt));
-    let status = run::<_, _, _, _, Brand>(
+    let ended = run::<_, _, _, _, Brand>(
         &rt,
         rt.alloc(),
         words.as_slice(),
@@ -160,6 +180,12 @@ fn main(rt: HostRuntime) -> ExitCode {
         &mut output,
         Blank::new(1),
     );
-    let _ = explain(&rt, status, words.as_slice(), input.faults());
-    ExitCode::from(code(status))
+    let _ = explain(
+        &rt,
+        ended.status,
+        words.as_slice(),
+        folder.failed_name(),
+        input.faults(),
+    );
+    ExitCode::from(ended.number)
 }

@@ -1,12 +1,9 @@
 //! The top call: from the words to the status.
-ghost use Rattle.std.specs.Prelude.{◌≡◌, ◌↔◌, ◌⊎◌, ℕ, ◌<◌, ◌^◌, List, length, None, Some};
-ghost use Rattle.std.specs.Io.KnownBytes.{IsAtEnd};
-ghost use Rattle.apply_io.specs.Causes.{Rose};
+ghost use Rattle.std.specs.Prelude.{◌≡◌, ◌⊎◌, ℕ, ◌<◌, List, length, Some};
 ghost use Rattle.edm_data.specs.Worlds.{World};
-ghost use Rattle.apply_serve.specs.Words as words_of;
 ghost use Rattle.apply_serve.specs.Words.{texts_of};
-ghost use Rattle.apply_serve.specs.Loads.{Missing, RefusedModel, RefusedData, Loaded, HasOutcome};
-ghost use Rattle.apply_serve.specs.Service.{ServesAll, Refuses, Overruns, BreaksOff, IsFault, Tells, IsUndisturbed};
+ghost use Rattle.apply_serve.specs.Loads.{RefusedModel, RefusedData, Loaded};
+ghost use Rattle.apply_serve.specs.Service.{Run, Says, input_limit, IsFault, Tells, IsUndisturbed};
 
 use crate::input::{InputFault, read_input};
 use crate::lines::answer_lines;
@@ -55,26 +52,22 @@ fn run<F: Folder, S: Source, K: Sink>(
     input: &mut S,
     output: &mut K,
 ) -> Status
-    requires { limit < 2 ^ 32 }
-    ensures usage { (result ≡ Status.Usage) ↔ (words_of.file_names (texts_of words.now) ≡ None) }
-    ensures usage_quiet { result ≡ Status.Usage → (folder.new ≡ folder.old) × (input.new ≡ input.old) × (output.new ≡ output.old) }
-    ensures end { result ≡ Status.Served → IsAtEnd (S.left input.new) }
-    ensures served { result ≡ Status.Served → ServesAll (F.files folder.old) (texts_of words.now) limit
-        (S.left input.old) (S.left input.new) (K.held output.old) (K.held output.new) }
-    ensures model_refused { result ≡ Status.ModelRefused →
-        Refuses (F.files folder.old) (texts_of words.now) RefusedModel (K.held output.old) (K.held output.new) × (input.new ≡ input.old) }
-    ensures data_refused { result ≡ Status.DataRefused →
-        Refuses (F.files folder.old) (texts_of words.now) RefusedData (K.held output.old) (K.held output.new) × (input.new ≡ input.old) }
-    ensures read_cause { result ≡ Status.ReadFault → Rose (S.fault_count input.old) (S.fault_count input.new)
-        ⊎ (Rose (F.fault_count folder.old) (F.fault_count folder.new)
-        × (F.is_steady folder.old → HasOutcome (F.files folder.old) (texts_of words.now) Missing)) }
-    ensures read_quiet { result ≡ Status.ReadFault → output.new ≡ output.old }
-    ensures limit { result ≡ Status.InputLimit →
-        Overruns (F.files folder.old) (texts_of words.now) limit (S.left input.old) (S.left input.new) × (output.new ≡ output.old) }
-    ensures write_cause { result ≡ Status.WriteFault → Rose (K.fault_count output.old) (K.fault_count output.new) }
-    ensures write { result ≡ Status.WriteFault → BreaksOff (F.files folder.old) (texts_of words.now) limit
-        (S.left input.old) (S.left input.new) (K.held output.old) (K.held output.new) }
-    ensures memory { result ≡ Status.Memory → output.new ≡ output.old }
+    requires { limit ≡ input_limit }
+    ensures { Says (record {
+        words = texts_of words.now;
+        files = F.files folder.old;
+        folder_faults = F.fault_count folder.old;
+        folder_faults_after = F.fault_count folder.new;
+        left = S.left input.old;
+        left_after = S.left input.new;
+        input_faults = S.fault_count input.old;
+        input_faults_after = S.fault_count input.new;
+        held = K.held output.old;
+        held_after = K.held output.new;
+        output_faults = K.fault_count output.old;
+        output_faults_after = K.fault_count output.new;
+        status = result;
+    }) (F.is_steady folder.old) (folder.new ≡ folder.old) (input.new ≡ input.old) (output.new ≡ output.old) }
 {
     let Some(names) = file_names(words) else {
         return Status::Usage;
@@ -123,45 +116,35 @@ pub fn serve<R: Threads + Sync, F: Folder, S: Source, K: Sink, L: Ledger>(
 ) -> Status
     ensures steps { steps.new ≡ steps.old }
 
-    // The words, and nothing else, decide on Usage, which touches nothing.
-    ensures usage { (result ≡ Status.Usage) ↔ (words_of.file_names (texts_of words.now) ≡ None) }
-    ensures usage_quiet { result ≡ Status.Usage → (folder.new ≡ folder.old) × (input.new ≡ input.old) × (output.new ≡ output.old) }
+    // What each status says of the run.
+    ensures says { Says (record {
+        words = texts_of words.now;
+        files = F.files folder.old;
+        folder_faults = F.fault_count folder.old;
+        folder_faults_after = F.fault_count folder.new;
+        left = S.left input.old;
+        left_after = S.left input.new;
+        input_faults = S.fault_count input.old;
+        input_faults_after = S.fault_count input.new;
+        held = K.held output.old;
+        held_after = K.held output.new;
+        output_faults = K.fault_count output.old;
+        output_faults_after = K.fault_count output.new;
+        status = result;
+    }) (F.is_steady folder.old) (folder.new ≡ folder.old) (input.new ≡ input.old) (output.new ≡ output.old) }
 
-    // The promise: nothing is left, and one framed response for each line was written, in order.
-    ensures end { result ≡ Status.Served → IsAtEnd (S.left input.new) }
-    ensures served { result ≡ Status.Served → ServesAll (F.files folder.old) (texts_of words.now) INPUT_LIMIT
-        (S.left input.old) (S.left input.new) (K.held output.old) (K.held output.new) }
-
-    // A refused file has its line, and the input is not read; a file that is refused is told so.
-    ensures model_refused { result ≡ Status.ModelRefused →
-        Refuses (F.files folder.old) (texts_of words.now) RefusedModel (K.held output.old) (K.held output.new) × (input.new ≡ input.old) }
-    ensures data_refused { result ≡ Status.DataRefused →
-        Refuses (F.files folder.old) (texts_of words.now) RefusedData (K.held output.old) (K.held output.new) × (input.new ≡ input.old) }
+    // A file that is refused is told so.
     ensures model_comes { (line : List ℕ) → Tells (F.files folder.old) (texts_of words.now) (RefusedModel line) →
         (result ≡ Status.ModelRefused) ⊎ IsFault result }
     ensures data_comes { (line : List ℕ) → Tells (F.files folder.old) (texts_of words.now) (RefusedData line) →
         (result ≡ Status.DataRefused) ⊎ IsFault result }
 
-    // A fault has its cause: a count that rose. A steady folder is to blame only where it lacks a file.
-    ensures read_cause { result ≡ Status.ReadFault → Rose (S.fault_count input.old) (S.fault_count input.new)
-        ⊎ (Rose (F.fault_count folder.old) (F.fault_count folder.new)
-        × (F.is_steady folder.old → HasOutcome (F.files folder.old) (texts_of words.now) Missing)) }
-    ensures read_quiet { result ≡ Status.ReadFault → output.new ≡ output.old }
-    ensures write_cause { result ≡ Status.WriteFault → Rose (K.fault_count output.old) (K.fault_count output.new) }
-    ensures write { result ≡ Status.WriteFault → BreaksOff (F.files folder.old) (texts_of words.now) INPUT_LIMIT
-        (S.left input.old) (S.left input.new) (K.held output.old) (K.held output.new) }
-
-    // The limit is passed where one byte more came, and where the input is longer that is told.
-    ensures limit { result ≡ Status.InputLimit →
-        Overruns (F.files folder.old) (texts_of words.now) INPUT_LIMIT (S.left input.old) (S.left input.new) × (output.new ≡ output.old) }
+    // An input that is longer than its limit is told so.
     ensures limit_comes { (w : World) (bytes : List ℕ) → Tells (F.files folder.old) (texts_of words.now) (Loaded w) →
-        S.left input.old ≡ Some bytes → INPUT_LIMIT < length bytes → (result ≡ Status.InputLimit) ⊎ IsFault result }
-
-    // Want of memory writes nothing.
-    ensures memory { result ≡ Status.Memory → output.new ≡ output.old }
+        S.left input.old ≡ Some bytes → input_limit < length bytes → (result ≡ Status.InputLimit) ⊎ IsFault result }
 
     // Where the files make a world and nothing is in the way, every line is answered, want of memory aside.
-    ensures complete { IsUndisturbed (F.files folder.old) (F.is_steady folder.old) (texts_of words.now) INPUT_LIMIT (S.left input.old)
+    ensures complete { IsUndisturbed (F.files folder.old) (F.is_steady folder.old) (texts_of words.now) input_limit (S.left input.old)
         (S.fault_count input.old) (S.fault_count input.new) (K.fault_count output.old) (K.fault_count output.new) →
         (result ≡ Status.Served) ⊎ (result ≡ Status.Memory) }
 {

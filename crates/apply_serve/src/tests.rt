@@ -1,7 +1,11 @@
 //! The worked rows of the service, over objects in memory; its files are short ones, and the sample's.
+ghost use Rattle.std.specs.Prelude.{None};
+
+use crate::built::sum_asked;
 use crate::service::Status;
 use crate::{code, run};
-use apply_io::{MemFolder, MemSink, MemSource};
+use apply_grammar::read_request;
+use apply_io::{Failed, MemFolder, MemSink, MemSource, Source};
 use std::alloc::Global;
 use std::marker::Brand;
 use std::sync::ledger::Blank;
@@ -11,6 +15,14 @@ use std::thread::Threads;
 /// One entity set with a key and an amount.
 const MODEL: &str =
     "{\"$Version\":\"4.01\",\"$EntityContainer\":\"W.C\",\"W\":{\"Sale\":{\"$Kind\":\"EntityType\",\"$Key\":[\"ID\"],\"ID\":{\"$Type\":\"Edm.Int64\"},\"Amount\":{\"$Type\":\"Edm.Decimal\",\"$Precision\":16,\"$Scale\":2,\"$Nullable\":true}},\"C\":{\"$Kind\":\"EntityContainer\",\"Sales\":{\"$Collection\":true,\"$Type\":\"W.Sale\"}}}}";
+
+/// Sales with their customers and organisations: the sample's model.
+const SAMPLE_MODEL: &str =
+    "{\"$Version\":\"4.01\",\"$EntityContainer\":\"W.C\",\"W\":{\"Sale\":{\"$Kind\":\"EntityType\",\"$Key\":[\"ID\"],\"ID\":{\"$Type\":\"Edm.Int64\"},\"Amount\":{\"$Type\":\"Edm.Decimal\",\"$Precision\":16,\"$Scale\":2,\"$Nullable\":true},\"CustomerID\":{},\"OrgID\":{\"$Nullable\":true},\"Customer\":{\"$Kind\":\"NavigationProperty\",\"$Type\":\"W.Customer\",\"$Partner\":\"Sales\",\"$ReferentialConstraint\":{\"CustomerID\":\"ID\"}},\"Org\":{\"$Kind\":\"NavigationProperty\",\"$Type\":\"W.Org\",\"$Nullable\":true,\"$ReferentialConstraint\":{\"OrgID\":\"ID\"}},\"@Org.OData.Aggregation.V1.CustomAggregate#Best\":\"Edm.Decimal\",\"@Local.Apply.V1.Definition#Best\":{\"Of\":\"Amount\",\"With\":\"sum\",\"Per\":[\"CustomerID\"],\"Then\":\"max\"}},\"Customer\":{\"$Kind\":\"EntityType\",\"$Key\":[\"ID\"],\"ID\":{},\"Name\":{},\"Country\":{},\"Since\":{\"$Type\":\"Edm.Date\",\"$Nullable\":true},\"Sales\":{\"$Kind\":\"NavigationProperty\",\"$Collection\":true,\"$Type\":\"W.Sale\",\"$Partner\":\"Customer\"}},\"Org\":{\"$Kind\":\"EntityType\",\"$Key\":[\"ID\"],\"ID\":{},\"ParentID\":{\"$Nullable\":true},\"Superordinate\":{\"$Kind\":\"NavigationProperty\",\"$Type\":\"W.Org\",\"$Nullable\":true,\"$ReferentialConstraint\":{\"ParentID\":\"ID\"}},\"@Org.OData.Aggregation.V1.RecursiveHierarchy#OrgTree\":{\"NodeProperty\":\"ID\",\"ParentNavigationProperty\":\"Superordinate\"}},\"C\":{\"$Kind\":\"EntityContainer\",\"Sales\":{\"$Collection\":true,\"$Type\":\"W.Sale\"},\"Customers\":{\"$Collection\":true,\"$Type\":\"W.Customer\"},\"Orgs\":{\"$Collection\":true,\"$Type\":\"W.Org\"}}}}";
+
+/// The sample's data.
+const SAMPLE_DATA: &str =
+    "{\"Customers\":[{\"ID\":\"C1\",\"Name\":\"Joe\",\"Country\":\"US\",\"Since\":\"2019-05-01\"},{\"ID\":\"C2\",\"Name\":\"Sue\",\"Country\":\"NL\",\"Since\":\"2020-02-29\"},{\"ID\":\"C3\",\"Name\":\"Luc\",\"Country\":\"FR\"},{\"ID\":\"C4\",\"Name\":\"Ann\",\"Country\":\"FR\",\"Since\":\"2020-12-31\"}],\"Orgs\":[{\"ID\":\"Corp\"},{\"ID\":\"EMEA\",\"ParentID\":\"Corp\"},{\"ID\":\"US\",\"ParentID\":\"Corp\"},{\"ID\":\"West\",\"ParentID\":\"US\"},{\"ID\":\"East\",\"ParentID\":\"US\"},{\"ID\":\"Lab\"}],\"Sales\":[{\"ID\":1,\"Amount\":\"10.00\",\"CustomerID\":\"C1\",\"OrgID\":\"West\"},{\"ID\":\"2\",\"Amount\":\"5.50\",\"CustomerID\":\"C1\",\"OrgID\":\"East\"},{\"ID\":\"3\",\"Amount\":\"7.25\",\"CustomerID\":\"C2\",\"OrgID\":\"EMEA\"},{\"ID\":\"4\",\"Amount\":null,\"CustomerID\":\"C3\",\"OrgID\":\"West\"},{\"ID\":\"5\",\"Amount\":1,\"CustomerID\":\"C2\"},{\"ID\":\"6\",\"Amount\":\"2.25\",\"CustomerID\":\"C1\",\"OrgID\":\"US\"}]}";
 
 /// Organisations, each below another or none.
 const ORGS: &str =
@@ -78,14 +90,29 @@ fn words(alloc: Global) -> Result<Vec<String>, Fail> {
     Ok(words)
 }
 
-/// Runs the service over bytes of the input.
-fn outcome_of<R: Threads + Sync>(
+/// Runs the service over a source, and says how it ended.
+fn status_over<R: Threads + Sync, S: Source>(
     rt: &R,
     alloc: Global,
-    case: &Case,
-    words: &[String],
-    input: Vec<u8>,
-) -> Result<RunResult, Fail> {
+    input: &mut S,
+) -> Result<Status, Fail> {
+    let words = words(alloc)?;
+    let mut folder = MemFolder::new(files(alloc, &PLAIN)?, Vec::new(alloc));
+    let mut output = MemSink::new(alloc, 4096, 4096, Vec::new(alloc))?;
+    let ended = run::<_, _, _, _, Brand>(
+        rt,
+        alloc,
+        words.as_slice(),
+        &mut folder,
+        input,
+        &mut output,
+        Blank::new(1),
+    );
+    Ok(ended.status)
+}
+
+/// The two files of a case.
+fn files(alloc: Global, case: &Case) -> Result<Vec<(String, Vec<u8>)>, Fail> {
     let mut files = Vec::new(alloc);
     files.push((
         String::from_str(alloc, "m")?,
@@ -95,12 +122,23 @@ fn outcome_of<R: Threads + Sync>(
         String::from_str(alloc, "d")?,
         case.data.as_bytes().to_vec(alloc)?,
     ))?;
-    let mut folder = MemFolder::new(files, only(alloc, case.folder_fails)?);
+    Ok(files)
+}
+
+/// Runs the service over bytes of the input.
+fn outcome_of<R: Threads + Sync>(
+    rt: &R,
+    alloc: Global,
+    case: &Case,
+    words: &[String],
+    input: Vec<u8>,
+) -> Result<RunResult, Fail> {
+    let mut folder = MemFolder::new(files(alloc, case)?, only(alloc, case.folder_fails)?);
     let most = case.most.max(1);
     let mut input = MemSource::new(input, most, only(alloc, case.input_fails)?);
     let mut output = MemSink::new(alloc, 4096, most, only(alloc, case.output_fails)?)?;
     let blank = Blank::new(1);
-    let status = run::<_, _, _, _, Brand>(
+    let ended = run::<_, _, _, _, Brand>(
         rt,
         alloc,
         words,
@@ -110,7 +148,7 @@ fn outcome_of<R: Threads + Sync>(
         blank,
     );
     Ok(RunResult {
-        status,
+        status: ended.status,
         output: output.bytes().to_vec(alloc)?,
     })
 }
@@ -132,7 +170,12 @@ fn lines_are_answered_in_order_however_the_input_is_cut(rt: HostRuntime) -> Resu
 }
 
 #[test]
-fn a_line_is_refused_for_the_first_reason_that_holds(rt: HostRuntime) -> Result<(), Fail> {
+fn each_line_is_answered_by_the_first_reason_that_holds(rt: HostRuntime) -> Result<(), Fail> {
+    let sample = Case {
+        model: SAMPLE_MODEL,
+        data: SAMPLE_DATA,
+        ..PLAIN
+    };
     for (input, output) in [
         (
             b"Shops?$apply=aggregate(Amount with sum as T)\n".as_slice(),
@@ -147,8 +190,8 @@ fn a_line_is_refused_for_the_first_reason_that_holds(rt: HostRuntime) -> Result<
             b"501 68\n{\"error\":{\"code\":\"NotBuilt\",\"message\":\"this form is not built yet\"}}\n".as_slice(),
         ),
         (
-            b"/Sales?%24apply=aggregate( Amount with sum as T)\n".as_slice(),
-            b"200 76\n{\"@context\":\"$metadata#Sales(T)\",\"value\":[{\"T@type\":\"Decimal\",\"T\":\"26.00\"}]}\n".as_slice(),
+            b"/Sales?%24apply=aggregate( Amount with sum as Total )\n".as_slice(),
+            FIRST,
         ),
         (
             b"Sales?$apply=filter(not ID eq 1)\n".as_slice(),
@@ -175,7 +218,7 @@ fn a_line_is_refused_for_the_first_reason_that_holds(rt: HostRuntime) -> Result<
             b"400 76\n{\"error\":{\"code\":\"Syntax\",\"message\":\"the text is no pipeline\",\"target\":\"2\"}}\n".as_slice(),
         ),
         (
-            b"Shops?$apply=identity/\n".as_slice(),
+            b"Sales?$apply=identity/\n".as_slice(),
             b"400 76\n{\"error\":{\"code\":\"Syntax\",\"message\":\"the text is no pipeline\",\"target\":\"2\"}}\n".as_slice(),
         ),
         (
@@ -187,7 +230,7 @@ fn a_line_is_refused_for_the_first_reason_that_holds(rt: HostRuntime) -> Result<
             b"400 76\n{\"error\":{\"code\":\"Syntax\",\"message\":\"the text is no pipeline\",\"target\":\"1\"}}\n".as_slice(),
         ),
     ] {
-        let ran = outcome(&rt, rt.alloc(), &Case { input, ..PLAIN })?;
+        let ran = outcome(&rt, rt.alloc(), &Case { input, ..sample })?;
         assert_eq!(rt; ran.status, Status::Served);
         assert_eq!(rt; ran.output.as_slice(), output);
     }
@@ -428,6 +471,76 @@ fn other_words_are_told_the_usage(rt: HostRuntime) -> Result<(), Fail> {
         let ran = outcome_of(&rt, alloc, &PLAIN, words.as_slice(), LINES.to_vec(alloc)?)?;
         assert_eq!(rt; ran.status, Status::Usage);
         assert_eq!(rt; ran.output.as_slice(), b"".as_slice());
+    }
+    Ok(())
+}
+
+#[test]
+fn a_request_is_built_where_it_asks_for_one_sum_of_a_property(rt: HostRuntime) -> Result<(), Fail> {
+    for (line, name) in [
+        (b"Sales?$apply=aggregate(Amount with sum as Total)".as_slice(), Some("Total")),
+        (b"Shops?$apply=aggregate(Nope with sum as T)".as_slice(), Some("T")),
+        (b"explain Sales?$apply=aggregate(Amount with sum as T)".as_slice(), None),
+        (b"Sales?$apply=aggregate(Amount with max as T)".as_slice(), None),
+        (b"Sales?$apply=aggregate(Customer/Name with sum as T)".as_slice(), None),
+        (b"Sales?$apply=aggregate(Amount with sum as T,$count as N)".as_slice(), None),
+        (b"Sales?$apply=aggregate(Amount with sum as T)/identity".as_slice(), None),
+        (b"Sales?$apply=identity".as_slice(), None),
+    ] {
+        let request = read_request(rt.alloc(), line)?;
+        assert_eq!(rt; sum_asked(&request).map(|sum| sum.name), name);
+    }
+    Ok(())
+}
+
+/// A source of as many LFs as it is told, which notes how many bytes its reads were offered.
+#[derive(Drop)]
+struct OfferedSource {
+    left: usize,
+    reads: u64,
+    least: usize,
+    most: usize,
+}
+
+impl Source for OfferedSource {
+    ghost left = { λ _. None };
+
+    ghost fault_count = { λ _. 0 };
+
+    fn faults(&self) -> u64 {
+        0
+    }
+
+    fn read(&mut self, buf: &mut [u8]) -> Result<usize, Failed> {
+        let count = buf.len().min(self.left);
+        buf[..count].fill(b'\n');
+        self.left -= count;
+        self.reads = self.reads.saturating_add(1);
+        self.least = self.least.min(buf.len());
+        self.most = self.most.max(buf.len());
+        Ok(count)
+    }
+}
+
+#[test]
+fn a_read_of_the_input_offers_no_more_than_the_buffer_and_the_limit(
+    rt: HostRuntime,
+) -> Result<(), Fail> {
+    for (length, status, reads, least) in [
+        (10_000usize, Status::Served, 4u64, 4096usize),
+        (1_048_576, Status::Served, 257, 1),
+        (1_048_577, Status::InputLimit, 257, 1),
+    ] {
+        let mut input = OfferedSource {
+            left: length,
+            reads: 0,
+            least: usize::MAX,
+            most: 0,
+        };
+        assert_eq!(rt; status_over(&rt, rt.alloc(), &mut input)?, status);
+        assert_eq!(rt; input.reads, reads);
+        assert_eq!(rt; input.least, least);
+        assert_eq!(rt; input.most, 4096);
     }
     Ok(())
 }

@@ -2,49 +2,13 @@ use Rattle.apply_serve.proofs.Completeness.{model_comes, data_comes, limit_comes
 use Rattle.apply_serve.proofs.service.serve.Goals as goal
 
 pub returns-clause-model_comes : goal.returns-clause-model_comes
-returns-clause-model_comes g c =
-    model_comes _ _ _ _ _ _ _ _ _ _ _ _ _ _ c.run.result (record {
-      usage = c.run.ensures.usage.0;
-      served = c.run.ensures.served;
-      model = λ h. (c.run.ensures.model_refused h).0;
-      refused = λ h. (c.run.ensures.data_refused h).0;
-      read = c.run.ensures.read_cause;
-      limited = λ h. (c.run.ensures.limit h).0;
-      write = c.run.ensures.write_cause;
-    })
+returns-clause-model_comes g c = model_comes _ _ _ _ _ c.run.ensures
 
 pub returns-clause-data_comes : goal.returns-clause-data_comes
-returns-clause-data_comes g c =
-    data_comes _ _ _ _ _ _ _ _ _ _ _ _ _ _ c.run.result (record {
-      usage = c.run.ensures.usage.0;
-      served = c.run.ensures.served;
-      model = λ h. (c.run.ensures.model_refused h).0;
-      refused = λ h. (c.run.ensures.data_refused h).0;
-      read = c.run.ensures.read_cause;
-      limited = λ h. (c.run.ensures.limit h).0;
-      write = c.run.ensures.write_cause;
-    })
+returns-clause-data_comes g c = data_comes _ _ _ _ _ c.run.ensures
 
 pub returns-clause-limit_comes : goal.returns-clause-limit_comes
-returns-clause-limit_comes g c =
-    limit_comes _ _ _ _ _ _ _ _ _ _ _ _ _ _ c.run.result (record {
-      usage = c.run.ensures.usage.0;
-      served = c.run.ensures.served;
-      model = λ h. (c.run.ensures.model_refused h).0;
-      refused = λ h. (c.run.ensures.data_refused h).0;
-      read = c.run.ensures.read_cause;
-      limited = λ h. (c.run.ensures.limit h).0;
-      write = c.run.ensures.write_cause;
-    })
+returns-clause-limit_comes g c = limit_comes _ _ _ _ _ c.run.ensures
 
 pub returns-clause-complete : goal.returns-clause-complete
-returns-clause-complete g c =
-    all_served _ _ _ _ _ _ _ _ _ _ _ _ _ _ c.run.result (record {
-      usage = c.run.ensures.usage.0;
-      served = c.run.ensures.served;
-      model = λ h. (c.run.ensures.model_refused h).0;
-      refused = λ h. (c.run.ensures.data_refused h).0;
-      read = c.run.ensures.read_cause;
-      limited = λ h. (c.run.ensures.limit h).0;
-      write = c.run.ensures.write_cause;
-    })
+returns-clause-complete g c = all_served _ _ _ _ _ c.run.ensures
