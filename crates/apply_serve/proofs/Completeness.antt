@@ -2,11 +2,10 @@
 use Rattle.std.proofs.Common.{◌≡◌, ℕ, ◌+◌, ◌<◌, ◌≤◌, ◌⊎◌, List, ◌++◌, length, length-append, None, Some, refl, sym, ap, ◌∙◌, inl, inr, arith}
 use Rattle.std.specs.declared.option.Option.{Option}
 use Rattle.std.specs.Io.KnownBytes.{Consumes, IsAtEnd}
-use Rattle.apply_io.specs.Causes.{Rose}
 use Rattle.apply_io.specs.Files.{Files}
 use Rattle.edm_data.specs.Worlds.{World}
 use Rattle.apply_serve.specs.Words.{file_names}
-use Rattle.apply_serve.specs.Loads.{Outcome, Missing, RefusedModel, RefusedData, Loaded, files_outcome, HasOutcome}
+use Rattle.apply_serve.specs.Loads.{Outcome, RefusedModel, RefusedData, Loaded, files_outcome, HasOutcome}
 use Rattle.apply_serve.specs.Service.{Run, Says, ReadFailed, input_limit, IsFault, Tells, IsUndisturbed}
 use Rattle.apply_serve.specs.declared.service.Status.{Status}
 use Rattle.apply_serve.specs.declared.service.Status.TheVariants as status

@@ -1,5 +1,5 @@
 -- What a run that ended with each of the statuses is to say.
-use Rattle.std.proofs.Common.{◌≡◌, ℕ, List, None, Some, refl, sym, ap, ◌∙◌}
+use Rattle.std.proofs.Common.{◌≡◌, None, Some}
 use Rattle.std.specs.declared.option.Option.{Option}
 use Rattle.apply_io.specs.Causes.{Rose}
 use Rattle.apply_serve.specs.Words.{FileNames, file_names}
