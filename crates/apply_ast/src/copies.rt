@@ -370,7 +370,7 @@ impl Pipe {
         for step in self.steps() {
             steps.push(step.copy(alloc)?)?;
         }
-        Ok(Pipe { steps })
+        Ok(Pipe::new(steps))
     }
 }
 
