@@ -4,7 +4,7 @@ use Rattle.std.specs.Str.{is_utf8}
 use Rattle.percent_encoding.specs.Percent.{percent_decode}
 use Rattle.edm_values.specs.Names.{Name}
 use Rattle.apply_ast.specs.Trees.{Pipe}
-use Rattle.apply_grammar.specs.Limits.{most_open, most_steps}
+use Rattle.apply_grammar.specs.Limits.{most_open, most_steps, served}
 use Rattle.apply_grammar.specs.Reading.{◌>>=◌, branch, after, blanks_at, word_behind, name_at}
 use Rattle.apply_grammar.specs.PipeReading.{pipeline_at}
 
@@ -38,7 +38,7 @@ asked_for explain set (Err k) = Err k
 
 -- what a decoded line asks for, or the number of the first step that is none; 0 where the frame is none
 unfoldable pub decoded_at : List ℕ → Result Asked ℕ
-decoded_at t = branch (frame_at t) (λ f. asked_for f.0 f.1 (pipeline_at most_open most_steps f.2)) (Err 0)
+decoded_at t = branch (frame_at t) (λ f. asked_for f.0 f.1 (pipeline_at served most_open most_steps f.2)) (Err 0)
 
 -- what a line asks for
 unfoldable pub line_at : List ℕ → Result Asked ℕ
