@@ -193,9 +193,6 @@ flat_digits most n t h = digits_plain t h.digits
 pub both_flat : (limits : Bounds) {A B : Language} → ((t : List ℕ) → B t → A t) → ((t : List ℕ) → A t → B t) → Flat B → Tied limits (Unit {0}) A (λ d. B)
 both_flat limits {A} {B} f g h = renamed limits {A = B} {B = A} {L = λ d. B} {M = λ d. B} f g (λ d t k. k) (λ d t k. k) (flat limits h)
 
-pub count_tied : (limits : Bounds) (most n : ℕ) → Tied limits (Unit {0}) (grammar.number_text 0 most n) (λ d. Digits most n)
-count_tied limits most n = both_flat limits (digits_to most n) (digits_from most n) (flat_digits most n)
-
 pub int_to : (z : ℤ) (t : List ℕ) → IntText z t → grammar.int_text z t
 int_to (pos n) t h = (n, refl, digits_to integer_max n t h)
 int_to (negsuc n) t h = absurd h

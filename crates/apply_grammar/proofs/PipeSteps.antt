@@ -172,11 +172,6 @@ parts_stop item front n t total h g = sym g ∙ ap (with_parts front) (no_part i
 
 -- ---- what the loops read
 
-below_zero : (limits : Bounds) (d e : ℕ) → d ≡ suc e → (n : ℕ) (t : List ℕ) → below limits d 0 n t ≡ pipe_at limits e n t
-unfolding below
-below_zero limits zero e z n t = absurd (omega arith)
-below_zero limits (suc d) e z n t = let i : d ≡ e = omega arith in ap (λ k. pipe_at limits k n t) i
-
 pub keys_found : (limits : Bounds) (d : ℕ) → IsCounted (λ k. key_text limits k d) key_count (key_at (below limits d 0) d)
 keys_found limits d = key_is limits d (below limits d 0) (inner_ok limits d (below limits d 0) (λ e z. below_is limits d 0 e (z_is d e z)))
   where

@@ -13,11 +13,11 @@ use Rattle.apply_grammar.specs.declared.refusals.GrammarRefused.{GrammarRefused}
 use Rattle.apply_grammar.specs.declared.refusals.GrammarRefused.TheVariants as refused
 use Rattle.apply_grammar.specs.Frames.{IsFrame, IsFront, IsSlashOrNothing}
 use Rattle.apply_grammar.specs.Limits.{most_open, most_steps, TextIn, Begins, IsSyntax, served}
-use Rattle.apply_grammar.specs.Requests.{IsRequest, IsNoRequest, IfSyntax, asked_of}
+use Rattle.apply_grammar.specs.Requests.{Asked, IsRequest, IsNoRequest, IfSyntax, asked_of}
 use Rattle.apply_grammar.specs.Gives.{GivesRequest}
 use Rattle.apply_grammar.specs.Reading.{◌>>=◌, branch, run, after, blanks_at, word_behind, name_at}
 use Rattle.apply_grammar.specs.PipeReading.{pipeline_at}
-use Rattle.apply_grammar.specs.FrameReading.{Asked, asked_for, explain_at, without_slash, query_at, frame_at, decoded_at, line_at}
+use Rattle.apply_grammar.specs.FrameReading.{asked_for, explain_at, without_slash, query_at, frame_at, decoded_at, line_at}
 use Rattle.apply_grammar.proofs.Runs.{and_parts, bind_then, branch_then, cond_then, some_is, none_some, blanks_is, blanks_front, after_is, after_front, stops, solid_stops}
 use Rattle.apply_grammar.proofs.Leaves.{false_true, name_is, name_front, name_leads, name_parts, leads_after, rws_stop, word_run}
 use Rattle.apply_grammar.proofs.ItemLaws.{behind_is, behind_front, name_solid}

@@ -7,6 +7,7 @@ use Rattle.apply_ast.specs.Trees.{Pipe}
 use Rattle.apply_grammar.specs.Limits.{most_open, most_steps, served}
 use Rattle.apply_grammar.specs.Reading.{◌>>=◌, branch, after, blanks_at, word_behind, name_at}
 use Rattle.apply_grammar.specs.PipeReading.{pipeline_at}
+pub use Rattle.apply_grammar.specs.Requests.{Asked}
 
 -- whether `explain` and blanks stand in front, and what follows them
 unfoldable pub explain_at : List ℕ → Bool × List ℕ
@@ -26,10 +27,6 @@ frame_at t = do
   n ← name_at (without_slash (explain_at t).1)
   q ← query_at n.1
   Some ((explain_at t).0, n.0, q)
-
--- what a line asks for: whether for the plan, the entity set, and the pipeline
-abbrev pub Asked : Type 0
-Asked = Bool × Name × Pipe
 
 -- a pipeline behind a frame
 abbrev pub asked_for : Bool → Name → Result Pipe ℕ → Result Asked ℕ

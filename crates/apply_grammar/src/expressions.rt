@@ -5,7 +5,6 @@
 ghost use Rattle.std.specs.Prelude.{◌≡◌, ℕ, ◌+◌, ◌<◌, ◌≤◌, length, option_map, IfOk, List, Option, Some};
 ghost use Rattle.apply_ast.specs.Trees as trees;
 ghost use Rattle.apply_ast.specs.Grammar.{expr_text};
-ghost use Rattle.apply_ast.specs.Printing as printing;
 ghost use Rattle.apply_ast.specs.Views.{expr_of};
 ghost use Rattle.apply_grammar.specs.Gives.{Gives};
 ghost use Rattle.apply_grammar.specs.Limits as limits;
@@ -16,7 +15,7 @@ use crate::bytes::{after, blanks_at, close_at, comma_at, open_at, same, skip_bla
 use crate::literals::{digits_at, read_number, read_text};
 use crate::paths::path_at;
 use crate::refusals::ExprRefused;
-use crate::words::{binop_level, binop_of, fun1_of, fun2_of};
+use crate::words::{binop_of, fun1_of, fun2_of};
 use apply_ast::{BinOp, Expr, Fun1, Fun2, UnOp};
 use std::alloc::Global;
 
@@ -33,7 +32,7 @@ fn op_at(level: u8, text: &[u8]) -> Option<(BinOp, &[u8])>
     let (word, rest) = word_run(blanks_at(text)?);
     let op = binop_of(word)?;
     let rest = blanks_at(rest)?;
-    if level <= binop_level(op) {
+    if level <= op.level() {
         Some((op, rest))
     } else {
         None
@@ -260,7 +259,7 @@ pub(crate) fn read_level(
         if ops == 0 {
             return Err(ExprRefused::Syntax);
         }
-        let (right, less, next) = read_level(alloc, depth, binop_level(op) + 1, ops - 1, behind)?;
+        let (right, less, next) = read_level(alloc, depth, op.level() + 1, ops - 1, behind)?;
         left = Expr::Binary(op, Box::new(alloc, left)?, Box::new(alloc, right)?);
         ops = less;
         rest = next;

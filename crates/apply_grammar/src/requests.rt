@@ -3,8 +3,7 @@ ghost use Rattle.std.specs.Prelude.{◌≡◌, ◌↔◌, ◌<◌, ◌≤◌, le
 ghost use Rattle.apply_grammar.specs.Gives.{Gives, GivesRequest};
 ghost use Rattle.apply_grammar.specs.Frames.{line_limit};
 ghost use Rattle.apply_grammar.specs.FrameReading as frames;
-ghost use Rattle.apply_grammar.specs.FrameReading.{Asked};
-ghost use Rattle.apply_grammar.specs.Requests.{IsRequest, IsNoRequest, IfSyntax, asked_of};
+ghost use Rattle.apply_grammar.specs.Requests.{Asked, IsRequest, IsNoRequest, IfSyntax, asked_of};
 ghost use Rattle.apply_ast.specs.Trees as trees;
 ghost use Rattle.apply_ast.specs.Grammar.{Text};
 
@@ -78,10 +77,8 @@ fn read_decoded(alloc: Global, text: &[u8]) -> Result<Request, GrammarRefused>
         Err(ExprRefused::Syntax) => return Err(GrammarRefused::Syntax(0)),
         Err(ExprRefused::Memory) => return Err(GrammarRefused::Memory),
     };
-    match read_pipeline(alloc, text) {
-        Ok(pipe) => Ok(Request { explain, set, pipe }),
-        Err(refused) => Err(refused),
-    }
+    let pipe = read_pipeline(alloc, text)?;
+    Ok(Request { explain, set, pipe })
 }
 
 /// The request of a line that is not too long.

@@ -41,12 +41,12 @@ read_level-returns-then-ops-eq0-clause-exact t c = goes_full (primary served (pa
 pub read_level-returns-in_err-right-clause-exact : goal.read_level-returns-in_err-right-clause-exact
 read_level-returns-in_err-right-clause-exact t c =
     let p = err_from_is_err_and c.from_residual-in_err-right.result c.from_residual-in_err-right.ensures.1 in
-    rw (p.1, p.2) (fails_on c.in_err-right.field-0.0 c.in_err-right.ensures.exact (λ h. goes_fails served c.args.depth c.args.level _ _ _ c.in-Some.op c.in-Some.behind.now c.binop_level.result _ c.in-Some.ensures (omega arith) c.binop_level.ensures.value h c.loop-op.invariant.0))
+    rw (p.1, p.2) (fails_on c.in_err-right.field-0.0 c.in_err-right.ensures.exact (λ h. goes_fails served c.args.depth c.args.level _ _ _ c.in-Some.op c.in-Some.behind.now c.level.result _ c.in-Some.ensures (omega arith) c.level.ensures.value h c.loop-op.invariant.0))
 
 pub read_level-loop-op-preserved : goal.read_level-loop-op-preserved
 read_level-loop-op-preserved t c =
     rw (c.in_ok-new.ensures.ok, c.in_ok-new-2.ensures.ok)
-    (goes_on_turn served c.args.depth c.args.level _ _ _ c.in-Some.op c.in-Some.behind.now c.binop_level.result _ _ _ _ c.in-Some.ensures (omega arith) c.binop_level.ensures.value c.in_ok-right.ensures.exact c.loop-op.invariant.0, omega (arith, c.in_ok-right.ensures.less))
+    (goes_on_turn served c.args.depth c.args.level _ _ _ c.in-Some.op c.in-Some.behind.now c.level.result _ _ _ _ c.in-Some.ensures (omega arith) c.level.ensures.value c.in_ok-right.ensures.exact c.loop-op.invariant.0, omega (arith, c.in_ok-right.ensures.less))
 
 pub read_level-returns-clause-exact : goal.read_level-returns-clause-exact
 read_level-returns-clause-exact t c = goes_done (primary served (parens served c.args.depth)) c.args.level _ _ _ _ c.in_default.ensures c.loop-op.invariant.0
