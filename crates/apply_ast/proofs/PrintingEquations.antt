@@ -9,14 +9,6 @@ use Rattle.std.proofs.Common.{◌≡◌, ap, refl}
 
 -- ---- print_steps
 
-pub print_steps-End : print_steps Pipe.End ≡ ([])
-unfolding print_steps
-print_steps-End = refl
-
-pub print_steps-Then : (s : Step) (p : Pipe) → print_steps (Pipe.Then s p) ≡ (print_step s ∷ print_steps p)
-unfolding print_steps
-print_steps-Then s p = refl
-
 -- ---- print_inner
 
 pub print_inner-NoPipe : print_inner OptPipe.NoPipe ≡ ([])
@@ -28,14 +20,6 @@ unfolding print_steps
 print_inner-SomePipe p = refl
 
 -- ---- print_branches
-
-pub print_branches-NoPipes : print_branches Pipes.NoPipes ≡ ([])
-unfolding print_steps
-print_branches-NoPipes = refl
-
-pub print_branches-MorePipes : (p : Pipe) (ps : Pipes) → print_branches (Pipes.MorePipes p ps) ≡ (join_with_byte 47 (print_steps p) ∷ print_branches ps)
-unfolding print_steps
-print_branches-MorePipes p ps = refl
 
 -- ---- print_key
 
@@ -52,14 +36,6 @@ unfolding print_steps
 print_key-Recursive h p T = refl
 
 -- ---- print_keys
-
-pub print_keys-NoKeys : print_keys Keys.NoKeys ≡ ([])
-unfolding print_steps
-print_keys-NoKeys = refl
-
-pub print_keys-MoreKeys : (k : Key) (ks : Keys) → print_keys (Keys.MoreKeys k ks) ≡ (print_key k ∷ print_keys ks)
-unfolding print_steps
-print_keys-MoreKeys k ks = refl
 
 -- ---- print_step
 

@@ -22,9 +22,6 @@ unwrapped : (k : ℕ) (A : Language) (t : List ℕ) → wrapped k A t → (s : L
 unwrapped zero A t h = (t, h)
 unwrapped (suc k) A t h = unwrapped k A h.second.left h.second.first
 
-operand_of : (least own : ℕ) (A : Language) (t : List ℕ) → Operand least own A t → (s : List ℕ) × A s
-operand_of least own A t h = unwrapped h.pairs A t h.of
-
 arguments : (w : List ℕ) (A : Language) (t : List ℕ) → call_text w A t → (s : List ℕ) × A s
 arguments w A t h = (h.second.second.left, h.second.second.first)
 

@@ -90,7 +90,3 @@ keys_of-is l = of_keys.fold_out-KeyList Key Step Step Step Keys Pipe Pipes key_l
 
 pub pipes_of-is : (l : of_pipes.PipeList) → pipes_of l ≡ pipes_from (map pipe_of (pipes_in l))
 pipes_of-is l = ap pipes_of (sym (of_pipes.roll-out-PipeList l)) ∙ of_pipes.fold-roll-PipeList Key Step Step Step Keys Pipe Pipes key_layer step_layer climb_layer join_layer keys_layer pipe_layer pipes_layer (of_pipes.out-PipeList l)
-
--- a climb of these parts
-pub climb_of-parts : (up : Bool) (h : of_hier.HierName) (p : List (List ℕ)) (q : of_pipe.Pipe) (d : Option ℕ) (keep : Bool) → climb_of (record { up = up; hier = h; path = p; inner = q; distance = d; keep = keep }) ≡ Step.Climb up (hier_of h) p (pipe_of q) d keep
-climb_of-parts up h p q d keep = climb_of-is (record { up = up; hier = h; path = p; inner = q; distance = d; keep = keep })

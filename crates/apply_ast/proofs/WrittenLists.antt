@@ -21,21 +21,6 @@ module _ {A B : Type 0} (f : A → B) (g : B → List ℕ) (c : ℕ) where
       ∙ append_assoc old (join_with_byte c (map g (map f (take i xs)))) (byte_before c i ++ g (f (get_or xs i d)))
       ∙ ap (λ t. old ++ t) (sym (joined_suc xs i d h) ∙ ap (λ k. join_with_byte c (map g (map f (take k xs)))) (sym (add-one i)))
 
-  behind_suc : (xs : List A) (i : ℕ) (d : A) → i < length xs → each_behind_byte c (map g (map f (take (suc i) xs))) ≡ each_behind_byte c (map g (map f (take i xs))) ++ (c ∷ g (f (get_or xs i d)))
-  behind_suc [] i d h = absurd (omega (arith, h))
-  behind_suc (x ∷ xs) zero d h = simp append-nil
-  behind_suc (x ∷ xs) (suc i) d h =
-      ap (λ t. c ∷ (g (f x) ++ t)) (behind_suc xs i d (omega (arith, h)))
-      ∙ sym (ap (λ t. c ∷ t) (append_assoc (g (f x)) (each_behind_byte c (map g (map f (take i xs)))) (c ∷ g (f (get_or xs i d)))))
-
-  -- one more item, behind a byte, at the end of what was written
-  pub behind_step : (old out between new : List ℕ) (xs : List A) (i : ℕ) (d : A) → i < length xs → out ≡ old ++ each_behind_byte c (map g (map f (take i xs))) → between ≡ out ++ c ∷ [] → new ≡ between ++ g (f (get_or xs i d)) → new ≡ old ++ each_behind_byte c (map g (map f (take (i + 1) xs)))
-  behind_step old out between new xs i d h e e1 e2 =
-      e2 ∙ ap (λ t. t ++ g (f (get_or xs i d))) (e1 ∙ ap (λ t. t ++ c ∷ []) e)
-      ∙ append_assoc (old ++ each_behind_byte c (map g (map f (take i xs)))) (c ∷ []) (g (f (get_or xs i d)))
-      ∙ append_assoc old (each_behind_byte c (map g (map f (take i xs)))) (c ∷ g (f (get_or xs i d)))
-      ∙ ap (λ t. old ++ t) (sym (behind_suc xs i d h) ∙ ap (λ k. each_behind_byte c (map g (map f (take k xs)))) (sym (add-one i)))
-
 -- parts with a byte between each two: the first, and each other one behind the byte
 pub joined_first : (c : ℕ) (x : List ℕ) (xs : List (List ℕ)) → join_with_byte c (x ∷ xs) ≡ x ++ each_behind_byte c xs
 joined_first c x [] = simp append-nil

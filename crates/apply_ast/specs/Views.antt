@@ -135,7 +135,7 @@ pipes_layer l = pipes_from l.all.items
 
 -- a pipeline
 abbrev pub pipe_layer : layer.Pipe-F Key Step Step Step Keys Pipe Pipes → Pipe
-pipe_layer p = pipe p.steps.items
+pipe_layer p = pipe p.steps
 
 -- ---- the family
 
@@ -179,4 +179,4 @@ pipes_in l = (of_pipes.out-PipeList l).all.items
 
 -- the steps in a pipeline
 abbrev pub steps_in : of_pipe.Pipe → List of_step.Step
-steps_in p = p.steps.items
+steps_in p = p.steps

@@ -7,33 +7,50 @@ use crate::items::{
     AggItem, AggList, HierName, Limit, Named, NamedList, Number, OrderItem, OrderList, TopStep,
     TraverseStep,
 };
-use crate::names::{Name, Path, PathList};
+use crate::names::{Held, Name, Path, PathList};
 use crate::steps::{ClimbStep, JoinStep, KeyItem, KeyList, Pipe, PipeList, Request, Step};
 use edm_values::Text;
 use std::alloc::{AllocError, Global};
+use std::sync::ArcSlice;
 
 impl Name {
-    /// The same name.
-    pub fn copy(&self, alloc: Global) -> Result<Name, AllocError>
+    /// The same name. No memory is taken: the copy shares the text. An error where the text is shared as often as can be
+    /// counted.
+    pub fn copy(&self, _alloc: Global) -> Result<Name, AllocError>
         ensures { IfOk result (λ n. n ≡ self.now) }
     {
         Ok(Name {
-            text: String::from_str(alloc, &self.text)?,
+            text: self.text.clone()?,
         })
     }
 }
 
 impl Path {
-    /// The same path.
+    /// The same path. The first copy takes memory for a list of names that its own copies share: a copy of a copied path
+    /// takes none.
     pub fn copy(&self, alloc: Global) -> Result<Path, AllocError>
         ensures { IfOk result (λ p. p ≡ self.now) }
     {
-        let mut names = Vec::new(alloc);
-        for name in self.names() {
-            names.push(name.copy(alloc)?)?;
+        match &self.held {
+            Held::Own(names) => Ok(Path {
+                held: Held::Shared(ArcSlice::from_vec(copy_names(alloc, names.as_slice())?)?),
+            }),
+            Held::Shared(names) => Ok(Path {
+                held: Held::Shared(names.clone()?),
+            }),
         }
-        Ok(Path::new(names))
     }
+}
+
+/// The same names.
+fn copy_names(alloc: Global, names: &[Name]) -> Result<Vec<Name>, AllocError>
+    ensures { IfOk result (λ l. l.items ≡ names.now) }
+{
+    let mut copies = Vec::with_capacity(alloc, names.len())?;
+    for name in names {
+        copies.push(name.copy(alloc)?)?;
+    }
+    Ok(copies)
 }
 
 impl PathList {
@@ -353,7 +370,7 @@ impl Pipe {
         for step in self.steps() {
             steps.push(step.copy(alloc)?)?;
         }
-        Ok(Pipe { steps })
+        Ok(Pipe::new(steps))
     }
 }
 

@@ -1,5 +1,5 @@
 //! Expressions (URL Conventions 4.01, section 5.1.1).
-ghost use Rattle.std.specs.Prelude.{◌≡◌};
+ghost use Rattle.std.specs.Prelude.{◌≡◌, ◌≤◌};
 ghost use Rattle.apply_ast.specs.Printing.{binop_word, binop_level, fun1_word, fun2_word};
 
 use crate::names::Path;
@@ -50,7 +50,8 @@ impl BinOp {
 
     /// How tightly the operator binds, from 1, the loosest, to 6.
     pub fn level(self) -> u8
-        ensures { result ≡ binop_level self }
+        ensures value { result ≡ binop_level self }
+        ensures most { result ≤ 6 }
     {
         match self {
             BinOp::Or => 1,

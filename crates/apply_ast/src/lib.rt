@@ -19,6 +19,7 @@ mod expressions;
 mod item_texts;
 mod items;
 mod names;
+mod non_empty;
 mod step_texts;
 mod steps;
 #[cfg(test)]

@@ -5,22 +5,25 @@ ghost use Rattle.edm_values.specs.Names as spec;
 use edm_values::is_name;
 use std::alloc::{AllocError, Global};
 use std::marker::Model;
+use std::sync::{ArcSlice, ArcStr};
 
-/// A simple identifier (CSDL JSON 4.01, section 15.2) of at most 128 ASCII bytes that is no word of expressions.
+/// A simple identifier (CSDL JSON 4.01, section 15.2) of at most 128 ASCII bytes that is no word of expressions. Copies
+/// share the text.
 #[derive(Debug, Drop)]
 pub struct Name {
-    pub(crate) text: String,
+    pub(crate) text: ArcStr,
 }
 
 impl Model for Name {
-    ghost use Rattle.std.specs.Prelude.{ℕ, List, IsTrue, string_bytes};
+    ghost use Rattle.std.specs.Prelude.{ℕ, List, IsTrue};
+    ghost use Rattle.std.specs.Arc.{arc_str_bytes};
     ghost use Rattle.edm_values.specs.Names.{is_name};
 
     ghost Value = { List ℕ };
 
-    ghost view = { λ n. string_bytes n.text };
+    ghost view = { λ n. arc_str_bytes n.text };
 
-    ghost invariant = { λ n. IsTrue (is_name (string_bytes n.text)) };
+    ghost invariant = { λ n. IsTrue (is_name (arc_str_bytes n.text)) };
 }
 
 impl Name {
@@ -30,7 +33,7 @@ impl Name {
     {
         if is_name(text) {
             Ok(Some(Name {
-                text: String::from_str(alloc, text)?,
+                text: ArcStr::from_str(alloc, text)?,
             }))
         } else {
             Ok(None)
@@ -41,24 +44,32 @@ impl Name {
     pub fn text(&self) -> &str
         ensures { result.now ≡ self.now }
     {
-        &self.text
+        self.text.as_str()
     }
+}
+
+/// The names of a path: a list of its own, as it was made, or one that copies share.
+#[derive(Debug, Drop)]
+pub(crate) enum Held {
+    Own(Vec<Name>),
+    Shared(ArcSlice<Name>),
 }
 
 /// A path of at least one name.
 #[derive(Debug, Drop)]
 pub struct Path {
-    pub(crate) names: Vec<Name>,
+    pub(crate) held: Held,
 }
 
 impl Model for Path {
     ghost use Rattle.std.specs.Prelude.{ℕ, ◌<◌, List, length};
+    ghost use Rattle.apply_ast.specs.HeldNames.{held_names};
 
     ghost Value = { List (List ℕ) };
 
-    ghost view = { λ p. p.names.items };
+    ghost view = { λ p. held_names p.held };
 
-    ghost invariant = { λ p. 0 < length p.names.items };
+    ghost invariant = { λ p. 0 < length (held_names p.held) };
 }
 
 impl Path {
@@ -67,7 +78,9 @@ impl Path {
         requires { 0 < length names.items }
         ensures { result ≡ names.items }
     {
-        Path { names }
+        Path {
+            held: Held::Own(names),
+        }
     }
 
     /// The names from the first to the last.
@@ -75,7 +88,10 @@ impl Path {
         ensures names { result.now ≡ self.now }
         ensures some { 0 < length result.now }
     {
-        &self.names
+        match &self.held {
+            Held::Own(names) => names.as_slice(),
+            Held::Shared(names) => names.as_slice(),
+        }
     }
 }
 

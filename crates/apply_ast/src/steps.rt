@@ -6,6 +6,7 @@ ghost use Rattle.apply_ast.specs.Views.{step_of, pipe_of, steps_in, keys_in, pip
 use crate::expressions::Expr;
 use crate::items::{AggList, HierName, NamedList, OrderList, TopStep, TraverseStep};
 use crate::names::{Name, Path, PathList};
+use crate::non_empty::NonEmpty;
 
 /// A join with the entities that a collection-valued navigation property leads to. With `outer`, an instance without
 /// any is kept.
@@ -124,7 +125,7 @@ impl PipeList {
 #[derive(Debug, Drop)]
 #[cycle(trees)]
 pub struct Pipe {
-    pub(crate) steps: Vec<Step>,
+    pub(crate) steps: NonEmpty<Step>,
 }
 
 impl Pipe {
@@ -134,15 +135,18 @@ impl Pipe {
         ensures steps { steps_in result ≡ steps.items }
         ensures tree { pipe_of result ≡ pipe (map step_of steps.items) }
     {
-        Pipe { steps }
+        Pipe {
+            steps: NonEmpty::new(steps),
+        }
     }
 
     /// The steps in their order.
     pub fn steps(&self) -> &[Step]
         ensures steps { result.now ≡ steps_in self.now }
         ensures tree { pipe_of self.now ≡ pipe (map step_of result.now) }
+        ensures some { 0 < length result.now }
     {
-        &self.steps
+        self.steps.as_slice()
     }
 }
 

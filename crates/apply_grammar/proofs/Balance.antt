@@ -184,15 +184,6 @@ plain_shallow d t h a b e =
 
 -- ---- parentheses
 
-pub record Wrapped (m t : List ℕ) : Type 0 where
-  pub cut : t ≡ 40 ∷ (m ++ 41 ∷ [])
-
-closing_outside : (r : List ℕ) → outside false (41 ∷ r) ≡ 41 ∷ outside false r
-closing_outside r = refl
-
-opening_outside : (r : List ℕ) → outside false (40 ∷ r) ≡ 40 ∷ outside false r
-opening_outside r = refl
-
 opens_open : (r : List ℕ) → opens (40 ∷ r) ≡ suc (opens r)
 opens_open r = sum_by-cons (λ x. cond (x == 40) 1 0) 40 (outside false r) ∙ omega arith
 

@@ -8,6 +8,7 @@ use Rattle.std.proofs.lemmas.Str.{IsUtf8-from_ascii, IsUtf8-from_is_utf8, is_utf
 use Rattle.std.proofs.lemmas.Str.Ascii.{IsAscii-nil, IsAscii-cons}
 use Rattle.edm_values.specs.Names.{goes_on_name}
 use Rattle.apply_ast.specs.Trees.{Expr}
+use Rattle.apply_grammar.specs.Limits.{served}
 use Rattle.apply_grammar.specs.Reading.{quote_at, text_at}
 use Rattle.apply_grammar.proofs.Runs.{and_parts}
 use Rattle.apply_grammar.proofs.Leaves.{or_cases, bool_false}
@@ -37,10 +38,10 @@ pub word_is_text : (w : List ℕ) → list_all goes_on_name w ≡ true → IsUtf
 word_is_text w h = IsUtf8-from_ascii w (word_is_ascii w h)
 
 -- what stands between the quotes is text, or it is none
-pub text_read : (t bs r : List ℕ) → quote_at t ≡ Some (bs, r) → IsUtf8 bs → text_at t ≡ Some (Expr.Text bs, r)
+pub text_read : (t bs r : List ℕ) → quote_at t ≡ Some (bs, r) → IsUtf8 bs → text_at served t ≡ Some (Expr.Text bs, r)
 unfolding text_at
 text_read t bs r h u = rw (h, is_utf8-from_IsUtf8 bs u) refl
 
-pub text_bad : (t bs r : List ℕ) → quote_at t ≡ Some (bs, r) → (IsUtf8 bs → ⊥) → text_at t ≡ None
+pub text_bad : (t bs r : List ℕ) → quote_at t ≡ Some (bs, r) → (IsUtf8 bs → ⊥) → text_at served t ≡ None
 unfolding text_at
 text_bad t bs r h u = rw (h, bool_false (is_utf8 bs) (λ e. u (IsUtf8-from_is_utf8 bs e))) refl

@@ -1,5 +1,5 @@
 -- The texts that reading goes down into are those of the grammar that keep the limit on open parentheses: for each form, both ways.
-use Rattle.std.proofs.Common.{◌≡◌, ℕ, zero, suc, ◌<◌, ◌≤◌, nat_le, ◌==◌, Bool, true, false, List, [], ◌∷◌, ◌++◌, IsUtf8, refl, sym, ap, subst, ◌∙◌, append_assoc, arith, inl, inr, pos, negsuc, ℤ}
+use Rattle.std.proofs.Common.{◌≡◌, ℕ, zero, suc, ◌<◌, ◌≤◌, nat_le, ◌==◌, Bool, true, false, ◌||◌, List, [], ◌∷◌, ◌++◌, IsUtf8, refl, sym, ap, subst, ◌∙◌, append_assoc, arith, inl, inr, pos, negsuc, ℤ}
 use Rattle.std.specs.Prelude.{codes, if◌then◌else◌}
 use Rattle.std.specs.List.{list_all}
 use Rattle.std.specs.Str.Parse.{digits_value, AllDigits}
@@ -17,7 +17,8 @@ use Rattle.apply_ast.specs.Trees.{Expr}
 use Rattle.apply_ast.specs.Printing.{binop_word, binop_level, level, quoted, fun1_word, fun2_word}
 use Rattle.apply_ast.specs.Grammar as grammar
 use Rattle.apply_ast.specs.Grammar.{Language, word, ◌·◌, choice, given, empty, nothing, is_blank, bws, rws, comma, open_, close, in_parentheses, listed, each_behind, name_text, path_text, sign_text}
-use Rattle.apply_grammar.specs.Limits.{IsShallow, operations, most_operations, is_small}
+use Rattle.apply_grammar.specs.Limits.{IsShallow, operations, is_small, Bounds}
+use Rattle.apply_grammar.specs.Reading.{is_literal}
 use Rattle.apply_grammar.proofs.Nested as nested
 use Rattle.apply_grammar.proofs.Nested.{inside, SmallExpr}
 use Rattle.apply_grammar.proofs.Runs.{and_parts, both_true}
@@ -31,29 +32,40 @@ use Rattle.apply_ast.specs.Grammar.{bare as bare_text}
 use Rattle.apply_grammar.proofs.Nested.{bare as nested_bare, Digits, IntText, DecText, Wide, DateText}
 use Rattle.apply_grammar.proofs.Balance.{Whole, whole_join, shallow_front, shallow_rest, shallow_join, is_plain, plain_whole, plain_shallow, wrapped_whole, wrapped_shallow, inner_shallow, none_shallow, inner_utf8, quoted_text, quoted_whole, quoted_shallow}
 
+-- the text is of characters, where it must be
+abbrev pub InCharacters : Bounds → List ℕ → Type 0
+InCharacters limits t = limits.any_bytes ≡ false → IsUtf8 t
+
+literal_is : (limits : Bounds) (s : List ℕ) → InCharacters limits s → is_literal limits s ≡ true
+literal_is limits s u = by limits.any_bytes refl
+  where
+    by : (b : Bool) → limits.any_bytes ≡ b → (limits.any_bytes || is_utf8 s) ≡ true
+    by true e = rw e refl
+    by false e = rw e (is_utf8-from_IsUtf8 s (u e))
+
 -- a language of the grammar, and the same by depth: the texts of the one that go no deeper than d are those of the other at d. P is a
 -- limit that the second has beside
-pub record Tied (P : Type 0) (A : Language) (L : ℕ → Language) : Type 0 where
+pub record Tied (limits : Bounds) (P : Type 0) (A : Language) (L : ℕ → Language) : Type 0 where
   pub forget : (d : ℕ) (t : List ℕ) → L d t → A t
   pub shallow : (d : ℕ) (t : List ℕ) → L d t → IsShallow d t
   pub limit : (d : ℕ) (t : List ℕ) → L d t → P
   pub whole : (t : List ℕ) → A t → Whole t
-  pub deep : P → (d : ℕ) (t : List ℕ) → A t → IsShallow d t → IsUtf8 t → L d t
+  pub deep : P → (d : ℕ) (t : List ℕ) → A t → IsShallow d t → InCharacters limits t → L d t
 
 -- the limit, said otherwise
-pub limited : {P Q : Type 0} {A : Language} {L : ℕ → Language} → (P → Q) → (Q → P) → Tied P A L → Tied Q A L
-limited f g x = record { forget = x.forget; shallow = x.shallow; limit = λ d t h. f (x.limit d t h); whole = x.whole; deep = λ q d t h s u. x.deep (g q) d t h s u }
+pub limited : (limits : Bounds) {P Q : Type 0} {A : Language} {L : ℕ → Language} → (P → Q) → (Q → P) → Tied limits P A L → Tied limits Q A L
+limited limits f g x = record { forget = x.forget; shallow = x.shallow; limit = λ d t h. f (x.limit d t h); whole = x.whole; deep = λ q d t h s u. x.deep (g q) d t h s u }
 
 -- each text of the language is of plain bytes
 abbrev pub Flat : Language → Type 0
 Flat A = (t : List ℕ) → A t → list_all is_plain t ≡ true
 
-pub flat : {A : Language} → Flat A → Tied (Unit {0}) A (λ d. A)
-flat f = record { forget = λ d t h. h; shallow = λ d t h. plain_shallow d t (f t h); limit = λ d t h. tt; whole = λ t h. plain_whole t (f t h); deep = λ p d t h s u. h }
+pub flat : (limits : Bounds) {A : Language} → Flat A → Tied limits (Unit {0}) A (λ d. A)
+flat limits f = record { forget = λ d t h. h; shallow = λ d t h. plain_shallow d t (f t h); limit = λ d t h. tt; whole = λ t h. plain_whole t (f t h); deep = λ p d t h s u. h }
 
 -- the same language under another name
-pub renamed : {P : Type 0} {A B : Language} {L M : ℕ → Language} → ((t : List ℕ) → A t → B t) → ((t : List ℕ) → B t → A t) → ((d : ℕ) (t : List ℕ) → L d t → M d t) → ((d : ℕ) (t : List ℕ) → M d t → L d t) → Tied P A L → Tied P B M
-renamed f g k l x = record {
+pub renamed : (limits : Bounds) {P : Type 0} {A B : Language} {L M : ℕ → Language} → ((t : List ℕ) → A t → B t) → ((t : List ℕ) → B t → A t) → ((d : ℕ) (t : List ℕ) → L d t → M d t) → ((d : ℕ) (t : List ℕ) → M d t → L d t) → Tied limits P A L → Tied limits P B M
+renamed limits f g k l x = record {
   forget = λ d t h. f t (x.forget d t (l d t h));
   shallow = λ d t h. x.shallow d t (l d t h);
   limit = λ d t h. x.limit d t (l d t h);
@@ -61,25 +73,25 @@ renamed f g k l x = record {
   deep = λ p d t h s u. k d t (x.deep p d t (g t h) s u);
 }
 
-pub joined : {P Q : Type 0} {A B : Language} {L M : ℕ → Language} → Tied P A L → Tied Q B M → Tied (P × Q) (A · B) (λ d. L d · M d)
-joined {P} {Q} {A} {B} {L} {M} x y = record {
+pub joined : (limits : Bounds) {P Q : Type 0} {A B : Language} {L M : ℕ → Language} → Tied limits P A L → Tied limits Q B M → Tied limits (P × Q) (A · B) (λ d. L d · M d)
+joined limits {P} {Q} {A} {B} {L} {M} x y = record {
   forget = λ d t h. record { left = h.left; right = h.right; first = x.forget d h.left h.first; second = y.forget d h.right h.second; cut = h.cut };
   shallow = λ d t h. subst (IsShallow d) (sym h.cut) (shallow_join d h.left h.right (x.whole h.left (x.forget d h.left h.first)) (x.shallow d h.left h.first) (y.shallow d h.right h.second));
   limit = λ d t h. (x.limit d h.left h.first, y.limit d h.right h.second);
   whole = λ t h. subst Whole (sym h.cut) (whole_join h.left h.right (x.whole h.left h.first) (y.whole h.right h.second));
   deep = λ p d t h s u.
       let w = x.whole h.left h.first in
-      let v = w.splits h.right (subst (λ l. IsUtf8 l) h.cut u) in
+      let v : (limits.any_bytes ≡ false) → IsUtf8 h.left × IsUtf8 h.right = λ e. w.splits h.right (subst (λ l. IsUtf8 l) h.cut (u e)) in
       let i : IsShallow d (h.left ++ h.right) = subst (IsShallow d) h.cut s in
-      record { left = h.left; right = h.right; first = x.deep p.0 d h.left h.first (shallow_front d h.left h.right i) v.0; second = y.deep p.1 d h.right h.second (shallow_rest d h.left h.right w i) v.1; cut = h.cut };
+      record { left = h.left; right = h.right; first = x.deep p.0 d h.left h.first (shallow_front d h.left h.right i) (λ e. (v e).0); second = y.deep p.1 d h.right h.second (shallow_rest d h.left h.right w i) (λ e. (v e).1); cut = h.cut };
 }
 
 -- with a part of plain bytes before or behind
-pub flat_then : {P : Type 0} {A B : Language} {M : ℕ → Language} → Flat A → Tied P B M → Tied P (A · B) (λ d. A · M d)
-flat_then f y = limited (λ p. p.1) (λ p. (tt, p)) (joined (flat f) y)
+pub flat_then : (limits : Bounds) {P : Type 0} {A B : Language} {M : ℕ → Language} → Flat A → Tied limits P B M → Tied limits P (A · B) (λ d. A · M d)
+flat_then limits f y = limited limits (λ p. p.1) (λ p. (tt, p)) (joined limits (flat limits f) y)
 
-pub then_flat : {P : Type 0} {A B : Language} {L : ℕ → Language} → Tied P A L → Flat B → Tied P (A · B) (λ d. L d · B)
-then_flat x f = limited (λ p. p.0) (λ p. (p, tt)) (joined x (flat f))
+pub then_flat : (limits : Bounds) {P : Type 0} {A B : Language} {L : ℕ → Language} → Tied limits P A L → Flat B → Tied limits P (A · B) (λ d. L d · B)
+then_flat limits x f = limited limits (λ p. p.0) (λ p. (p, tt)) (joined limits x (flat limits f))
 
 pub flat_join : {A B : Language} → Flat A → Flat B → Flat (A · B)
 flat_join f g t h = subst (λ l. list_all is_plain l ≡ true) (sym h.cut) (plain_append h.left h.right (f h.left h.first) (g h.right h.second))
@@ -91,11 +103,11 @@ flat_join f g t h = subst (λ l. list_all is_plain l ≡ true) (sym h.cut) (plai
 pub flat_word : (w : List ℕ) → list_all is_plain w ≡ true → Flat (word w)
 flat_word w h t e = subst (λ l. list_all is_plain l ≡ true) (sym e) h
 
-pub no_text : {P : Type 0} → P → Tied P nothing (λ d. nothing)
-no_text p = record { forget = λ d t h. h; shallow = λ d t h. absurd h; limit = λ d t h. p; whole = λ t h. absurd h; deep = λ p d t h s u. h }
+pub no_text : (limits : Bounds) {P : Type 0} → P → Tied limits P nothing (λ d. nothing)
+no_text limits p = record { forget = λ d t h. h; shallow = λ d t h. absurd h; limit = λ d t h. p; whole = λ t h. absurd h; deep = λ p d t h s u. h }
 
-pub if_given : {P : Type 0} {A : Language} {L : ℕ → Language} (b : Bool) → Tied P A L → Tied P (given b A) (λ d. given b (L d))
-if_given b x = record {
+pub if_given : (limits : Bounds) {P : Type 0} {A : Language} {L : ℕ → Language} (b : Bool) → Tied limits P A L → Tied limits P (given b A) (λ d. given b (L d))
+if_given limits b x = record {
   forget = λ d t h. (h.0, x.forget d t h.1);
   shallow = λ d t h. x.shallow d t h.1;
   limit = λ d t h. x.limit d t h.1;
@@ -178,11 +190,8 @@ pub flat_digits : (most n : ℕ) → Flat (Digits most n)
 flat_digits most n t h = digits_plain t h.digits
 
 -- a language of plain bytes that has two forms
-pub both_flat : {A B : Language} → ((t : List ℕ) → B t → A t) → ((t : List ℕ) → A t → B t) → Flat B → Tied (Unit {0}) A (λ d. B)
-both_flat {A} {B} f g h = renamed {A = B} {B = A} {L = λ d. B} {M = λ d. B} f g (λ d t k. k) (λ d t k. k) (flat h)
-
-pub count_tied : (most n : ℕ) → Tied (Unit {0}) (grammar.number_text 0 most n) (λ d. Digits most n)
-count_tied most n = both_flat (digits_to most n) (digits_from most n) (flat_digits most n)
+pub both_flat : (limits : Bounds) {A B : Language} → ((t : List ℕ) → B t → A t) → ((t : List ℕ) → A t → B t) → Flat B → Tied limits (Unit {0}) A (λ d. B)
+both_flat limits {A} {B} f g h = renamed limits {A = B} {B = A} {L = λ d. B} {M = λ d. B} f g (λ d t k. k) (λ d t k. k) (flat limits h)
 
 pub int_to : (z : ℤ) (t : List ℕ) → IntText z t → grammar.int_text z t
 int_to (pos n) t h = (n, refl, digits_to integer_max n t h)
@@ -304,8 +313,8 @@ paren_cut A t h =
 middle_whole : (b a e : List ℕ) → bws b → Whole a → bws e → Whole (b ++ (a ++ e))
 middle_whole b a e h w k = whole_join b (a ++ e) (plain_whole b (flat_bws b h)) (whole_join a e w (plain_whole e (flat_bws e k)))
 
-pub parentheses : {P : Type 0} {A : Language} {L : ℕ → Language} → Tied P A L → Tied P (in_parentheses A) (λ d. inside d L)
-parentheses {P} {A} {L} x = record {
+pub parentheses : (limits : Bounds) {P : Type 0} {A : Language} {L : ℕ → Language} → Tied limits P A L → Tied limits P (in_parentheses A) (λ d. inside d L)
+parentheses limits {P} {A} {L} x = record {
   forget = forget;
   shallow = shallow;
   limit = limit;
@@ -336,7 +345,7 @@ parentheses {P} {A} {L} x = record {
         (shallow_join d o.right (b.left ++ c.left) (plain_whole o.right (flat_bws o.right o.second)) (plain_shallow d o.right (flat_bws o.right o.second))
         (shallow_join d b.left c.left w (x.shallow d b.left b.first) (plain_shallow d c.left (flat_bws c.left c.first)))))
 
-    deep : P → (d : ℕ) (t : List ℕ) → in_parentheses A t → IsShallow d t → IsUtf8 t → inside d L t
+    deep : P → (d : ℕ) (t : List ℕ) → in_parentheses A t → IsShallow d t → InCharacters limits t → inside d L t
     deep p zero t h s u = absurd (none_shallow _ (subst (IsShallow 0) (paren_cut A t h) s))
     deep p (suc d) t h s u =
         let o = h.first in
@@ -346,36 +355,37 @@ parentheses {P} {A} {L} x = record {
         let v = plain_whole o.right (flat_bws o.right o.second) in
         let i = inner_shallow d _ (subst (IsShallow (suc d)) (paren_cut A t h) s) in
         let j = shallow_front d b.left c.left (shallow_rest d o.right (b.left ++ c.left) v i) in
-        let k = inner_utf8 _ (middle A (λ t g. x.whole t g) t h) (subst (λ l. IsUtf8 l) (paren_cut A t h) u) in
-        let l = v.splits (b.left ++ c.left) k in
-        let m = w.splits c.left l.1 in
-        record { left = h.left; right = h.right; first = h.first; second = record { left = b.left; right = b.right; first = x.deep p d b.left b.first j m.0; second = b.second; cut = b.cut }; cut = h.cut }
+        let m : InCharacters limits b.left = λ e.
+            let k = inner_utf8 _ (middle A (λ t g. x.whole t g) t h) (subst (λ l. IsUtf8 l) (paren_cut A t h) (u e)) in
+            let l = v.splits (b.left ++ c.left) k in
+            (w.splits c.left l.1).0 in
+        record { left = h.left; right = h.right; first = h.first; second = record { left = b.left; right = b.right; first = x.deep p d b.left b.first j m; second = b.second; cut = b.cut }; cut = h.cut }
 
 -- ---- expressions
 
-pairs_tied : {A : Language} {L : ℕ → Language} → Tied (Unit {0}) A L → (k : ℕ) → Tied (Unit {0}) (grammar.wrapped k A) (nested.wrapped k L)
-pairs_tied x zero = x
-pairs_tied x (suc k) = parentheses (pairs_tied x k)
+pairs_tied : (limits : Bounds) {A : Language} {L : ℕ → Language} → Tied limits (Unit {0}) A L → (k : ℕ) → Tied limits (Unit {0}) (grammar.wrapped k A) (nested.wrapped k L)
+pairs_tied limits x zero = x
+pairs_tied limits x (suc k) = parentheses limits (pairs_tied limits x k)
 
-pub operand_tied : {A : Language} {L : ℕ → Language} (least own : ℕ) → Tied (Unit {0}) A L → Tied (Unit {0}) (grammar.Operand least own A) (nested.Operand least own L)
-operand_tied least own x = record {
-  forget = λ d t h. record { pairs = h.pairs; of = (let y = pairs_tied x h.pairs in y.forget d t h.of); binds = h.binds };
-  shallow = λ d t h. let y = pairs_tied x h.pairs in y.shallow d t h.of;
+pub operand_tied : (limits : Bounds) {A : Language} {L : ℕ → Language} (least own : ℕ) → Tied limits (Unit {0}) A L → Tied limits (Unit {0}) (grammar.Operand least own A) (nested.Operand least own L)
+operand_tied limits least own x = record {
+  forget = λ d t h. record { pairs = h.pairs; of = (let y = pairs_tied limits x h.pairs in y.forget d t h.of); binds = h.binds };
+  shallow = λ d t h. let y = pairs_tied limits x h.pairs in y.shallow d t h.of;
   limit = λ d t h. tt;
-  whole = λ t h. let y = pairs_tied x h.pairs in y.whole t h.of;
-  deep = λ p d t h s u. record { pairs = h.pairs; of = (let y = pairs_tied x h.pairs in y.deep tt d t h.of s u); binds = h.binds };
+  whole = λ t h. let y = pairs_tied limits x h.pairs in y.whole t h.of;
+  deep = λ p d t h s u. record { pairs = h.pairs; of = (let y = pairs_tied limits x h.pairs in y.deep tt d t h.of s u); binds = h.binds };
 }
 
-two : {A B : Language} {L M : ℕ → Language} → Tied (Unit {0}) A L → Tied (Unit {0}) B M → Tied (Unit {0}) (A · B) (λ d. L d · M d)
-two x y = limited (λ p. tt) (λ p. (tt, tt)) (joined x y)
+two : (limits : Bounds) {A B : Language} {L M : ℕ → Language} → Tied limits (Unit {0}) A L → Tied limits (Unit {0}) B M → Tied limits (Unit {0}) (A · B) (λ d. L d · M d)
+two limits x y = limited limits (λ p. tt) (λ p. (tt, tt)) (joined limits x y)
 
-text_tied : (s : List ℕ) → Tied (Unit {0}) (word (quoted s)) (λ d. given (is_utf8 s) (word (quoted s)))
-text_tied s = record {
+text_tied : (limits : Bounds) (s : List ℕ) → Tied limits (Unit {0}) (word (quoted s)) (λ d. given (is_literal limits s) (word (quoted s)))
+text_tied limits s = record {
   forget = λ d t h. h.1;
   shallow = λ d t h. subst (IsShallow d) (sym h.1) (quoted_shallow d s);
   limit = λ d t h. tt;
   whole = λ t h. subst Whole (sym h) (quoted_whole s);
-  deep = λ p d t h i u. (is_utf8-from_IsUtf8 s (quoted_text s (subst (λ l. IsUtf8 l) h u)), h);
+  deep = λ p d t h i u. (literal_is limits s (λ e. quoted_text s (subst (λ l. IsUtf8 l) h (u e))), h);
 }
 
 flat_sign : (o : UnOp) → Flat (sign_text o)
@@ -410,28 +420,28 @@ flat_bool : (b : Bool) → Flat (word (if b then codes "true" else codes "false"
 flat_bool true = flat_word (codes "true") refl
 flat_bool false = flat_word (codes "false") refl
 
-pub bare_tied : (e : Expr) → Tied (Unit {0}) (bare_text e) (nested_bare e)
+pub bare_tied : (limits : Bounds) (e : Expr) → Tied limits (Unit {0}) (bare_text e) (nested_bare limits e)
 unfolding bare_text nested_bare
-bare_tied Expr.Null = flat (flat_word (codes "null") refl)
-bare_tied (Expr.Bool' b) = flat (flat_bool b)
-bare_tied (Expr.Int z) = both_flat (int_to z) (int_from z) (flat_int z)
-bare_tied (Expr.Dec m s) = both_flat (dec_to m s) (dec_from m s) (flat_dec m s)
-bare_tied (Expr.Text s) = text_tied s
-bare_tied (Expr.Day y m d) = both_flat (date_to y m d) (date_from y m d) (flat_date y m d)
-bare_tied (Expr.Path' p) = flat (flat_path p)
-bare_tied (Expr.Unary o a) = flat_then (flat_sign o) (operand_tied 7 (level a) (bare_tied a))
-bare_tied (Expr.Binary o a b) = two (operand_tied (binop_level o) (level a) (bare_tied a)) (flat_then flat_rws (flat_then (flat_binop o) (flat_then flat_rws (operand_tied (suc (binop_level o)) (level b) (bare_tied b)))))
-bare_tied (Expr.Call1 f a) = flat_then (flat_fun1 f) (parentheses (operand_tied 1 (level a) (bare_tied a)))
-bare_tied (Expr.Call2 f a b) = flat_then (flat_fun2 f) (parentheses (two (operand_tied 1 (level a) (bare_tied a)) (flat_then flat_comma (operand_tied 1 (level b) (bare_tied b)))))
+bare_tied limits Expr.Null = flat limits (flat_word (codes "null") refl)
+bare_tied limits (Expr.Bool' b) = flat limits (flat_bool b)
+bare_tied limits (Expr.Int z) = both_flat limits (int_to z) (int_from z) (flat_int z)
+bare_tied limits (Expr.Dec m s) = both_flat limits (dec_to m s) (dec_from m s) (flat_dec m s)
+bare_tied limits (Expr.Text s) = text_tied limits s
+bare_tied limits (Expr.Day y m d) = both_flat limits (date_to y m d) (date_from y m d) (flat_date y m d)
+bare_tied limits (Expr.Path' p) = flat limits (flat_path p)
+bare_tied limits (Expr.Unary o a) = flat_then limits (flat_sign o) (operand_tied limits 7 (level a) (bare_tied limits a))
+bare_tied limits (Expr.Binary o a b) = two limits (operand_tied limits (binop_level o) (level a) (bare_tied limits a)) (flat_then limits flat_rws (flat_then limits (flat_binop o) (flat_then limits flat_rws (operand_tied limits (suc (binop_level o)) (level b) (bare_tied limits b)))))
+bare_tied limits (Expr.Call1 f a) = flat_then limits (flat_fun1 f) (parentheses limits (operand_tied limits 1 (level a) (bare_tied limits a)))
+bare_tied limits (Expr.Call2 f a b) = flat_then limits (flat_fun2 f) (parentheses limits (two limits (operand_tied limits 1 (level a) (bare_tied limits a)) (flat_then limits flat_comma (operand_tied limits 1 (level b) (bare_tied limits b)))))
 
 -- an expression, with the limit on operators and calls
-pub small_tied : (e : Expr) → Tied (is_small e ≡ true) (grammar.expr_text e) (SmallExpr e)
-small_tied e =
-    let x = operand_tied 1 (level e) (bare_tied e) in
+pub small_tied : (limits : Bounds) (e : Expr) → Tied limits (is_small limits.operations e ≡ true) (grammar.expr_text e) (SmallExpr limits e)
+small_tied limits e =
+    let x = operand_tied limits 1 (level e) (bare_tied limits e) in
     record {
       forget = λ d t h. x.forget d t h.of;
       shallow = λ d t h. x.shallow d t h.of;
-      limit = λ d t h. le-leb (operations e) most_operations h.small;
+      limit = λ d t h. le-leb (operations e) limits.operations h.small;
       whole = x.whole;
-      deep = λ p d t h s u. record { of = x.deep tt d t h s u; small = leb-true (operations e) most_operations p };
+      deep = λ p d t h s u. record { of = x.deep tt d t h s u; small = leb-true (operations e) limits.operations p };
     }

@@ -5,18 +5,19 @@ use Rattle.apply_ast.specs.declared.expressions.UnOp.{UnOp}
 use Rattle.apply_ast.specs.declared.expressions.BinOp.{BinOp}
 use Rattle.apply_ast.specs.Trees.{Expr}
 use Rattle.apply_ast.specs.Printing.{binop_level}
+use Rattle.apply_grammar.specs.Limits.{Bounds}
 use Rattle.apply_grammar.specs.Reading.{◌>>=◌, Read, Reader, sign_at, op_at, signed, chain, goes, climb, parens, primary, whole_expr}
 use Rattle.apply_grammar.proofs.ExprAgain.{prim, goes_stop, goes_turn}
 
-pub parens_none : (d n : ℕ) (t : List ℕ) → d ≡ 0 → parens d n t ≡ None
+pub parens_none : (limits : Bounds) (d n : ℕ) (t : List ℕ) → d ≡ 0 → parens limits d n t ≡ None
 unfolding parens
-parens_none zero n t h = refl
-parens_none (suc d) n t h = absurd (omega arith)
+parens_none limits zero n t h = refl
+parens_none limits (suc d) n t h = absurd (omega arith)
 
-pub parens_some : (d n : ℕ) (t : List ℕ) → 0 < d → parens d n t ≡ climb (primary (parens (d - 1))) 1 n t
+pub parens_some : (limits : Bounds) (d n : ℕ) (t : List ℕ) → 0 < d → parens limits d n t ≡ climb (primary limits (parens limits (d - 1))) 1 n t
 unfolding parens
-parens_some zero n t h = absurd (omega arith)
-parens_some (suc d) n t h = let e : d ≡ suc d - 1 = omega arith in ap (λ k. climb (primary (parens k)) 1 n t) e
+parens_some limits zero n t h = absurd (omega arith)
+parens_some limits (suc d) n t h = let e : d ≡ suc d - 1 = omega arith in ap (λ k. climb (primary limits (parens limits k)) 1 n t) e
 
 pub signed_none : (p : Reader) (n : ℕ) (t : List ℕ) → None ≡ sign_at t → signed p n t ≡ p n t
 unfolding signed
@@ -55,36 +56,36 @@ goes_full p m e zero r o total h z i = sym i ∙ rw (sym h) refl
 goes_full p m e (suc n) r o total h z i = absurd (omega arith)
 
 -- an operator comes next, and an operand behind it
-pub goes_on_turn : (d m : ℕ) (left : Expr) (n : ℕ) (t : List ℕ) (o : BinOp) (s : List ℕ) (l : ℕ) (right : Expr) (k : ℕ) (r : List ℕ) (total : Read) → Some (o, s) ≡ op_at m t → 0 < n → l ≡ binop_level o → climb (prim d) (l + 1) (n - 1) s ≡ Some (right, k, r) → goes (prim d) m left n t ≡ total → goes (prim d) m (Expr.Binary o left right) k r ≡ total
-goes_on_turn d m left n t o s l right k r total h i e c g =
+pub goes_on_turn : (limits : Bounds) (d m : ℕ) (left : Expr) (n : ℕ) (t : List ℕ) (o : BinOp) (s : List ℕ) (l : ℕ) (right : Expr) (k : ℕ) (r : List ℕ) (total : Read) → Some (o, s) ≡ op_at m t → 0 < n → l ≡ binop_level o → climb (prim limits d) (l + 1) (n - 1) s ≡ Some (right, k, r) → goes (prim limits d) m left n t ≡ total → goes (prim limits d) m (Expr.Binary o left right) k r ≡ total
+goes_on_turn limits d m left n t o s l right k r total h i e c g =
     let a : n ≡ suc (n - 1) = omega arith in
     let b : l + 1 ≡ suc (binop_level o) = omega arith in
-    let f : climb (prim d) (suc (binop_level o)) (n - 1) s ≡ Some (right, k, r) = ap (λ x. climb (prim d) x (n - 1) s) (sym b) ∙ c in
-    sym (ap (λ x. goes (prim d) m left x t) a ∙ goes_turn d m left (n - 1) t o s (sym h) ∙ ap (λ x. x >>= λ y. goes (prim d) m (Expr.Binary o left y.0) y.1 y.2) f) ∙ g
+    let f : climb (prim limits d) (suc (binop_level o)) (n - 1) s ≡ Some (right, k, r) = ap (λ x. climb (prim limits d) x (n - 1) s) (sym b) ∙ c in
+    sym (ap (λ x. goes (prim limits d) m left x t) a ∙ goes_turn limits d m left (n - 1) t o s (sym h) ∙ ap (λ x. x >>= λ y. goes (prim limits d) m (Expr.Binary o left y.0) y.1 y.2) f) ∙ g
 
-pub goes_fails : (d m : ℕ) (left : Expr) (n : ℕ) (t : List ℕ) (o : BinOp) (s : List ℕ) (l : ℕ) (total : Read) → Some (o, s) ≡ op_at m t → 0 < n → l ≡ binop_level o → climb (prim d) (l + 1) (n - 1) s ≡ None → goes (prim d) m left n t ≡ total → total ≡ None
-goes_fails d m left n t o s l total h i e c g =
+pub goes_fails : (limits : Bounds) (d m : ℕ) (left : Expr) (n : ℕ) (t : List ℕ) (o : BinOp) (s : List ℕ) (l : ℕ) (total : Read) → Some (o, s) ≡ op_at m t → 0 < n → l ≡ binop_level o → climb (prim limits d) (l + 1) (n - 1) s ≡ None → goes (prim limits d) m left n t ≡ total → total ≡ None
+goes_fails limits d m left n t o s l total h i e c g =
     let a : n ≡ suc (n - 1) = omega arith in
     let b : l + 1 ≡ suc (binop_level o) = omega arith in
-    let f : climb (prim d) (suc (binop_level o)) (n - 1) s ≡ None = ap (λ x. climb (prim d) x (n - 1) s) (sym b) ∙ c in
-    sym g ∙ ap (λ x. goes (prim d) m left x t) a ∙ goes_turn d m left (n - 1) t o s (sym h) ∙ ap (λ x. x >>= λ y. goes (prim d) m (Expr.Binary o left y.0) y.1 y.2) f
+    let f : climb (prim limits d) (suc (binop_level o)) (n - 1) s ≡ None = ap (λ x. climb (prim limits d) x (n - 1) s) (sym b) ∙ c in
+    sym g ∙ ap (λ x. goes (prim limits d) m left x t) a ∙ goes_turn limits d m left (n - 1) t o s (sym h) ∙ ap (λ x. x >>= λ y. goes (prim limits d) m (Expr.Binary o left y.0) y.1 y.2) f
 
 pub goes_done : (p : Reader) (m : ℕ) (e : Expr) (n : ℕ) (r : List ℕ) (total : Read) → None ≡ op_at m r → goes p m e n r ≡ total → total ≡ Some (e, n, r)
 goes_done p m e n r total h g = sym g ∙ goes_stop p m e n r (sym h)
 
-pub whole_is : (d n : ℕ) (t : List ℕ) (e : Expr) (k : ℕ) (r : List ℕ) → climb (prim d) 1 n t ≡ Some (e, k, r) → length r ≡ 0 → whole_expr d n t ≡ Some e
+pub whole_is : (limits : Bounds) (d n : ℕ) (t : List ℕ) (e : Expr) (k : ℕ) (r : List ℕ) → climb (prim limits d) 1 n t ≡ Some (e, k, r) → length r ≡ 0 → whole_expr limits d n t ≡ Some e
 unfolding whole_expr
-whole_is d n t e k [] h z = rw h refl
-whole_is d n t e k (b ∷ r) h z = absurd (omega arith)
+whole_is limits d n t e k [] h z = rw h refl
+whole_is limits d n t e k (b ∷ r) h z = absurd (omega arith)
 
-pub whole_left : (d n : ℕ) (t : List ℕ) (e : Expr) (k : ℕ) (r : List ℕ) → climb (prim d) 1 n t ≡ Some (e, k, r) → 0 < length r → whole_expr d n t ≡ None
+pub whole_left : (limits : Bounds) (d n : ℕ) (t : List ℕ) (e : Expr) (k : ℕ) (r : List ℕ) → climb (prim limits d) 1 n t ≡ Some (e, k, r) → 0 < length r → whole_expr limits d n t ≡ None
 unfolding whole_expr
-whole_left d n t e k [] h z = absurd (omega arith)
-whole_left d n t e k (b ∷ r) h z = rw h refl
+whole_left limits d n t e k [] h z = absurd (omega arith)
+whole_left limits d n t e k (b ∷ r) h z = rw h refl
 
-pub whole_none : (d n : ℕ) (t : List ℕ) → climb (prim d) 1 n t ≡ None → whole_expr d n t ≡ None
+pub whole_none : (limits : Bounds) (d n : ℕ) (t : List ℕ) → climb (prim limits d) 1 n t ≡ None → whole_expr limits d n t ≡ None
 unfolding whole_expr
-whole_none d n t h = rw h refl
+whole_none limits d n t h = rw h refl
 
 pub is_empty_list : (r : List ℕ) → true ≡ (length r == 0) → length r ≡ 0
 is_empty_list r h = eqb-true (length r) 0 (sym h)

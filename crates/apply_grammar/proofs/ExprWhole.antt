@@ -9,7 +9,7 @@ use Rattle.apply_ast.specs.declared.expressions.Expr as of_expr
 use Rattle.apply_ast.specs.declared.names.Path as of_path
 use Rattle.apply_grammar.specs.declared.refusals.ExprRefused.{ExprRefused}
 use Rattle.apply_grammar.specs.Gives.{Gives}
-use Rattle.apply_grammar.specs.Limits.{operations, most_open, most_operations, ExprTextIn}
+use Rattle.apply_grammar.specs.Limits.{operations, most_open, most_operations, ExprTextIn, Bounds, served}
 use Rattle.apply_grammar.specs.Reading.{◌>>=◌, at_end, whole_expr, whole_path, path_at, primary, parens, expr_at, op_at, blanks_at}
 use Rattle.apply_grammar.proofs.Nested.{At, SmallExpr}
 use Rattle.apply_grammar.proofs.Runs.{bind_then, some_is}
@@ -22,45 +22,41 @@ at_end_then : {A P : Type 0} (r : List ℕ) (x : A) {y : A} → at_end r x ≡ S
 at_end_then [] x h k = k refl (some_is h)
 at_end_then (b ∷ t) x h k = absurd cc
 
-expr_found : (d n : ℕ) (t : List ℕ) (e : Expr) → whole_expr d n t ≡ Some e → At 1 e d t × (operations e ≤ n)
+expr_found : (limits : Bounds) (d n : ℕ) (t : List ℕ) (e : Expr) → whole_expr limits d n t ≡ Some e → At limits 1 e d t × (operations e ≤ n)
 unfolding whole_expr
-expr_found d n t e h =
-    bind_then (expr_at d 1 n t) _ h (λ x f h. at_end_then x.2 x.0 h (λ z k.
-    let c = climb_is d (primary (parens d)) (prim_is d) 1 n t (omega arith) f in
+expr_found limits d n t e h =
+    bind_then (expr_at limits d 1 n t) _ h (λ x f h. at_end_then x.2 x.0 h (λ z k.
+    let c = climb_is limits d (primary limits (parens limits d)) (prim_is limits d) 1 n t (omega arith) f in
     let i : t ≡ c.front.front = c.front.cut ∙ ap (λ l. c.front.front ++ l) z ∙ append-nil c.front.front in
-    let j : At 1 x.0 d t = subst (λ l. At 1 x.0 d l) (sym i) c.front.of in
-    subst (λ y. At 1 y d t × (operations y ≤ n)) k (j, omega (arith, c.count))))
+    let j : At limits 1 x.0 d t = subst (λ l. At limits 1 x.0 d l) (sym i) c.front.of in
+    subst (λ y. At limits 1 y d t × (operations y ≤ n)) k (j, omega (arith, c.count))))
 
-expr_only : (d n : ℕ) (t : List ℕ) (e : Expr) → At 1 e d t → operations e ≤ n → whole_expr d n t ≡ Some e
+pub expr_only : (limits : Bounds) (d n : ℕ) (t : List ℕ) (e : Expr) → At limits 1 e d t → operations e ≤ n → whole_expr limits d n t ≡ Some e
 unfolding whole_expr op_at blanks_at
-expr_only d n t e h le =
+expr_only limits d n t e h le =
     let i : n ≡ operations e + (n - operations e) = omega arith in
-    let f = expr_front e d (n - operations e) t [] h (record { ends_here = refl; no_op = refl }) in
-    let g : expr_at d 1 n t ≡ Some (e, n - operations e, []) = ap (λ l. expr_at d 1 n l) (sym (append-nil t)) ∙ ap (λ k. expr_at d 1 k (t ++ [])) i ∙ f in
+    let f = expr_front limits e d (n - operations e) t [] h (record { ends_here = refl; no_op = refl }) in
+    let g : expr_at limits d 1 n t ≡ Some (e, n - operations e, []) = ap (λ l. expr_at limits d 1 n l) (sym (append-nil t)) ∙ ap (λ k. expr_at limits d 1 k (t ++ [])) i ∙ f in
     ap (λ o. o >>= λ x. at_end x.2 x.0) g
 
 -- an expression that was read is the text's
-pub expr_text_is : (t : List ℕ) (e : Expr) → whole_expr most_open most_operations t ≡ Some e → ExprTextIn t e
+pub expr_text_is : (t : List ℕ) (e : Expr) → whole_expr served most_open most_operations t ≡ Some e → ExprTextIn t e
 expr_text_is t e h =
-    let a = expr_found most_open most_operations t e h in
-    let s : SmallExpr e most_open t = record { of = a.0; small = a.1 } in
-    let x = small_tied e in
+    let a = expr_found served most_open most_operations t e h in
+    let s : SmallExpr served e most_open t = record { of = a.0; small = a.1 } in
+    let x = small_tied served e in
     (x.forget most_open t s, x.shallow most_open t s, x.limit most_open t s)
 
 -- the text's expression is read
-pub expr_text_read : (t : List ℕ) (e : Expr) → IsUtf8 t → ExprTextIn t e → whole_expr most_open most_operations t ≡ Some e
+pub expr_text_read : (t : List ℕ) (e : Expr) → IsUtf8 t → ExprTextIn t e → whole_expr served most_open most_operations t ≡ Some e
 expr_text_read t e u h =
-    let x = small_tied e in
-    let s = x.deep h.2 most_open t h.0 h.1 u in
-    expr_only most_open most_operations t e s.of s.small
+    let x = small_tied served e in
+    let s = x.deep h.2 most_open t h.0 h.1 (λ e. u) in
+    expr_only served most_open most_operations t e s.of s.small
 
-pub expr_gives : (t : List ℕ) (r : Result of_expr.Expr ExprRefused) → Gives expr_of r (whole_expr most_open most_operations t) → IfOk r (λ e. ExprTextIn t (expr_of e))
+pub expr_gives : (t : List ℕ) (r : Result of_expr.Expr ExprRefused) → Gives expr_of r (whole_expr served most_open most_operations t) → IfOk r (λ e. ExprTextIn t (expr_of e))
 expr_gives t (Ok e) h = expr_text_is t (expr_of e) h
 expr_gives t (Err e) h = tt
-
--- a text has at most one
-pub one_expr : (t : List ℕ) (a b : Expr) → IsUtf8 t → ExprTextIn t a → ExprTextIn t b → a ≡ b
-one_expr t a b u h k = some_is (sym (expr_text_read t a u h) ∙ expr_text_read t b u k)
 
 -- ---- paths
 

@@ -7,7 +7,7 @@ use Rattle.edm_values.specs.Lists.{same_text}
 use Rattle.edm_values.specs.Names.{goes_on_name, is_name}
 use Rattle.apply_ast.specs.Trees.{Expr, Named, OrderItem}
 use Rattle.apply_ast.specs.Grammar.{is_blank, bws, rws, word, ◌·◌, comma, name_text, as_text, direction_text}
-use Rattle.apply_grammar.specs.Limits.{operations, most_operations}
+use Rattle.apply_grammar.specs.Limits.{operations, Bounds}
 use Rattle.apply_grammar.specs.Reading.{◌>>=◌, run, after, blanks_at, comma_at, word_behind, between_blanks, binop_of, name_at, expr_at, primary, parens}
 use Rattle.apply_grammar.specs.PipeReading.{small_at, as_at, with_at, named_at, direction_at, item_at}
 use Rattle.apply_grammar.proofs.Nested.{SmallExpr, named_text, item_text}
@@ -19,23 +19,23 @@ use Rattle.apply_grammar.proofs.ExprAgain.{Follow, expr_front, at_solid}
 
 -- ---- expressions
 
-pub small_is : (d : ℕ) (t : List ℕ) {x : Expr × List ℕ} → small_at d t ≡ Some x → Front (SmallExpr x.0 d) t x.1
+pub small_is : (limits : Bounds) (d : ℕ) (t : List ℕ) {x : Expr × List ℕ} → small_at limits d t ≡ Some x → Front (SmallExpr limits x.0 d) t x.1
 unfolding small_at
-small_is d t h =
-    bind_then (expr_at d 1 most_operations t) _ h (λ y e k.
-    let c = climb_is d (primary (parens d)) (prim_is d) 1 most_operations t (omega arith) e in
-    subst (λ x. Front (SmallExpr x.0 d) t x.1) (some_is k)
+small_is limits d t h =
+    bind_then (expr_at limits d 1 limits.operations t) _ h (λ y e k.
+    let c = climb_is limits d (primary limits (parens limits d)) (prim_is limits d) 1 limits.operations t (omega arith) e in
+    subst (λ x. Front (SmallExpr limits x.0 d) t x.1) (some_is k)
     (map_front (λ a g. record { of = g; small = omega (arith, c.count) }) c.front))
 
-pub small_front : (d : ℕ) (e : Expr) (a r : List ℕ) → SmallExpr e d a → Follow 1 r → small_at d (a ++ r) ≡ Some (e, r)
+pub small_front : (limits : Bounds) (d : ℕ) (e : Expr) (a r : List ℕ) → SmallExpr limits e d a → Follow 1 r → small_at limits d (a ++ r) ≡ Some (e, r)
 unfolding small_at
-small_front d e a r h f =
-    let i : most_operations ≡ operations e + (most_operations - operations e) = omega (arith, h.small) in
-    let g : expr_at d 1 most_operations (a ++ r) ≡ Some (e, most_operations - operations e, r) = ap (λ k. expr_at d 1 k (a ++ r)) i ∙ expr_front e d (most_operations - operations e) a r h.of f in
+small_front limits d e a r h f =
+    let i : limits.operations ≡ operations e + (limits.operations - operations e) = omega (arith, h.small) in
+    let g : expr_at limits d 1 limits.operations (a ++ r) ≡ Some (e, limits.operations - operations e, r) = ap (λ k. expr_at limits d 1 k (a ++ r)) i ∙ expr_front limits e d (limits.operations - operations e) a r h.of f in
     ap (λ o. o >>= λ x. Some (x.0, x.2)) g
 
-pub small_solid : (e : Expr) (d : ℕ) (a : List ℕ) → SmallExpr e d a → solid a ≡ true
-small_solid e d a h = at_solid 1 e d a h.of
+pub small_solid : (limits : Bounds) (e : Expr) (d : ℕ) (a : List ℕ) → SmallExpr limits e d a → solid a ≡ true
+small_solid limits e d a h = at_solid limits 1 e d a h.of
 
 -- ---- a word between blanks
 
@@ -192,35 +192,35 @@ as_is t h f =
 
 -- ---- items of a computation
 
-pub named_is : (d : ℕ) (t : List ℕ) {x : Named × List ℕ} → named_at d t ≡ Some x → Front (named_text d x.0) t x.1
+pub named_is : (limits : Bounds) (d : ℕ) (t : List ℕ) {x : Named × List ℕ} → named_at limits d t ≡ Some x → Front (named_text limits d x.0) t x.1
 unfolding named_at
-named_is d t h =
-    bind_then (small_at d t) _ h (λ e f h. bind_then (as_at e.1) _ h (λ r g h. bind_then (name_at r) _ h (λ n i k.
-    subst (λ x. Front (named_text d x.0) t x.1) (some_is k)
-    (then_front (small_is d t f) (as_is e.1 g (name_is r i).0)))))
+named_is limits d t h =
+    bind_then (small_at limits d t) _ h (λ e f h. bind_then (as_at e.1) _ h (λ r g h. bind_then (name_at r) _ h (λ n i k.
+    subst (λ x. Front (named_text limits d x.0) t x.1) (some_is k)
+    (then_front (small_is limits d t f) (as_is e.1 g (name_is r i).0)))))
 
-named_front : (d : ℕ) (x : Named) (a r : List ℕ) → named_text d x a → ItemEnd r → named_at d (a ++ r) ≡ Some (x, r)
+named_front : (limits : Bounds) (d : ℕ) (x : Named) (a r : List ℕ) → named_text limits d x a → ItemEnd r → named_at limits d (a ++ r) ≡ Some (x, r)
 unfolding named_at
-named_front d x a r h s =
+named_front limits d x a r h s =
     let p = as_parts x.name h.right h.second in
     let f = s.follow in
     rw (
       recut h.left h.right r h.cut,
-      small_front d x.expr h.left (h.right ++ r) h.first (as_follow x.name h.right r h.second),
+      small_front limits d x.expr h.left (h.right ++ r) h.first (as_follow x.name h.right r h.second),
       as_front x.name h.right r h.second,
       name_front x.name r p.named (ends_go r f.ends_here),
     )
     refl
 
-pub named_solid : (d : ℕ) (x : Named) (a : List ℕ) → named_text d x a → solid a ≡ true
-named_solid d x a h = subst (λ l. solid l ≡ true) (sym h.cut) (solid_on h.left h.right (small_solid x.expr d h.left h.first))
+pub named_solid : (limits : Bounds) (d : ℕ) (x : Named) (a : List ℕ) → named_text limits d x a → solid a ≡ true
+named_solid limits d x a h = subst (λ l. solid l ≡ true) (sym h.cut) (solid_on h.left h.right (small_solid limits x.expr d h.left h.first))
 
-pub named_items : (d : ℕ) → Items comma (named_text d) comma_at (named_at d) ItemEnd
-named_items d = record {
+pub named_items : (limits : Bounds) (d : ℕ) → Items comma (named_text limits d) comma_at (named_at limits d) ItemEnd
+named_items limits d = record {
   sep_is = λ t r e. (comma_is t e).0;
-  item_is = λ t x e. named_is d t e;
-  item_front = λ x a r h s. named_front d x a r h s;
-  sep_front = λ s x a r h k. comma_reads s (a ++ r) h (solid_stops a r (named_solid d x a k));
+  item_is = λ t x e. named_is limits d t e;
+  item_front = λ x a r h s. named_front limits d x a r h s;
+  sep_front = λ s x a r h k. comma_reads s (a ++ r) h (solid_stops a r (named_solid limits d x a k));
   sep_follow = λ s b h. comma_end s b h;
   sep_some = λ s h. comma_some s h;
 }
@@ -238,12 +238,12 @@ direction_is t h =
     (λ g k. subst (λ (x : Bool × List ℕ). Front (direction_text x.0) t x.1) k (map_front (λ a g. inl g) (word_front [] t t refl)))))
     (λ e k. subst (λ (x : Bool × List ℕ). Front (direction_text x.0) t x.1) k (map_front (λ a g. inl g) (word_front [] t t refl)))
 
-pub item_is : (d : ℕ) (t : List ℕ) {x : OrderItem × List ℕ} → item_at d t ≡ Some x → Front (item_text d x.0) t x.1
+pub item_is : (limits : Bounds) (d : ℕ) (t : List ℕ) {x : OrderItem × List ℕ} → item_at limits d t ≡ Some x → Front (item_text limits d x.0) t x.1
 unfolding item_at
-item_is d t h =
-    bind_then (small_at d t) _ h (λ e f k.
-    subst (λ x. Front (item_text d x.0) t x.1) (some_is k)
-    (then_front (small_is d t f) (direction_is e.1 refl)))
+item_is limits d t h =
+    bind_then (small_at limits d t) _ h (λ e f k.
+    subst (λ x. Front (item_text limits d x.0) t x.1) (some_is k)
+    (then_front (small_is limits d t f) (direction_is e.1 refl)))
 
 -- what stands behind an order item's expression
 record Direction (b : Bool) (a r : List ℕ) : Type 0 where
@@ -279,21 +279,21 @@ direction_front false a r (inr h) s =
       follow = subst (λ l. Follow 1 l) (sym c) (word_follow h.left (codes "asc") r h.first refl refl (ends_go r f.ends_here) refl);
     }
 
-item_front : (d : ℕ) (x : OrderItem) (a r : List ℕ) → item_text d x a → ItemEnd r → item_at d (a ++ r) ≡ Some (x, r)
+item_front : (limits : Bounds) (d : ℕ) (x : OrderItem) (a r : List ℕ) → item_text limits d x a → ItemEnd r → item_at limits d (a ++ r) ≡ Some (x, r)
 unfolding item_at
-item_front d x a r h s =
+item_front limits d x a r h s =
     let g = direction_front x.desc h.right r h.second s in
-    rw (recut h.left h.right r h.cut, small_front d x.expr h.left (h.right ++ r) h.first g.follow, g.reads) refl
+    rw (recut h.left h.right r h.cut, small_front limits d x.expr h.left (h.right ++ r) h.first g.follow, g.reads) refl
 
-pub item_solid : (d : ℕ) (x : OrderItem) (a : List ℕ) → item_text d x a → solid a ≡ true
-item_solid d x a h = subst (λ l. solid l ≡ true) (sym h.cut) (solid_on h.left h.right (small_solid x.expr d h.left h.first))
+pub item_solid : (limits : Bounds) (d : ℕ) (x : OrderItem) (a : List ℕ) → item_text limits d x a → solid a ≡ true
+item_solid limits d x a h = subst (λ l. solid l ≡ true) (sym h.cut) (solid_on h.left h.right (small_solid limits x.expr d h.left h.first))
 
-pub order_items : (d : ℕ) → Items comma (item_text d) comma_at (item_at d) ItemEnd
-order_items d = record {
+pub order_items : (limits : Bounds) (d : ℕ) → Items comma (item_text limits d) comma_at (item_at limits d) ItemEnd
+order_items limits d = record {
   sep_is = λ t r e. (comma_is t e).0;
-  item_is = λ t x e. item_is d t e;
-  item_front = λ x a r h s. item_front d x a r h s;
-  sep_front = λ s x a r h k. comma_reads s (a ++ r) h (solid_stops a r (item_solid d x a k));
+  item_is = λ t x e. item_is limits d t e;
+  item_front = λ x a r h s. item_front limits d x a r h s;
+  sep_front = λ s x a r h k. comma_reads s (a ++ r) h (solid_stops a r (item_solid limits d x a k));
   sep_follow = λ s b h. comma_end s b h;
   sep_some = λ s h. comma_some s h;
 }

@@ -6,8 +6,8 @@ use Rattle.std.specs.Str.Parse.{digits_value_after}
 use Rattle.std.specs.Prelude.{codes, slice_index, ℤ, pos, Bool, if◌then◌else◌}
 use Rattle.std.specs.List.{list_all, flat_map}
 use Rattle.std.specs.Int.{is_in_range}
-use Rattle.std.specs.Str.{is_utf8}
 use Rattle.std.specs.Char.{is_ascii_digit}
+use Rattle.apply_grammar.specs.Limits.{Bounds}
 use Rattle.apply_grammar.proofs.Values.{value_append, value_grows}
 use Rattle.apply_grammar.proofs.ByteLoops.{digit_is}
 use Rattle.std.proofs.lemmas.Int.Digits.{digits_value-lt}
@@ -24,7 +24,7 @@ use Rattle.apply_ast.specs.declared.expressions.Fun2.{Fun2}
 use Rattle.apply_ast.specs.Trees.{Expr}
 use Rattle.apply_ast.specs.Printing.{binop_word, binop_level, fun1_word, fun2_word, quoted}
 use Rattle.apply_ast.specs.Grammar.{Language, is_blank, bws, rws, word, ◌·◌, comma, nothing, name_text, path_text, sign_text}
-use Rattle.apply_grammar.specs.Reading.{◌>>=◌, run, skip_blanks, blanks_at, after, open_at, close_at, comma_at, with_word, binop_of, op_at, not_at, sign_at, name_at, path_at, value_behind, digits_at, decimal_at, two_digits_at, date_at, number_behind, quote_at, text_at, fun1_of, fun2_of, word_at, atom_at}
+use Rattle.apply_grammar.specs.Reading.{◌>>=◌, run, skip_blanks, blanks_at, after, open_at, close_at, comma_at, with_word, binop_of, op_at, not_at, sign_at, name_at, path_at, value_behind, digits_at, decimal_at, two_digits_at, date_at, number_behind, quote_at, text_at, fun1_of, fun2_of, word_at, atom_at, is_literal}
 use Rattle.apply_grammar.proofs.Nested.{Digits, IntText, Fraction, DecText, Wide, DateText}
 use Rattle.apply_grammar.proofs.Lists.{Items, list_is, list_front}
 use Rattle.apply_grammar.proofs.Runs.{and_parts, not_true, both_true, same_is, bind_then, branch_then, cond_then, guard_then, some_is, is_none, none_some, recut, solid_on, stops, solid, solid_stops, run_front, run_is, Front, then_front, map_front, word_front, skip_is, skip_stops, skip_front, blanks_front, blanks_is, blanks_none, after_is, after_front}
@@ -675,11 +675,11 @@ leads_solid p (b ∷ t) h j k = rw (differs p 32 b h j, differs p 9 b h k) refl
 -- ---- atoms
 
 -- a text that is read as this atom, whatever comes before an atom being tried first
-pub record IsAtom (a r : List ℕ) (e : Expr) : Type 0 where
+pub record IsAtom (limits : Bounds) (a r : List ℕ) (e : Expr) : Type 0 where
   pub no_sign : sign_at (a ++ r) ≡ None
   pub no_open : open_at (a ++ r) ≡ None
   pub no_call : open_at (run goes_on_name (a ++ r)).1 ≡ None
-  pub atom : atom_at (a ++ r) ≡ Some (e, r)
+  pub atom : atom_at limits (a ++ r) ≡ Some (e, r)
   pub solid_atom : solid a ≡ true
 
 ends_open : (r : List ℕ) → ends r ≡ true → open_at r ≡ None
@@ -688,24 +688,24 @@ ends_open r e = open_none r (ends_stops (λ b. b == 40) r e refl refl refl refl)
 pub ends_go : (r : List ℕ) → ends r ≡ true → stops goes_on_name r ≡ true
 ends_go r e = ends_stops goes_on_name r e refl refl refl refl
 
-text_front : (s r : List ℕ) → is_utf8 s ≡ true → ends r ≡ true → text_at (doubled s ++ (39 ∷ r)) ≡ Some (Expr.Text s, r)
+text_front : (limits : Bounds) (s r : List ℕ) → is_literal limits s ≡ true → ends r ≡ true → text_at limits (doubled s ++ (39 ∷ r)) ≡ Some (Expr.Text s, r)
 unfolding text_at
-text_front s r u e = rw (quote_front s r (ends_stops (λ b. b == 39) r e refl refl refl refl), u) refl
+text_front limits s r u e = rw (quote_front s r (ends_stops (λ b. b == 39) r e refl refl refl refl), u) refl
 
-pub text_atom : (t r : List ℕ) → is_utf8 t ≡ true → ends r ≡ true → IsAtom (quoted t) r (Expr.Text t)
+pub text_atom : (limits : Bounds) (t r : List ℕ) → is_literal limits t ≡ true → ends r ≡ true → IsAtom limits (quoted t) r (Expr.Text t)
 unfolding sign_at not_at after open_at run atom_at
-text_atom t r u e = record {
+text_atom limits t r u e = record {
   no_sign = refl;
   no_open = refl;
   no_call = refl;
-  atom = ap text_at (append_assoc (doubled t) (39 ∷ []) r) ∙ text_front t r u e;
+  atom = ap (text_at limits) (append_assoc (doubled t) (39 ∷ []) r) ∙ text_front limits t r u e;
   solid_atom = refl;
 }
 
 -- a number's digits, and what stops them
-digits_atom : (ds s : List ℕ) (e : Expr) (r : List ℕ) → SomeDigits ds → stops goes_on_name s ≡ true → open_at s ≡ None → stops is_ascii_digit s ≡ true → number_behind ds s ≡ Some (e, r) → (a : List ℕ) → a ++ r ≡ ds ++ s → solid a ≡ true → IsAtom a r e
+digits_atom : (limits : Bounds) (ds s : List ℕ) (e : Expr) (r : List ℕ) → SomeDigits ds → stops goes_on_name s ≡ true → open_at s ≡ None → stops is_ascii_digit s ≡ true → number_behind ds s ≡ Some (e, r) → (a : List ℕ) → a ++ r ≡ ds ++ s → solid a ≡ true → IsAtom limits a r e
 unfolding sign_at not_at open_at atom_at
-digits_atom ds s e r h g o d n a i j =
+digits_atom limits ds s e r h g o d n a i j =
     let l = digits_lead ds h in
     let run_on : run goes_on_name (a ++ r) ≡ (ds, s) = rw i (word_run ds s (digits_go_on ds h.digits) g) in
     record {
@@ -716,31 +716,31 @@ digits_atom ds s e r h g o d n a i j =
       solid_atom = j;
     }
 
-pub int_atom : (n : ℕ) (a r : List ℕ) → Digits integer_max n a → ends r ≡ true → IsAtom a r (Expr.Int (pos n))
-int_atom n a r h e =
+pub int_atom : (limits : Bounds) (n : ℕ) (a r : List ℕ) → Digits integer_max n a → ends r ≡ true → IsAtom limits a r (Expr.Int (pos n))
+int_atom limits n a r h e =
     let d : SomeDigits a = record { some = h.some; digits = h.digits } in
-    digits_atom a r (Expr.Int (pos n)) r d (ends_go r e) (ends_open r e) (ends_stops is_ascii_digit r e refl refl refl refl) (int_front n a r h e) a refl (leads_solid is_ascii_digit a (digits_lead a d) refl refl)
+    digits_atom limits a r (Expr.Int (pos n)) r d (ends_go r e) (ends_open r e) (ends_stops is_ascii_digit r e refl refl refl refl) (int_front n a r h e) a refl (leads_solid is_ascii_digit a (digits_lead a d) refl refl)
 
-pub dec_atom : (m s : ℕ) (a r : List ℕ) → Fraction m s a → ends r ≡ true → IsAtom a r (Expr.Dec (pos m) s)
+pub dec_atom : (limits : Bounds) (m s : ℕ) (a r : List ℕ) → Fraction m s a → ends r ≡ true → IsAtom limits a r (Expr.Dec (pos m) s)
 unfolding open_at after
-dec_atom m s a r h e =
+dec_atom limits m s a r h e =
     let d : SomeDigits h.whole = record { some = h.some; digits = h.digits } in
     let i : a ++ r ≡ h.whole ++ (46 ∷ (h.fraction ++ r)) = recut _ _ r h.cut in
     let j : solid a ≡ true = subst (λ l. solid l ≡ true) (sym h.cut) (solid_on h.whole (46 ∷ h.fraction) (leads_solid is_ascii_digit h.whole (digits_lead h.whole d) refl refl)) in
-    digits_atom h.whole (46 ∷ (h.fraction ++ r)) (Expr.Dec (pos m) s) r d refl refl refl (dec_front m s a r h e) a i j
+    digits_atom limits h.whole (46 ∷ (h.fraction ++ r)) (Expr.Dec (pos m) s) r d refl refl refl (dec_front m s a r h e) a i j
 
-pub date_atom : (y m d : ℕ) (a r : List ℕ) → DateText y m d a → ends r ≡ true → IsAtom a r (Expr.Day y m d)
+pub date_atom : (limits : Bounds) (y m d : ℕ) (a r : List ℕ) → DateText y m d a → ends r ≡ true → IsAtom limits a r (Expr.Day y m d)
 unfolding open_at after
-date_atom y m d a r h e =
+date_atom limits y m d a r h e =
     let f = wide_some 3 y h.year h.of_year in
     let i : a ++ r ≡ h.year ++ (45 ∷ (h.month ++ (45 ∷ (h.day ++ r)))) = recut _ _ r h.cut ∙ ap (λ l. h.year ++ (45 ∷ l)) (append_assoc h.month (45 ∷ h.day) r) in
     let j : solid a ≡ true = subst (λ l. solid l ≡ true) (sym h.cut) (solid_on h.year (45 ∷ (h.month ++ (45 ∷ h.day))) (leads_solid is_ascii_digit h.year (digits_lead h.year f) refl refl)) in
-    digits_atom h.year (45 ∷ (h.month ++ (45 ∷ (h.day ++ r)))) (Expr.Day y m d) r f refl refl refl (day_front y m d a r h e) a i j
+    digits_atom limits h.year (45 ∷ (h.month ++ (45 ∷ (h.day ++ r)))) (Expr.Day y m d) r f refl refl refl (day_front y m d a r h e) a i j
 
 -- a word of letters, and what stops it
-word_atom : (w s a r : List ℕ) (e : Expr) → leads begins_name w ≡ true → list_all goes_on_name w ≡ true → same_text w (codes "not") ≡ false → stops goes_on_name s ≡ true → open_at s ≡ None → a ++ r ≡ w ++ s → word_at (a ++ r) ≡ Some (e, r) → solid a ≡ true → IsAtom a r e
+word_atom : (limits : Bounds) (w s a r : List ℕ) (e : Expr) → leads begins_name w ≡ true → list_all goes_on_name w ≡ true → same_text w (codes "not") ≡ false → stops goes_on_name s ≡ true → open_at s ≡ None → a ++ r ≡ w ++ s → word_at (a ++ r) ≡ Some (e, r) → solid a ≡ true → IsAtom limits a r e
 unfolding sign_at not_at open_at atom_at
-word_atom w s a r e l h n g o i k j =
+word_atom limits w s a r e l h n g o i k j =
     let run_on : run goes_on_name (a ++ r) ≡ (w, s) = rw i (word_run w s h g) in
     record {
       no_sign = rw (run_on, i, leads_after begins_name 45 w s l refl, n) refl;
@@ -754,17 +754,17 @@ null_word : (r : List ℕ) → stops goes_on_name r ≡ true → word_at (codes 
 unfolding word_at
 null_word r g = rw (word_run (codes "null") r refl g) refl
 
-pub null_atom : (r : List ℕ) → ends r ≡ true → IsAtom (codes "null") r Expr.Null
-null_atom r e = word_atom (codes "null") r (codes "null") r Expr.Null refl refl refl (ends_go r e) (ends_open r e) refl (null_word r (ends_go r e)) refl
+pub null_atom : (limits : Bounds) (r : List ℕ) → ends r ≡ true → IsAtom limits (codes "null") r Expr.Null
+null_atom limits r e = word_atom limits (codes "null") r (codes "null") r Expr.Null refl refl refl (ends_go r e) (ends_open r e) refl (null_word r (ends_go r e)) refl
 
 flag_word : (b : Bool) (r : List ℕ) → stops goes_on_name r ≡ true → word_at ((cond b (codes "true") (codes "false")) ++ r) ≡ Some (Expr.Bool' b, r)
 unfolding word_at
 flag_word true r g = rw (word_run (codes "true") r refl g) refl
 flag_word false r g = rw (word_run (codes "false") r refl g) refl
 
-pub flag_atom : (b : Bool) (r : List ℕ) → ends r ≡ true → IsAtom (cond b (codes "true") (codes "false")) r (Expr.Bool' b)
-flag_atom true r e = word_atom (codes "true") r (codes "true") r (Expr.Bool' true) refl refl refl (ends_go r e) (ends_open r e) refl (flag_word true r (ends_go r e)) refl
-flag_atom false r e = word_atom (codes "false") r (codes "false") r (Expr.Bool' false) refl refl refl (ends_go r e) (ends_open r e) refl (flag_word false r (ends_go r e)) refl
+pub flag_atom : (limits : Bounds) (b : Bool) (r : List ℕ) → ends r ≡ true → IsAtom limits (cond b (codes "true") (codes "false")) r (Expr.Bool' b)
+flag_atom limits true r e = word_atom limits (codes "true") r (codes "true") r (Expr.Bool' true) refl refl refl (ends_go r e) (ends_open r e) refl (flag_word true r (ends_go r e)) refl
+flag_atom limits false r e = word_atom limits (codes "false") r (codes "false") r (Expr.Bool' false) refl refl refl (ends_go r e) (ends_open r e) refl (flag_word false r (ends_go r e)) refl
 
 -- a path's first name, and what stops it
 pub record FirstName (a r : List ℕ) : Type 0 where
@@ -827,33 +827,33 @@ path_word p a r h e f =
     )
     refl
 
-pub path_atom : (p : List (List ℕ)) (a r : List ℕ) → path_text p a → ends r ≡ true → IsAtom a r (Expr.Path' p)
-path_atom p a r h e =
+pub path_atom : (limits : Bounds) (p : List (List ℕ)) (a r : List ℕ) → path_text p a → ends r ≡ true → IsAtom limits a r (Expr.Path' p)
+path_atom limits p a r h e =
     let f = first_name p a r h e in
-    word_atom f.name f.behind a r (Expr.Path' p) (name_leads f.name f.named) (name_parts f.name f.named).passes (no_keyword f.name (codes "not") f.named refl) f.stop f.no_open f.cut (path_word p a r h e f) f.solid_path
+    word_atom limits f.name f.behind a r (Expr.Path' p) (name_leads f.name f.named) (name_parts f.name f.named).passes (no_keyword f.name (codes "not") f.named refl) f.stop f.no_open f.cut (path_word p a r h e f) f.solid_path
 
 -- what an atom that was read is a text of
-pub data IsAtomText : Expr → List ℕ → Type 0 where
-  of_text : (s : List ℕ) {a : List ℕ} → is_utf8 s ≡ true → a ≡ quoted s → IsAtomText (Expr.Text s) a
-  of_number : {e : Expr} {a : List ℕ} → NumberText e a → IsAtomText e a
-  of_word : {e : Expr} {a : List ℕ} → WordText e a → IsAtomText e a
+pub data IsAtomText (limits : Bounds) : Expr → List ℕ → Type 0 where
+  of_text : (s : List ℕ) {a : List ℕ} → is_literal limits s ≡ true → a ≡ quoted s → IsAtomText limits (Expr.Text s) a
+  of_number : {e : Expr} {a : List ℕ} → NumberText e a → IsAtomText limits e a
+  of_word : {e : Expr} {a : List ℕ} → WordText e a → IsAtomText limits e a
 
-text_is : (t r : List ℕ) → t ≡ 39 ∷ r → {x : Expr × List ℕ} → text_at r ≡ Some x → Front (IsAtomText x.0) t x.1
+text_is : (limits : Bounds) (t r : List ℕ) → t ≡ 39 ∷ r → {x : Expr × List ℕ} → text_at limits r ≡ Some x → Front (IsAtomText limits x.0) t x.1
 unfolding text_at
-text_is t r c h =
-    bind_then (quote_at r) _ h (λ q f h. guard_then (is_utf8 q.0) _ h (λ u k.
-    subst (λ x. Front (IsAtomText x.0) t x.1) k
+text_is limits t r c h =
+    bind_then (quote_at r) _ h (λ q f h. guard_then (is_literal limits q.0) _ h (λ u k.
+    subst (λ x. Front (IsAtomText limits x.0) t x.1) k
     (record {
       front = quoted q.0;
       of = of_text q.0 u refl;
       cut = c ∙ ap (λ l. 39 ∷ l) (quote_is r f ∙ sym (append_assoc (doubled q.0) (39 ∷ []) q.1));
     })))
 
-pub atom_is : (t : List ℕ) {x : Expr × List ℕ} → atom_at t ≡ Some x → Front (IsAtomText x.0) t x.1
+pub atom_is : (limits : Bounds) (t : List ℕ) {x : Expr × List ℕ} → atom_at limits t ≡ Some x → Front (IsAtomText limits x.0) t x.1
 unfolding atom_at
-atom_is t {x} h =
+atom_is limits t {x} h =
     branch_then (after 39 t) _ _ h
-    (λ r e h. text_is t r (after_is 39 t e) h)
+    (λ r e h. text_is limits t r (after_is 39 t e) h)
     (λ e h. branch_then (digits_at t) _ _ h
     (λ ds f h.
     let d = digits_is t f in

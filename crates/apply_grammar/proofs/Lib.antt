@@ -14,6 +14,7 @@ pub mod LineLaws
 pub mod Lists
 pub mod Made
 pub mod Nested
+pub mod OneTree
 pub mod PartLaws
 pub mod PipeAgain
 pub mod PipeDepths
@@ -24,5 +25,6 @@ pub mod QuoteLoop
 pub mod RequestLaws
 pub mod Runs
 pub mod SelectionLaws
+pub mod ShallowTexts
 pub mod StepViews
 pub mod Values

@@ -8,6 +8,7 @@ use Rattle.apply_ast.specs.Trees.{HierName, Pipe, Step, pipe}
 use Rattle.apply_ast.specs.Views.{keys_from}
 use Rattle.apply_ast.specs.Counts.{key_count}
 use Rattle.apply_ast.specs.Grammar.{Language}
+use Rattle.apply_grammar.specs.Limits.{Bounds}
 use Rattle.apply_grammar.specs.declared.words.StepWord.{StepWord}
 use Rattle.apply_grammar.specs.Reading.{◌>>=◌, after, comma_at, open_at}
 use Rattle.apply_grammar.specs.PipeReading.{Seen, Counted, below, pipe_at, step_at, body_at, call_at, steps_at, rest_at, more_at, some_at, key_at, keys_at, key_call_at, recursive_at, rollup_at, closed, ended, step_word_of, whole_at, pipeline_at, whole_step, whole_more, PipeReader, node_at, climb_end_at, climb_at}
@@ -18,8 +19,8 @@ use Rattle.apply_grammar.proofs.Nested.{key_text}
 use Rattle.apply_grammar.proofs.PipeFound.{IsCounted, step_is, below_is, key_is, inner_ok}
 
 -- a step where d parentheses may be open
-abbrev pub step : ℕ → Counted Step
-step d = step_at (below d) d
+abbrev pub step : Bounds → ℕ → Counted Step
+step limits d = step_at limits (below limits d) d
 
 -- ---- steps
 
@@ -42,51 +43,51 @@ steps_more : (front : List Step) (s : Step) (read : Seen Pipe) → with_steps fr
 steps_more front s None = refl
 steps_more front s (Some p) = ap (λ (q : Pipe). Some (q, p.1, p.2)) (sym (app_more front s p.0))
 
-step_less : (d n : ℕ) (t : List ℕ) (x : Step × ℕ × List ℕ) → step d n t ≡ Some x → x.1 < n
-step_less d n t x e = let a = step_is d (below d) (below_is d) n t x e in omega (arith, a.1)
+step_less : (limits : Bounds) (d n : ℕ) (t : List ℕ) (x : Step × ℕ × List ℕ) → step limits d n t ≡ Some x → x.1 < n
+step_less limits d n t x e = let a = step_is limits d (below limits d) (below_is limits d) n t x e in omega (arith, a.1)
 
-step_zero : (d : ℕ) (t : List ℕ) → step d 0 t ≡ None
+step_zero : (limits : Bounds) (d : ℕ) (t : List ℕ) → step limits d 0 t ≡ None
 unfolding step_at
-step_zero d t = refl
+step_zero limits d t = refl
 
-rest_agree : (d f g n : ℕ) (t : List ℕ) → n ≤ f → n ≤ g → rest_at (step d) f n t ≡ rest_at (step d) g n t
+rest_agree : (limits : Bounds) (d f g n : ℕ) (t : List ℕ) → n ≤ f → n ≤ g → rest_at (step limits d) f n t ≡ rest_at (step limits d) g n t
 unfolding rest_at
-rest_agree d zero zero n t h k = refl
-rest_agree d zero (suc g) n t h k = let z : n ≡ 0 = omega arith in rw z (branch_agree (after 47 t) _ _ _ (λ s e. rw (step_zero d s) refl))
-rest_agree d (suc f) zero n t h k = let z : n ≡ 0 = omega arith in rw z (branch_agree (after 47 t) _ _ _ (λ s e. rw (step_zero d s) refl))
-rest_agree d (suc f) (suc g) n t h k =
-    branch_agree (after 47 t) _ _ _ (λ s e. bind_agree (step d n s) _ _ (λ x i.
-    let l = step_less d n s x i in
-    ap (λ o. o >>= λ p. Some (Pipe.Then x.0 p.0, p.1, p.2)) (rest_agree d f g x.1 x.2 (omega arith) (omega arith))))
+rest_agree limits d zero zero n t h k = refl
+rest_agree limits d zero (suc g) n t h k = let z : n ≡ 0 = omega arith in rw z (branch_agree (after 47 t) _ _ _ (λ s e. rw (step_zero limits d s) refl))
+rest_agree limits d (suc f) zero n t h k = let z : n ≡ 0 = omega arith in rw z (branch_agree (after 47 t) _ _ _ (λ s e. rw (step_zero limits d s) refl))
+rest_agree limits d (suc f) (suc g) n t h k =
+    branch_agree (after 47 t) _ _ _ (λ s e. bind_agree (step limits d n s) _ _ (λ x i.
+    let l = step_less limits d n s x i in
+    ap (λ o. o >>= λ p. Some (Pipe.Then x.0 p.0, p.1, p.2)) (rest_agree limits d f g x.1 x.2 (omega arith) (omega arith))))
 
-rest_turn : (d n : ℕ) (t s : List ℕ) (x : Step) (k : ℕ) (u : List ℕ) → Some s ≡ after 47 t → step d n s ≡ Some (x, k, u) → rest_at (step d) n n t ≡ (rest_at (step d) k k u >>= λ p. Some (Pipe.Then x p.0, p.1, p.2))
+rest_turn : (limits : Bounds) (d n : ℕ) (t s : List ℕ) (x : Step) (k : ℕ) (u : List ℕ) → Some s ≡ after 47 t → step limits d n s ≡ Some (x, k, u) → rest_at (step limits d) n n t ≡ (rest_at (step limits d) k k u >>= λ p. Some (Pipe.Then x p.0, p.1, p.2))
 unfolding rest_at
-rest_turn d zero t s x k u h e = absurd (omega (arith, step_less d 0 s (x, k, u) e))
-rest_turn d (suc n) t s x k u h e =
-    let l = step_less d (suc n) s (x, k, u) e in
-    rw (sym h, e) (ap (λ o. o >>= λ p. Some (Pipe.Then x p.0, p.1, p.2)) (rest_agree d n k k u (omega (arith, l)) (omega arith)))
+rest_turn limits d zero t s x k u h e = absurd (omega (arith, step_less limits d 0 s (x, k, u) e))
+rest_turn limits d (suc n) t s x k u h e =
+    let l = step_less limits d (suc n) s (x, k, u) e in
+    rw (sym h, e) (ap (λ o. o >>= λ p. Some (Pipe.Then x p.0, p.1, p.2)) (rest_agree limits d n k k u (omega (arith, l)) (omega arith)))
 
-pub pipe_start : (d n : ℕ) (t : List ℕ) (x : Step) (k : ℕ) (u : List ℕ) → step d n t ≡ Some (x, k, u) → with_steps (x ∷ []) (rest_at (step d) k k u) ≡ pipe_at d n t
+pub pipe_start : (limits : Bounds) (d n : ℕ) (t : List ℕ) (x : Step) (k : ℕ) (u : List ℕ) → step limits d n t ≡ Some (x, k, u) → with_steps (x ∷ []) (rest_at (step limits d) k k u) ≡ pipe_at limits d n t
 unfolding steps_at
-pipe_start d n t x k u e = rw e refl
+pipe_start limits d n t x k u e = rw e refl
 
-pub pipe_starts_not : (d n : ℕ) (t : List ℕ) → step d n t ≡ None → pipe_at d n t ≡ None
+pub pipe_starts_not : (limits : Bounds) (d n : ℕ) (t : List ℕ) → step limits d n t ≡ None → pipe_at limits d n t ≡ None
 unfolding steps_at
-pipe_starts_not d n t e = rw e refl
+pipe_starts_not limits d n t e = rw e refl
 
-pub pipe_turn : (d n : ℕ) (front : List Step) (t s : List ℕ) (x : Step) (k : ℕ) (u : List ℕ) (total : Seen Pipe) → Some s ≡ after 47 t → step d n s ≡ Some (x, k, u) → with_steps front (rest_at (step d) n n t) ≡ total → with_steps (front ++ x ∷ []) (rest_at (step d) k k u) ≡ total
-pipe_turn d n front t s x k u total h e g =
-    sym (steps_more front x (rest_at (step d) k k u)) ∙ ap (with_steps front) (sym (rest_turn d n t s x k u h e)) ∙ g
+pub pipe_turn : (limits : Bounds) (d n : ℕ) (front : List Step) (t s : List ℕ) (x : Step) (k : ℕ) (u : List ℕ) (total : Seen Pipe) → Some s ≡ after 47 t → step limits d n s ≡ Some (x, k, u) → with_steps front (rest_at (step limits d) n n t) ≡ total → with_steps (front ++ x ∷ []) (rest_at (step limits d) k k u) ≡ total
+pipe_turn limits d n front t s x k u total h e g =
+    sym (steps_more front x (rest_at (step limits d) k k u)) ∙ ap (with_steps front) (sym (rest_turn limits d n t s x k u h e)) ∙ g
 
-pub pipe_fails : (d n : ℕ) (front : List Step) (t s : List ℕ) (total : Seen Pipe) → Some s ≡ after 47 t → step d n s ≡ None → with_steps front (rest_at (step d) n n t) ≡ total → total ≡ None
+pub pipe_fails : (limits : Bounds) (d n : ℕ) (front : List Step) (t s : List ℕ) (total : Seen Pipe) → Some s ≡ after 47 t → step limits d n s ≡ None → with_steps front (rest_at (step limits d) n n t) ≡ total → total ≡ None
 unfolding rest_at
-pipe_fails d zero front t s total h e g = sym g ∙ rw (sym h) refl
-pipe_fails d (suc n) front t s total h e g = sym g ∙ rw (sym h, e) refl
+pipe_fails limits d zero front t s total h e g = sym g ∙ rw (sym h) refl
+pipe_fails limits d (suc n) front t s total h e g = sym g ∙ rw (sym h, e) refl
 
-pub pipe_done : (d n : ℕ) (front : List Step) (t : List ℕ) (total : Seen Pipe) → None ≡ after 47 t → with_steps front (rest_at (step d) n n t) ≡ total → total ≡ Some (pipe front, n, t)
+pub pipe_done : (limits : Bounds) (d n : ℕ) (front : List Step) (t : List ℕ) (total : Seen Pipe) → None ≡ after 47 t → with_steps front (rest_at (step limits d) n n t) ≡ total → total ≡ Some (pipe front, n, t)
 unfolding rest_at
-pipe_done d zero front t total h g = sym g ∙ rw (sym h) (ap (λ (q : Pipe). Some (q, 0, t)) (app_end front))
-pipe_done d (suc n) front t total h g = sym g ∙ rw (sym h) (ap (λ (q : Pipe). Some (q, suc n, t)) (app_end front))
+pipe_done limits d zero front t total h g = sym g ∙ rw (sym h) (ap (λ (q : Pipe). Some (q, 0, t)) (app_end front))
+pipe_done limits d (suc n) front t total h g = sym g ∙ rw (sym h) (ap (λ (q : Pipe). Some (q, suc n, t)) (app_end front))
 
 -- ---- keys and branches: lists of trees that may hold steps
 
@@ -171,75 +172,70 @@ parts_stop item front n t total h g = sym g ∙ ap (with_parts front) (no_part i
 
 -- ---- what the loops read
 
-below_zero : (d e : ℕ) → d ≡ suc e → (n : ℕ) (t : List ℕ) → below d 0 n t ≡ pipe_at e n t
-unfolding below
-below_zero zero e z n t = absurd (omega arith)
-below_zero (suc d) e z n t = let i : d ≡ e = omega arith in ap (λ k. pipe_at k n t) i
-
-pub keys_found : (d : ℕ) → IsCounted (λ k. key_text k d) key_count (key_at (below d 0) d)
-keys_found d = key_is d (below d 0) (inner_ok d (below d 0) (λ e z. below_is d 0 e (z_is d e z)))
+pub keys_found : (limits : Bounds) (d : ℕ) → IsCounted (λ k. key_text limits k d) key_count (key_at (below limits d 0) d)
+keys_found limits d = key_is limits d (below limits d 0) (inner_ok limits d (below limits d 0) (λ e z. below_is limits d 0 e (z_is d e z)))
   where
     z_is : (d e : ℕ) → d ≡ suc e → d ≡ suc (0 + e)
     z_is d e z = omega arith
 
 -- ---- places where one parenthesis more is opened
 
-pub body_none : (d : ℕ) (w : List ℕ) (n : ℕ) (t : List ℕ) → d ≡ 0 → body_at (below d) d w n t ≡ None
+pub body_none : (limits : Bounds) (d : ℕ) (w : List ℕ) (n : ℕ) (t : List ℕ) → d ≡ 0 → body_at limits (below limits d) d w n t ≡ None
 unfolding body_at
-body_none zero w n t h = refl
-body_none (suc d) w n t h = absurd (omega arith)
+body_none limits zero w n t h = refl
+body_none limits (suc d) w n t h = absurd (omega arith)
 
-pub body_no_word : (d : ℕ) (w : List ℕ) (n : ℕ) (t : List ℕ) → 0 < d → None ≡ step_word_of w → body_at (below d) d w n t ≡ None
+pub body_no_word : (limits : Bounds) (d : ℕ) (w : List ℕ) (n : ℕ) (t : List ℕ) → 0 < d → None ≡ step_word_of w → body_at limits (below limits d) d w n t ≡ None
 unfolding body_at
-body_no_word zero w n t h e = absurd (omega arith)
-body_no_word (suc d) w n t h e = rw (sym e) refl
+body_no_word limits zero w n t h e = absurd (omega arith)
+body_no_word limits (suc d) w n t h e = rw (sym e) refl
 
-pub body_closed : (d : ℕ) (w : List ℕ) (n : ℕ) (t : List ℕ) (f : StepWord) → 0 < d → Some f ≡ step_word_of w → None ≡ open_at t → body_at (below d) d w n t ≡ None
+pub body_closed : (limits : Bounds) (d : ℕ) (w : List ℕ) (n : ℕ) (t : List ℕ) (f : StepWord) → 0 < d → Some f ≡ step_word_of w → None ≡ open_at t → body_at limits (below limits d) d w n t ≡ None
 unfolding body_at
-body_closed zero w n t f h e g = absurd (omega arith)
-body_closed (suc d) w n t f h e g = rw (sym e, sym g) refl
+body_closed limits zero w n t f h e g = absurd (omega arith)
+body_closed limits (suc d) w n t f h e g = rw (sym e, sym g) refl
 
-pub body_some : (d : ℕ) (w : List ℕ) (n : ℕ) (t : List ℕ) (f : StepWord) (s : List ℕ) → 0 < d → Some f ≡ step_word_of w → Some s ≡ open_at t → body_at (below d) d w n t ≡ call_at (below (suc (d - 1))) (d - 1) f n s
+pub body_some : (limits : Bounds) (d : ℕ) (w : List ℕ) (n : ℕ) (t : List ℕ) (f : StepWord) (s : List ℕ) → 0 < d → Some f ≡ step_word_of w → Some s ≡ open_at t → body_at limits (below limits d) d w n t ≡ call_at limits (below limits (suc (d - 1))) (d - 1) f n s
 unfolding body_at
-body_some zero w n t f s h e g = absurd (omega arith)
-body_some (suc d) w n t f s h e g =
+body_some limits zero w n t f s h e g = absurd (omega arith)
+body_some limits (suc d) w n t f s h e g =
     let k : d ≡ suc d - 1 = omega arith in
-    rw (sym e, sym g) (ap (λ i. call_at (below (suc i)) i f n s) k)
+    rw (sym e, sym g) (ap (λ i. call_at limits (below limits (suc i)) i f n s) k)
 
-pub key_call_none : (d : ℕ) (w : List ℕ) (n : ℕ) (t : List ℕ) → d ≡ 0 → key_call_at (below d 0) d w n t ≡ None
+pub key_call_none : (limits : Bounds) (d : ℕ) (w : List ℕ) (n : ℕ) (t : List ℕ) → d ≡ 0 → key_call_at (below limits d 0) d w n t ≡ None
 unfolding key_call_at
-key_call_none zero w n t h = refl
-key_call_none (suc d) w n t h = absurd (omega arith)
+key_call_none limits zero w n t h = refl
+key_call_none limits (suc d) w n t h = absurd (omega arith)
 
-pub key_call_rollup : (d : ℕ) (w : List ℕ) (n : ℕ) (t : List ℕ) → 0 < d → true ≡ same_text w (codes "rollup") → key_call_at (below d 0) d w n t ≡ closed (λ k. k) n (rollup_at t)
+pub key_call_rollup : (limits : Bounds) (d : ℕ) (w : List ℕ) (n : ℕ) (t : List ℕ) → 0 < d → true ≡ same_text w (codes "rollup") → key_call_at (below limits d 0) d w n t ≡ closed (λ k. k) n (rollup_at t)
 unfolding key_call_at
-key_call_rollup zero w n t h e = absurd (omega arith)
-key_call_rollup (suc d) w n t h e = rw (sym e) refl
+key_call_rollup limits zero w n t h e = absurd (omega arith)
+key_call_rollup limits (suc d) w n t h e = rw (sym e) refl
 
-pub key_call_recursive : (d : ℕ) (w : List ℕ) (n : ℕ) (t : List ℕ) → 0 < d → false ≡ same_text w (codes "rollup") → true ≡ same_text w (codes "rolluprecursive") → key_call_at (below d 0) d w n t ≡ ended (λ k. k) (recursive_at (pipe_at (d - 1)) n t)
+pub key_call_recursive : (limits : Bounds) (d : ℕ) (w : List ℕ) (n : ℕ) (t : List ℕ) → 0 < d → false ≡ same_text w (codes "rollup") → true ≡ same_text w (codes "rolluprecursive") → key_call_at (below limits d 0) d w n t ≡ ended (λ k. k) (recursive_at (pipe_at limits (d - 1)) n t)
 unfolding key_call_at below
-key_call_recursive zero w n t h e g = absurd (omega arith)
-key_call_recursive (suc d) w n t h e g = let k : d ≡ suc d - 1 = omega arith in rw (sym e, sym g) (ap (λ i. ended (λ k. k) (recursive_at (pipe_at i) n t)) k)
+key_call_recursive limits zero w n t h e g = absurd (omega arith)
+key_call_recursive limits (suc d) w n t h e g = let k : d ≡ suc d - 1 = omega arith in rw (sym e, sym g) (ap (λ i. ended (λ k. k) (recursive_at (pipe_at limits i) n t)) k)
 
-pub key_call_other : (d : ℕ) (w : List ℕ) (n : ℕ) (t : List ℕ) → 0 < d → false ≡ same_text w (codes "rollup") → false ≡ same_text w (codes "rolluprecursive") → key_call_at (below d 0) d w n t ≡ None
+pub key_call_other : (limits : Bounds) (d : ℕ) (w : List ℕ) (n : ℕ) (t : List ℕ) → 0 < d → false ≡ same_text w (codes "rollup") → false ≡ same_text w (codes "rolluprecursive") → key_call_at (below limits d 0) d w n t ≡ None
 unfolding key_call_at
-key_call_other zero w n t h e g = absurd (omega arith)
-key_call_other (suc d) w n t h e g = rw (sym e, sym g) refl
+key_call_other limits zero w n t h e g = absurd (omega arith)
+key_call_other limits (suc d) w n t h e g = rw (sym e, sym g) refl
 
-pub keys_none : (d n : ℕ) (t : List ℕ) → d ≡ 0 → keys_at (below d 1) d n t ≡ None
+pub keys_none : (limits : Bounds) (d n : ℕ) (t : List ℕ) → d ≡ 0 → keys_at (below limits d 1) d n t ≡ None
 unfolding keys_at
-keys_none zero n t h = refl
-keys_none (suc d) n t h = absurd (omega arith)
+keys_none limits zero n t h = refl
+keys_none limits (suc d) n t h = absurd (omega arith)
 
-pub keys_closed : (d n : ℕ) (t : List ℕ) → 0 < d → None ≡ open_at t → keys_at (below d 1) d n t ≡ None
+pub keys_closed : (limits : Bounds) (d n : ℕ) (t : List ℕ) → 0 < d → None ≡ open_at t → keys_at (below limits d 1) d n t ≡ None
 unfolding keys_at
-keys_closed zero n t h e = absurd (omega arith)
-keys_closed (suc d) n t h e = rw (sym e) refl
+keys_closed limits zero n t h e = absurd (omega arith)
+keys_closed limits (suc d) n t h e = rw (sym e) refl
 
-pub keys_some : (d n : ℕ) (t s : List ℕ) → 0 < d → Some s ≡ open_at t → keys_at (below d 1) d n t ≡ ended keys_from (some_at (key_at (below (d - 1) 0) (d - 1)) n s)
+pub keys_some : (limits : Bounds) (d n : ℕ) (t s : List ℕ) → 0 < d → Some s ≡ open_at t → keys_at (below limits d 1) d n t ≡ ended keys_from (some_at (key_at (below limits (d - 1) 0) (d - 1)) n s)
 unfolding keys_at below
-keys_some zero n t s h e = absurd (omega arith)
-keys_some (suc d) n t s h e = let k : d ≡ suc d - 1 = omega arith in rw (sym e) (ap (λ i. ended keys_from (some_at (key_at (below i 0) i) n s)) k)
+keys_some limits zero n t s h e = absurd (omega arith)
+keys_some limits (suc d) n t s h e = let k : d ≡ suc d - 1 = omega arith in rw (sym e) (ap (λ i. ended keys_from (some_at (key_at (below limits i 0) i) n s)) k)
 
 -- ---- climbs
 
@@ -258,46 +254,46 @@ step_agree : (o : Seen Step) (f g : ℕ → List ℕ → Result Pipe ℕ) → ((
 step_agree None f g h = refl
 step_agree (Some x) f g h = branch_agree (after 47 x.2) _ _ _ (λ s e. ap (whole_more x.0) (h x refl s))
 
-whole_agree : (d f g n : ℕ) (t : List ℕ) → n ≤ f → n ≤ g → whole_at (step d) f n t ≡ whole_at (step d) g n t
+whole_agree : (limits : Bounds) (d f g n : ℕ) (t : List ℕ) → n ≤ f → n ≤ g → whole_at (step limits d) f n t ≡ whole_at (step limits d) g n t
 unfolding whole_at
-whole_agree d zero zero n t h k = refl
-whole_agree d zero (suc g) n t h k = let z : n ≡ 0 = omega arith in rw (z, step_zero d t) refl
-whole_agree d (suc f) zero n t h k = let z : n ≡ 0 = omega arith in rw (z, step_zero d t) refl
-whole_agree d (suc f) (suc g) n t h k = step_agree (step d n t) _ _ (λ x e s. let l = step_less d n t x e in whole_agree d f g x.1 s (omega arith) (omega arith))
+whole_agree limits d zero zero n t h k = refl
+whole_agree limits d zero (suc g) n t h k = let z : n ≡ 0 = omega arith in rw (z, step_zero limits d t) refl
+whole_agree limits d (suc f) zero n t h k = let z : n ≡ 0 = omega arith in rw (z, step_zero limits d t) refl
+whole_agree limits d (suc f) (suc g) n t h k = step_agree (step limits d n t) _ _ (λ x e s. let l = step_less limits d n t x e in whole_agree limits d f g x.1 s (omega arith) (omega arith))
 
 behind_more : (front : List Step) (s : Step) (w : Result Pipe ℕ) → behind front (whole_more s w) ≡ behind (front ++ s ∷ []) w
 behind_more front s (Ok p) = ap (λ (q : Pipe). Ok q) (sym (app_more front s p))
 behind_more front s (Err k) = ap (λ (i : ℕ). Err i) (omega (arith, length-append front (s ∷ [])))
 
-pub all_turn : (d n : ℕ) (front : List Step) (t : List ℕ) (s : Step) (k : ℕ) (u v : List ℕ) (total : Result Pipe ℕ) → step d n t ≡ Some (s, k, u) → Some v ≡ after 47 u → behind front (whole_at (step d) n n t) ≡ total → behind (front ++ s ∷ []) (whole_at (step d) k k v) ≡ total
+pub all_turn : (limits : Bounds) (d n : ℕ) (front : List Step) (t : List ℕ) (s : Step) (k : ℕ) (u v : List ℕ) (total : Result Pipe ℕ) → step limits d n t ≡ Some (s, k, u) → Some v ≡ after 47 u → behind front (whole_at (step limits d) n n t) ≡ total → behind (front ++ s ∷ []) (whole_at (step limits d) k k v) ≡ total
 unfolding whole_at
-all_turn d zero front t s k u v total e h g = absurd (omega (arith, step_less d 0 t (s, k, u) e))
-all_turn d (suc n) front t s k u v total e h g =
-    let l = step_less d (suc n) t (s, k, u) e in
-    let a : whole_at (step d) (suc n) (suc n) t ≡ whole_more s (whole_at (step d) k k v) = rw (e, sym h) (ap (whole_more s) (whole_agree d n k k v (omega (arith, l)) (omega arith))) in
-    sym (behind_more front s (whole_at (step d) k k v)) ∙ ap (behind front) (sym a) ∙ g
+all_turn limits d zero front t s k u v total e h g = absurd (omega (arith, step_less limits d 0 t (s, k, u) e))
+all_turn limits d (suc n) front t s k u v total e h g =
+    let l = step_less limits d (suc n) t (s, k, u) e in
+    let a : whole_at (step limits d) (suc n) (suc n) t ≡ whole_more s (whole_at (step limits d) k k v) = rw (e, sym h) (ap (whole_more s) (whole_agree limits d n k k v (omega (arith, l)) (omega arith))) in
+    sym (behind_more front s (whole_at (step limits d) k k v)) ∙ ap (behind front) (sym a) ∙ g
 
-pub all_fails : (d n : ℕ) (front : List Step) (t : List ℕ) (k : ℕ) (total : Result Pipe ℕ) → step d n t ≡ None → k ≡ length front + 1 → behind front (whole_at (step d) n n t) ≡ total → total ≡ Err k
+pub all_fails : (limits : Bounds) (d n : ℕ) (front : List Step) (t : List ℕ) (k : ℕ) (total : Result Pipe ℕ) → step limits d n t ≡ None → k ≡ length front + 1 → behind front (whole_at (step limits d) n n t) ≡ total → total ≡ Err k
 unfolding whole_at
-all_fails d zero front t k total e h g = sym g ∙ ap (λ (i : ℕ). Err i) (sym h)
-all_fails d (suc n) front t k total e h g = sym g ∙ rw e (ap (λ (i : ℕ). Err i) (sym h))
+all_fails limits d zero front t k total e h g = sym g ∙ ap (λ (i : ℕ). Err i) (sym h)
+all_fails limits d (suc n) front t k total e h g = sym g ∙ rw e (ap (λ (i : ℕ). Err i) (sym h))
 
-pub all_done : (d n : ℕ) (front : List Step) (t : List ℕ) (s : Step) (j : ℕ) (u : List ℕ) (total : Result Pipe ℕ) → step d n t ≡ Some (s, j, u) → length u ≡ 0 → behind front (whole_at (step d) n n t) ≡ total → total ≡ Ok (pipe (front ++ s ∷ []))
+pub all_done : (limits : Bounds) (d n : ℕ) (front : List Step) (t : List ℕ) (s : Step) (j : ℕ) (u : List ℕ) (total : Result Pipe ℕ) → step limits d n t ≡ Some (s, j, u) → length u ≡ 0 → behind front (whole_at (step limits d) n n t) ≡ total → total ≡ Ok (pipe (front ++ s ∷ []))
 unfolding whole_at after
-all_done d n front t s j (b ∷ u) total e z g = absurd (omega arith)
-all_done d zero front t s j [] total e z g = absurd (omega (arith, step_less d 0 t (s, j, []) e))
-all_done d (suc n) front t s j [] total e z g = sym g ∙ rw e (ap (λ (q : Pipe). Ok q) (sym (app_more front s Pipe.End) ∙ app_end (front ++ s ∷ [])))
+all_done limits d n front t s j (b ∷ u) total e z g = absurd (omega arith)
+all_done limits d zero front t s j [] total e z g = absurd (omega (arith, step_less limits d 0 t (s, j, []) e))
+all_done limits d (suc n) front t s j [] total e z g = sym g ∙ rw e (ap (λ (q : Pipe). Ok q) (sym (app_more front s Pipe.End) ∙ app_end (front ++ s ∷ [])))
 
-pub all_stops : (d n : ℕ) (front : List Step) (t : List ℕ) (s : Step) (j : ℕ) (u : List ℕ) (k : ℕ) (total : Result Pipe ℕ) → step d n t ≡ Some (s, j, u) → None ≡ after 47 u → 0 < length u → k ≡ length front + 1 → behind front (whole_at (step d) n n t) ≡ total → total ≡ Err k
+pub all_stops : (limits : Bounds) (d n : ℕ) (front : List Step) (t : List ℕ) (s : Step) (j : ℕ) (u : List ℕ) (k : ℕ) (total : Result Pipe ℕ) → step limits d n t ≡ Some (s, j, u) → None ≡ after 47 u → 0 < length u → k ≡ length front + 1 → behind front (whole_at (step limits d) n n t) ≡ total → total ≡ Err k
 unfolding whole_at
-all_stops d n front t s j [] k total e h z l g = absurd (omega arith)
-all_stops d zero front t s j (b ∷ u) k total e h z l g = absurd (omega (arith, step_less d 0 t (s, j, b ∷ u) e))
-all_stops d (suc n) front t s j (b ∷ u) k total e h z l g = sym g ∙ rw (e, sym h) (ap (λ (i : ℕ). Err i) (sym l))
+all_stops limits d n front t s j [] k total e h z l g = absurd (omega arith)
+all_stops limits d zero front t s j (b ∷ u) k total e h z l g = absurd (omega (arith, step_less limits d 0 t (s, j, b ∷ u) e))
+all_stops limits d (suc n) front t s j (b ∷ u) k total e h z l g = sym g ∙ rw (e, sym h) (ap (λ (i : ℕ). Err i) (sym l))
 
 behind_none : (w : Result Pipe ℕ) → behind [] w ≡ w
 behind_none (Ok p) = refl
 behind_none (Err k) = ap (λ (i : ℕ). Err i) (zero-add k)
 
-pub all_start : (d n : ℕ) (t : List ℕ) → behind [] (whole_at (step d) n n t) ≡ pipeline_at d n t
+pub all_start : (limits : Bounds) (d n : ℕ) (t : List ℕ) → behind [] (whole_at (step limits d) n n t) ≡ pipeline_at limits d n t
 unfolding pipeline_at
-all_start d n t = behind_none (whole_at (step d) n n t)
+all_start limits d n t = behind_none (whole_at (step limits d) n n t)

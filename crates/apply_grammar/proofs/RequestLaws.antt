@@ -12,12 +12,12 @@ use Rattle.apply_ast.specs.declared.steps.Request.{Request}
 use Rattle.apply_grammar.specs.declared.refusals.GrammarRefused.{GrammarRefused}
 use Rattle.apply_grammar.specs.declared.refusals.GrammarRefused.TheVariants as refused
 use Rattle.apply_grammar.specs.Frames.{IsFrame, IsFront, IsSlashOrNothing}
-use Rattle.apply_grammar.specs.Limits.{most_open, most_steps, TextIn, Begins, IsSyntax}
-use Rattle.apply_grammar.specs.Requests.{IsRequest, IsNoRequest, IfSyntax, asked_of}
+use Rattle.apply_grammar.specs.Limits.{most_open, most_steps, TextIn, Begins, IsSyntax, served}
+use Rattle.apply_grammar.specs.Requests.{Asked, IsRequest, IsNoRequest, IfSyntax, asked_of}
 use Rattle.apply_grammar.specs.Gives.{GivesRequest}
 use Rattle.apply_grammar.specs.Reading.{◌>>=◌, branch, run, after, blanks_at, word_behind, name_at}
 use Rattle.apply_grammar.specs.PipeReading.{pipeline_at}
-use Rattle.apply_grammar.specs.FrameReading.{Asked, asked_for, explain_at, without_slash, query_at, frame_at, decoded_at, line_at}
+use Rattle.apply_grammar.specs.FrameReading.{asked_for, explain_at, without_slash, query_at, frame_at, decoded_at, line_at}
 use Rattle.apply_grammar.proofs.Runs.{and_parts, bind_then, branch_then, cond_then, some_is, none_some, blanks_is, blanks_front, after_is, after_front, stops, solid_stops}
 use Rattle.apply_grammar.proofs.Leaves.{false_true, name_is, name_front, name_leads, name_parts, leads_after, rws_stop, word_run}
 use Rattle.apply_grammar.proofs.ItemLaws.{behind_is, behind_front, name_solid}
@@ -29,36 +29,29 @@ use Rattle.apply_grammar.proofs.PipeWhole.{NestedIn, BeginsIn, IsStop, length_of
 
 -- ---- pipelines
 
-pub text_in : (t : List ℕ) (p : Pipe) → NestedIn most_open most_steps t p → TextIn t p
-text_in t p h = let x = pipe_tied p in (x.forget most_open t h.of, x.shallow most_open t h.of, h.enough, x.limit most_open t h.of)
+pub text_in : (t : List ℕ) (p : Pipe) → NestedIn served most_open most_steps t p → TextIn t p
+text_in t p h = let x = pipe_tied served p in (x.forget most_open t h.of, x.shallow most_open t h.of, h.enough, x.limit most_open t h.of)
 
-pub nested_in : (t : List ℕ) (p : Pipe) → IsUtf8 t → TextIn t p → NestedIn most_open most_steps t p
-nested_in t p u h = let x = pipe_tied p in record { of = x.deep h.3 most_open t h.0 h.1 u; enough = h.2 }
+pub nested_in : (t : List ℕ) (p : Pipe) → IsUtf8 t → TextIn t p → NestedIn served most_open most_steps t p
+nested_in t p u h = let x = pipe_tied served p in record { of = x.deep h.3 most_open t h.0 h.1 (λ e. u); enough = h.2 }
 
 long_as : (p : Pipe) → length_of p ≡ length (steps p)
 long_as Pipe.End = refl
 long_as (Pipe.Then s p) = ap suc (long_as p)
 
-begins_to : (t : List ℕ) (j : ℕ) → BeginsIn most_open most_steps t j → Begins t j
+begins_to : (t : List ℕ) (j : ℕ) → BeginsIn served most_open most_steps t j → Begins t j
 begins_to t zero h = tt
 begins_to t (suc j) h = (h.front, h.rest, h.pipe, text_in h.front h.pipe h.of, sym (long_as h.pipe) ∙ h.long, h.cut ∙ sym (append_assoc h.front (47 ∷ []) h.rest))
 
-begins_from : (t : List ℕ) (j : ℕ) → IsUtf8 t → Begins t j → BeginsIn most_open most_steps t j
+begins_from : (t : List ℕ) (j : ℕ) → IsUtf8 t → Begins t j → BeginsIn served most_open most_steps t j
 begins_from t zero u h = tt
 begins_from t (suc j) u h =
     let c : t ≡ h.0 ++ (47 ∷ h.1) = h.5 ∙ append_assoc h.0 (47 ∷ []) h.1 in
     let v = cut_utf8 h.0 47 h.1 (omega arith) (subst (λ l. IsUtf8 l) c u) in
     record { pipe = h.2; front = h.0; rest = h.1; of = nested_in h.0 h.2 v.0 h.3; long = long_as h.2 ∙ h.4; cut = c }
 
-pub stop_is : (t : List ℕ) (k : ℕ) → IsUtf8 t → IsStop most_open most_steps t k → IsSyntax t k
+pub stop_is : (t : List ℕ) (k : ℕ) → IsUtf8 t → IsStop served most_open most_steps t k → IsSyntax t k
 stop_is t k u h = (λ p g. h.none p (nested_in t p u g), h.some, begins_to t (k - 1) h.begins, λ j g. h.most j (begins_from t j u g))
-
--- a text has at most one pipeline
-pub one_pipe_in : (t : List ℕ) (p q : Pipe) → IsUtf8 t → TextIn t p → TextIn t q → p ≡ q
-one_pipe_in t p q u h k = ok_is (sym (pipeline_only most_open most_steps t p (nested_in t p u h)) ∙ pipeline_only most_open most_steps t q (nested_in t q u k))
-  where
-    ok_is : {p q : Pipe} → ◌≡◌ {A = Result Pipe ℕ} (Ok p) (Ok q) → p ≡ q
-    ok_is e = cc
 
 -- ---- frames
 
@@ -190,10 +183,10 @@ unfolding decoded_at
 line_found line x h =
     utf8_then line h
     (λ u h. branch_then (frame_at (percent_decode line)) _ _ h
-    (λ f e h. asked_then f.0 f.1 (pipeline_at most_open most_steps f.2) h
+    (λ f e h. asked_then f.0 f.1 (pipeline_at served most_open most_steps f.2) h
     (λ p g k.
     subst (λ x. IsRequest line x) (ok_then k)
-    (record { text = f.2; frame = frame_found line u e; within = text_in f.2 p (pipeline_found most_open most_steps f.2 p g) }))
+    (record { text = f.2; frame = frame_found line u e; within = text_in f.2 p (pipeline_found served most_open most_steps f.2 p g) }))
     (λ k g i. absurd cc))
     (λ e k. absurd cc))
     (λ n k. absurd cc)
@@ -207,7 +200,7 @@ unfolding line_at decoded_at
 line_only line x h =
     let f = h.frame in
     let u = frame_text line x.0 x.1 h.text f in
-    rw (is_utf8-from_IsUtf8 (percent_decode line) f.utf8, frame_read line x.0 x.1 h.text f, pipeline_only most_open most_steps h.text x.2 (nested_in h.text x.2 u h.within)) refl
+    rw (is_utf8-from_IsUtf8 (percent_decode line) f.utf8, frame_read line x.0 x.1 h.text f, pipeline_only served most_open most_steps h.text x.2 (nested_in h.text x.2 u h.within)) refl
 
 -- where a line stops being a request
 pub line_stops : (line : List ℕ) (k : ℕ) → line_at line ≡ Err k → IsNoRequest line k
@@ -215,11 +208,11 @@ unfolding decoded_at
 line_stops line k h =
     utf8_then line h
     (λ u h. branch_then (frame_at (percent_decode line)) _ _ h
-    (λ f e h. asked_then f.0 f.1 (pipeline_at most_open most_steps f.2) h
+    (λ f e h. asked_then f.0 f.1 (pipeline_at served most_open most_steps f.2) h
     (λ p g i. absurd cc)
     (λ j g i.
     let fr = frame_found line u e in
-    let s = stop_is f.2 j (frame_text line f.0 f.1 f.2 fr) (pipeline_stops most_open most_steps f.2 j g) in
+    let s = stop_is f.2 j (frame_text line f.0 f.1 f.2 fr) (pipeline_stops served most_open most_steps f.2 j g) in
     subst (IsNoRequest line) (err_is i) (stopped line f.0 f.1 f.2 j fr s)))
     (λ e i. subst (IsNoRequest line) (err_is i) (λ x s t g. none_some e (frame_read line x s t g))))
     (λ n i. subst (IsNoRequest line) (err_is i) (λ x s t g. n g.utf8))

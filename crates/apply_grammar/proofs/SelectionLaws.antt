@@ -7,6 +7,7 @@ use Rattle.edm_values.specs.Values.{integer_max}
 use Rattle.apply_ast.specs.Trees.{OrderItem, NumberLiteral, Limit, TopStep, TraverseStep, Key}
 use Rattle.apply_ast.specs.Printing.{top_word, walk_word}
 use Rattle.apply_ast.specs.Grammar.{Language, bws, rws, word, ◌·◌, given, close, comma, listed, each_behind, name_text, path_text, as_text, keep_text, order_text}
+use Rattle.apply_grammar.specs.Limits.{Bounds}
 use Rattle.apply_grammar.specs.declared.words.LimitKind.{LimitKind}
 use Rattle.apply_grammar.specs.declared.words.LimitKind.TheVariants as kind
 use Rattle.apply_grammar.specs.Reading.{◌>>=◌, Leaf, branch, run, after, blanks_at, close_at, comma_at, word_behind, name_at, items_at, list_at, path_at, digits_at, value_behind, count_at, decimal_at}
@@ -80,11 +81,11 @@ literal_front (NumberLiteral.Int (negsuc n)) a r h e = absurd h
 literal_front (NumberLiteral.Dec (pos m) s) a r h e = dec_literal m s a r h e
 literal_front (NumberLiteral.Dec (negsuc m) s) a r h e = absurd h
 
-literal_solid : (x : NumberLiteral) (a : List ℕ) → literal_text x a → solid a ≡ true
-literal_solid (NumberLiteral.Int (pos n)) a h = digits_solid integer_max n a h
-literal_solid (NumberLiteral.Int (negsuc n)) a h = absurd h
-literal_solid (NumberLiteral.Dec (pos m) s) a h = let f = dec_atom m s a [] h refl in f.solid_atom
-literal_solid (NumberLiteral.Dec (negsuc m) s) a h = absurd h
+literal_solid : (limits : Bounds) (x : NumberLiteral) (a : List ℕ) → literal_text x a → solid a ≡ true
+literal_solid limits (NumberLiteral.Int (pos n)) a h = digits_solid integer_max n a h
+literal_solid limits (NumberLiteral.Int (negsuc n)) a h = absurd h
+literal_solid limits (NumberLiteral.Dec (pos m) s) a h = let f = dec_atom limits m s a [] h refl in f.solid_atom
+literal_solid limits (NumberLiteral.Dec (negsuc m) s) a h = absurd h
 
 -- ---- selections
 
@@ -111,43 +112,43 @@ limit_front (Limit.Count n) a r h e = rw (count_front integer_max n a r h e) ref
 limit_front (Limit.Sum x) a r h e = rw (literal_front x a r h e) refl
 limit_front (Limit.Percent p) a r h e = rw (count_front 100 p a r h e) refl
 
-limit_solid : (l : Limit) (a : List ℕ) → limit_text l a → solid a ≡ true
-limit_solid (Limit.Count n) a h = digits_solid integer_max n a h
-limit_solid (Limit.Sum x) a h = literal_solid x a h
-limit_solid (Limit.Percent p) a h = digits_solid 100 p a h
+limit_solid : (limits : Bounds) (l : Limit) (a : List ℕ) → limit_text l a → solid a ≡ true
+limit_solid limits (Limit.Count n) a h = digits_solid integer_max n a h
+limit_solid limits (Limit.Sum x) a h = literal_solid limits x a h
+limit_solid limits (Limit.Percent p) a h = digits_solid 100 p a h
 
 -- a selection that was read, and the word that it stands behind
-pub record TopRead (d : ℕ) (b : Bool) (k : LimitKind) (t : List ℕ) (x : TopStep × List ℕ) : Type 0 where
-  pub front : Front (top_text x.0 d) t x.1
+pub record TopRead (limits : Bounds) (d : ℕ) (b : Bool) (k : LimitKind) (t : List ℕ) (x : TopStep × List ℕ) : Type 0 where
+  pub front : Front (top_text limits x.0 d) t x.1
   pub its_word : top_word x.0.bottom x.0.limit ≡ selection_word b k
 
-pub top_is : (d : ℕ) (b : Bool) (k : LimitKind) (t : List ℕ) {x : TopStep × List ℕ} → top_at d b k t ≡ Some x → TopRead d b k t x
+pub top_is : (limits : Bounds) (d : ℕ) (b : Bool) (k : LimitKind) (t : List ℕ) {x : TopStep × List ℕ} → top_at limits d b k t ≡ Some x → TopRead limits d b k t x
 unfolding top_at
-top_is d b k t h =
-    bind_then (limit_at k t) _ h (λ l e h. bind_then (comma_at l.1) _ h (λ c f h. bind_then (small_at d c) _ h (λ y g i.
+top_is limits d b k t h =
+    bind_then (limit_at k t) _ h (λ l e h. bind_then (comma_at l.1) _ h (λ c f h. bind_then (small_at limits d c) _ h (λ y g i.
     let m = limit_is k t e in
-    subst (λ x. TopRead d b k t x) (some_is i)
+    subst (λ x. TopRead limits d b k t x) (some_is i)
     (record {
-      front = then_front m.0 (then_front (comma_is l.1 f).0 (small_is d c g));
+      front = then_front m.0 (then_front (comma_is l.1 f).0 (small_is limits d c g));
       its_word = top_word_is b l.0 ∙ ap (selection_word b) m.1;
     }))))
 
-pub top_front : (x : TopStep) (d : ℕ) (a r : List ℕ) → top_text x d a → Follow 1 r → top_at d x.bottom (kind_of x.limit) (a ++ r) ≡ Some (x, r)
+pub top_front : (limits : Bounds) (x : TopStep) (d : ℕ) (a r : List ℕ) → top_text limits x d a → Follow 1 r → top_at limits d x.bottom (kind_of x.limit) (a ++ r) ≡ Some (x, r)
 unfolding top_at
-top_front x d a r h f =
+top_front limits x d a r h f =
     let b = h.second in
     let u = b.right in
     let cut : a ++ r ≡ h.left ++ (b.left ++ (u ++ r)) = recut h.left h.right r h.cut ∙ ap (λ l. h.left ++ l) (recut b.left u r b.cut) in
     rw (
       cut,
       limit_front x.limit h.left (b.left ++ (u ++ r)) h.first (comma_solid b.left (u ++ r) b.first),
-      comma_reads b.left (u ++ r) b.first (solid_stops u r (small_solid x.expr d u b.second)),
-      small_front d x.expr u r b.second f,
+      comma_reads b.left (u ++ r) b.first (solid_stops u r (small_solid limits x.expr d u b.second)),
+      small_front limits d x.expr u r b.second f,
     )
     refl
 
-pub top_solid : (x : TopStep) (d : ℕ) (a : List ℕ) → top_text x d a → solid a ≡ true
-top_solid x d a h = subst (λ l. solid l ≡ true) (sym h.cut) (solid_on h.left h.right (limit_solid x.limit h.left h.first))
+pub top_solid : (limits : Bounds) (x : TopStep) (d : ℕ) (a : List ℕ) → top_text limits x d a → solid a ≡ true
+top_solid limits x d a h = subst (λ l. solid l ≡ true) (sym h.cut) (solid_on h.left h.right (limit_solid limits x.limit h.left h.first))
 
 -- ---- walks
 
@@ -167,33 +168,33 @@ order_solid : (b : Bool) → solid (walk_word b) ≡ true
 order_solid true = refl
 order_solid false = refl
 
-pub traverse_is : (d : ℕ) (t : List ℕ) {x : TraverseStep × List ℕ} → traverse_at d t ≡ Some x → Front (traverse_text x.0 d) t x.1
+pub traverse_is : (limits : Bounds) (d : ℕ) (t : List ℕ) {x : TraverseStep × List ℕ} → traverse_at limits d t ≡ Some x → Front (traverse_text limits x.0 d) t x.1
 unfolding traverse_at
-traverse_is d t h =
-    bind_then (node_at t) _ h (λ n e h. bind_then (comma_at n.1) _ h (λ c f h. bind_then (order_at c) _ h (λ o g h. bind_then (items_at comma_at (item_at d) (length o.1) o.1) _ h (λ is i k.
-    subst (λ x. Front (traverse_text x.0 d) t x.1) (some_is k)
-    (node_is t e (then_front (comma_is n.1 f).0 (then_front (order_is c g) (items_is_behind (order_items d) (length o.1) o.1 i))))))))
+traverse_is limits d t h =
+    bind_then (node_at t) _ h (λ n e h. bind_then (comma_at n.1) _ h (λ c f h. bind_then (order_at c) _ h (λ o g h. bind_then (items_at comma_at (item_at limits d) (length o.1) o.1) _ h (λ is i k.
+    subst (λ x. Front (traverse_text limits x.0 d) t x.1) (some_is k)
+    (node_is t e (then_front (comma_is n.1 f).0 (then_front (order_is c g) (items_is_behind (order_items limits d) (length o.1) o.1 i))))))))
 
-behind_ends : (d : ℕ) (xs : List OrderItem) (a r : List ℕ) → each_behind comma (item_text d) xs a → ItemEnd r → ends (a ++ r) ≡ true
-behind_ends d xs a r h s = let e = behind_follow (order_items d) xs a r h s in let f = e.follow in f.ends_here
+behind_ends : (limits : Bounds) (d : ℕ) (xs : List OrderItem) (a r : List ℕ) → each_behind comma (item_text limits d) xs a → ItemEnd r → ends (a ++ r) ≡ true
+behind_ends limits d xs a r h s = let e = behind_follow (order_items limits d) xs a r h s in let f = e.follow in f.ends_here
 
-pub traverse_front : (x : TraverseStep) (d : ℕ) (a w r : List ℕ) → traverse_text x d a → bws w → traverse_at d (a ++ (w ++ (41 ∷ r))) ≡ Some (x, w ++ (41 ∷ r))
+pub traverse_front : (limits : Bounds) (x : TraverseStep) (d : ℕ) (a w r : List ℕ) → traverse_text limits x d a → bws w → traverse_at limits d (a ++ (w ++ (41 ∷ r))) ≡ Some (x, w ++ (41 ∷ r))
 unfolding traverse_at
-traverse_front x d a w r h b =
+traverse_front limits x d a w r h b =
     let z = w ++ (41 ∷ r) in
-    let n = node_front x.hier x.path (comma · order_text x.post · each_behind comma (item_text d) x.items) a z h in
+    let n = node_front x.hier x.path (comma · order_text x.post · each_behind comma (item_text limits d) x.items) a z h in
     let c = n.of in
     let o = c.second in
     let its = o.right ++ z in
     let cut : n.others ++ z ≡ c.left ++ (walk_word x.post ++ its) = recut c.left c.right z c.cut ∙ ap (λ l. c.left ++ l) (recut o.left o.right z o.cut ∙ ap (λ l. l ++ its) o.first) in
-    let stop : stops goes_on_name its ≡ true = ends_go its (behind_ends d x.items o.right z o.second (close_end w r b)) in
+    let stop : stops goes_on_name its ≡ true = ends_go its (behind_ends limits d x.items o.right z o.second (close_end w r b)) in
     let e : ends (n.others ++ z) ≡ true = subst (λ l. ends l ≡ true) (sym cut) (comma_solid c.left (walk_word x.post ++ its) c.first) in
     rw (
       n.reads e,
       cut,
       comma_reads c.left (walk_word x.post ++ its) c.first (solid_stops (walk_word x.post) its (order_solid x.post)),
       order_front x.post its stop,
-      items_front (order_items d) x.items o.right z o.second (close_end w r b) (comma_none w r b) (length its) (omega arith),
+      items_front (order_items limits d) x.items o.right z o.second (close_end w r b) (comma_none w r b) (length its) (omega arith),
     )
     refl
 

@@ -4,9 +4,10 @@ use Rattle.std.specs.Str.{is_utf8}
 use Rattle.percent_encoding.specs.Percent.{percent_decode}
 use Rattle.edm_values.specs.Names.{Name}
 use Rattle.apply_ast.specs.Trees.{Pipe}
-use Rattle.apply_grammar.specs.Limits.{most_open, most_steps}
+use Rattle.apply_grammar.specs.Limits.{most_open, most_steps, served}
 use Rattle.apply_grammar.specs.Reading.{◌>>=◌, branch, after, blanks_at, word_behind, name_at}
 use Rattle.apply_grammar.specs.PipeReading.{pipeline_at}
+pub use Rattle.apply_grammar.specs.Requests.{Asked}
 
 -- whether `explain` and blanks stand in front, and what follows them
 unfoldable pub explain_at : List ℕ → Bool × List ℕ
@@ -27,10 +28,6 @@ frame_at t = do
   q ← query_at n.1
   Some ((explain_at t).0, n.0, q)
 
--- what a line asks for: whether for the plan, the entity set, and the pipeline
-abbrev pub Asked : Type 0
-Asked = Bool × Name × Pipe
-
 -- a pipeline behind a frame
 abbrev pub asked_for : Bool → Name → Result Pipe ℕ → Result Asked ℕ
 asked_for explain set (Ok p) = Ok (explain, set, p)
@@ -38,7 +35,7 @@ asked_for explain set (Err k) = Err k
 
 -- what a decoded line asks for, or the number of the first step that is none; 0 where the frame is none
 unfoldable pub decoded_at : List ℕ → Result Asked ℕ
-decoded_at t = branch (frame_at t) (λ f. asked_for f.0 f.1 (pipeline_at most_open most_steps f.2)) (Err 0)
+decoded_at t = branch (frame_at t) (λ f. asked_for f.0 f.1 (pipeline_at served most_open most_steps f.2)) (Err 0)
 
 -- what a line asks for
 unfoldable pub line_at : List ℕ → Result Asked ℕ

@@ -6,7 +6,7 @@ use Rattle.apply_grammar.specs.declared.refusals.GrammarRefused.{GrammarRefused}
 use Rattle.apply_grammar.specs.declared.refusals.GrammarRefused.TheVariants as request
 use Rattle.apply_ast.specs.declared.steps.Pipe as of_pipe
 use Rattle.apply_ast.specs.declared.steps.Request.{Request}
-use Rattle.apply_grammar.specs.FrameReading.{Asked}
+use Rattle.apply_grammar.specs.Requests.{Asked, asked_of}
 use Rattle.apply_ast.specs.Trees.{Pipe}
 use Rattle.apply_ast.specs.Views.{pipe_of}
 
@@ -33,7 +33,7 @@ GivesPipe (Err e) read = FailsPipe e read
 
 -- the request that is read; or a refusal
 abbrev pub GivesRequest : Result Request GrammarRefused → Result Asked ℕ → Type 0
-GivesRequest (Ok r) read = read ≡ Ok (r.explain, r.set, pipe_of r.pipe)
+GivesRequest (Ok r) read = read ≡ Ok (asked_of r)
 GivesRequest (Err request.TooLong) read = ⊥
 GivesRequest (Err (request.Syntax k)) read = read ≡ Err k
 GivesRequest (Err request.Memory) read = Unit {0}

@@ -11,7 +11,7 @@ use Rattle.apply_grammar.specs.declared.words.StepWord.{StepWord}
 use Rattle.apply_grammar.specs.declared.words.StepWord.TheVariants as word
 use Rattle.apply_grammar.specs.declared.words.LimitKind.{LimitKind}
 use Rattle.apply_grammar.specs.declared.words.LimitKind.TheVariants as kind
-use Rattle.apply_grammar.specs.Limits.{most_operations}
+use Rattle.apply_grammar.specs.Limits.{Bounds}
 use Rattle.apply_grammar.specs.Reading as r
 use Rattle.apply_grammar.specs.Reading.{◌>>=◌, Leaf, run, after, blanks_at, open_at, close_at, comma_at, word_behind, between_blanks, with_word, name_at, items_at, list_at, path_at, digits_at, value_behind, count_at, decimal_at, expr_at, spend}
 
@@ -30,8 +30,8 @@ PipeReader = Counted Pipe
 -- ---- items
 
 -- an expression of at most so many operators and calls
-unfoldable pub small_at : ℕ → List ℕ → Leaf Expr
-small_at d t = expr_at d 1 most_operations t >>= λ x. Some (x.0, x.2)
+unfoldable pub small_at : Bounds → ℕ → List ℕ → Leaf Expr
+small_at limits d t = expr_at limits d 1 limits.operations t >>= λ x. Some (x.0, x.2)
 
 -- behind `as` between blanks
 unfoldable pub as_at : List ℕ → Option (List ℕ)
@@ -42,9 +42,9 @@ unfoldable pub with_at : List ℕ → Option (List ℕ)
 with_at t = between_blanks (codes "with") t
 
 -- an item of a computation
-unfoldable pub named_at : ℕ → List ℕ → Leaf Named
-named_at d t = do
-  e ← small_at d t
+unfoldable pub named_at : Bounds → ℕ → List ℕ → Leaf Named
+named_at limits d t = do
+  e ← small_at limits d t
   r ← as_at e.1
   n ← name_at r
   Some (record { expr = e.0; name = n.0 }, n.1)
@@ -57,8 +57,8 @@ direction_at t =
     (false, t)
 
 -- an item of an order
-unfoldable pub item_at : ℕ → List ℕ → Leaf OrderItem
-item_at d t = small_at d t >>= λ e. Some (record { expr = e.0; desc = (direction_at e.1).0 }, (direction_at e.1).1)
+unfoldable pub item_at : Bounds → ℕ → List ℕ → Leaf OrderItem
+item_at limits d t = small_at limits d t >>= λ e. Some (record { expr = e.0; desc = (direction_at e.1).0 }, (direction_at e.1).1)
 
 -- the method of this word
 unfoldable pub method_of : List ℕ → Option Method
@@ -77,8 +77,8 @@ unfoldable pub custom_at : List ℕ → Leaf AggItem
 custom_at t = name_at t >>= λ n. r.branch (as_at n.1) (λ s. name_at s >>= λ a. Some (AggItem.Custom n.0 a.0, a.1)) (Some (AggItem.Custom n.0 n.0, n.1))
 
 -- an expression with its method, or a custom aggregate
-unfoldable pub measure_at : ℕ → List ℕ → Leaf AggItem
-measure_at d t = small_at d t >>= λ e. r.branch (with_at e.1) (standard_at e.0) (custom_at t)
+unfoldable pub measure_at : Bounds → ℕ → List ℕ → Leaf AggItem
+measure_at limits d t = small_at limits d t >>= λ e. r.branch (with_at e.1) (standard_at e.0) (custom_at t)
 
 -- the name of a `$count`
 unfoldable pub count_name_at : List ℕ → Leaf AggItem
@@ -89,8 +89,8 @@ count_name_at t = do
   Some (AggItem.Count n.0, n.1)
 
 -- an item of an aggregation
-unfoldable pub agg_at : ℕ → List ℕ → Leaf AggItem
-agg_at d t = r.branch (after 36 t) count_name_at (measure_at d t)
+unfoldable pub agg_at : Bounds → ℕ → List ℕ → Leaf AggItem
+agg_at limits d t = r.branch (after 36 t) count_name_at (measure_at limits d t)
 
 -- behind `$root/`
 unfoldable pub root_at : List ℕ → Option (List ℕ)
@@ -126,11 +126,11 @@ limit_at kind.Sum t = literal_at t >>= λ x. Some (Limit.Sum x.0, x.1)
 limit_at kind.Percent t = count_at 100 t >>= λ p. Some (Limit.Percent p.0, p.1)
 
 -- a selection of this form
-unfoldable pub top_at : ℕ → Bool → LimitKind → List ℕ → Leaf TopStep
-top_at d bottom k t = do
+unfoldable pub top_at : Bounds → ℕ → Bool → LimitKind → List ℕ → Leaf TopStep
+top_at limits d bottom k t = do
   l ← limit_at k t
   c ← comma_at l.1
-  e ← small_at d c
+  e ← small_at limits d c
   Some (record { bottom = bottom; limit = l.0; expr = e.0 }, e.1)
 
 -- the order of a walk
@@ -138,12 +138,12 @@ unfoldable pub order_at : List ℕ → Leaf Bool
 order_at t = r.branch (word_behind (codes "preorder") t) (λ u. Some (false, u)) (word_behind (codes "postorder") t >>= λ u. Some (true, u))
 
 -- a walk over a hierarchy
-unfoldable pub traverse_at : ℕ → List ℕ → Leaf TraverseStep
-traverse_at d t = do
+unfoldable pub traverse_at : Bounds → ℕ → List ℕ → Leaf TraverseStep
+traverse_at limits d t = do
   x ← node_at t
   c ← comma_at x.1
   o ← order_at c
-  is ← items_at comma_at (item_at d) (length o.1) o.1
+  is ← items_at comma_at (item_at limits d) (length o.1) o.1
   Some (record { hier = x.0.0; path = x.0.1; post = o.0; items = is.0 }, is.1)
 
 -- a greatest distance, if one is written
@@ -294,30 +294,30 @@ unfoldable pub step_word_of : List ℕ → Option StepWord
 step_word_of w = with_word word_of step_words w
 
 -- what stands in the parentheses of a step, where d more may be open there; pipe k reads pipelines in k parentheses more
-unfoldable pub call_at : (ℕ → PipeReader) → ℕ → StepWord → Counted Step
-call_at pipe d word.Filter n t = closed Step.Filter n (small_at d t)
-call_at pipe d word.Compute n t = closed Step.Compute n (list_at comma_at (named_at d) t)
-call_at pipe d word.OrderBy n t = closed Step.OrderBy n (list_at comma_at (item_at d) t)
-call_at pipe d word.Skip n t = closed Step.Skip n (count_at integer_max t)
-call_at pipe d word.Top n t = closed Step.Top n (count_at integer_max t)
-call_at pipe d word.Aggregate n t = closed Step.Aggregate n (list_at comma_at (agg_at d) t)
-call_at pipe d word.GroupBy n t = groupby_at (pipe 0) (pipe 2) d n t
-call_at pipe d word.Concat n t = ended Step.Concat (branches_at (pipe 0) n t)
-call_at pipe d (word.Join outer) n t = join_at (pipe 0) outer n t
-call_at pipe d (word.Climb up) n t = climb_at (pipe 0) up n t
-call_at pipe d word.Traverse n t = closed Step.Traverse n (traverse_at d t)
-call_at pipe d (word.Select bottom k) n t = closed Step.TopBy n (top_at d bottom k t)
+unfoldable pub call_at : Bounds → (ℕ → PipeReader) → ℕ → StepWord → Counted Step
+call_at limits pipe d word.Filter n t = closed Step.Filter n (small_at limits d t)
+call_at limits pipe d word.Compute n t = closed Step.Compute n (list_at comma_at (named_at limits d) t)
+call_at limits pipe d word.OrderBy n t = closed Step.OrderBy n (list_at comma_at (item_at limits d) t)
+call_at limits pipe d word.Skip n t = closed Step.Skip n (count_at integer_max t)
+call_at limits pipe d word.Top n t = closed Step.Top n (count_at integer_max t)
+call_at limits pipe d word.Aggregate n t = closed Step.Aggregate n (list_at comma_at (agg_at limits d) t)
+call_at limits pipe d word.GroupBy n t = groupby_at (pipe 0) (pipe 2) d n t
+call_at limits pipe d word.Concat n t = ended Step.Concat (branches_at (pipe 0) n t)
+call_at limits pipe d (word.Join outer) n t = join_at (pipe 0) outer n t
+call_at limits pipe d (word.Climb up) n t = climb_at (pipe 0) up n t
+call_at limits pipe d word.Traverse n t = closed Step.Traverse n (traverse_at limits d t)
+call_at limits pipe d (word.Select bottom k) n t = closed Step.TopBy n (top_at limits d bottom k t)
 
 -- a step behind its word: nothing where no parenthesis may be opened
-unfoldable pub body_at : (ℕ → PipeReader) → ℕ → List ℕ → Counted Step
-body_at pipe zero w n t = None
-body_at pipe (suc d) w n t = step_word_of w >>= λ f. open_at t >>= λ s. call_at pipe d f n s
+unfoldable pub body_at : Bounds → (ℕ → PipeReader) → ℕ → List ℕ → Counted Step
+body_at limits pipe zero w n t = None
+body_at limits pipe (suc d) w n t = step_word_of w >>= λ f. open_at t >>= λ s. call_at limits pipe d f n s
 
 -- a step where d parentheses may be open
-unfoldable pub step_at : (ℕ → PipeReader) → ℕ → Counted Step
-step_at pipe d n t = spend n (λ m.
+unfoldable pub step_at : Bounds → (ℕ → PipeReader) → ℕ → Counted Step
+step_at limits pipe d n t = spend n (λ m.
     if same_text (run goes_on_name t).0 (codes "identity") then Some (Step.Identity, m, (run goes_on_name t).1) else
-    body_at pipe d (run goes_on_name t).0 m (run goes_on_name t).1)
+    body_at limits pipe d (run goes_on_name t).0 m (run goes_on_name t).1)
 
 -- the steps behind slashes; f is at least n
 unfoldable pub rest_at : Counted Step → ℕ → PipeReader
@@ -330,14 +330,14 @@ unfoldable pub steps_at : Counted Step → PipeReader
 steps_at step n t = step n t >>= λ x. rest_at step x.1 x.1 x.2 >>= λ p. Some (Pipe.Then x.0 p.0, p.1, p.2)
 
 -- a pipeline behind k + 1 opening parentheses, where d may be open
-unfoldable pub below : ℕ → ℕ → PipeReader
-below zero k n t = None
-below (suc d) zero n t = steps_at (step_at (below d) d) n t
-below (suc d) (suc k) n t = below d k n t
+unfoldable pub below : Bounds → ℕ → ℕ → PipeReader
+below limits zero k n t = None
+below limits (suc d) zero n t = steps_at (step_at limits (below limits d) d) n t
+below limits (suc d) (suc k) n t = below limits d k n t
 
 -- a pipeline where d parentheses may be open
-abbrev pub pipe_at : ℕ → PipeReader
-pipe_at d = steps_at (step_at (below d) d)
+abbrev pub pipe_at : Bounds → ℕ → PipeReader
+pipe_at limits d = steps_at (step_at limits (below limits d) d)
 
 -- ---- all of a text
 
@@ -362,5 +362,5 @@ whole_at step zero n t = Err 1
 whole_at step (suc f) n t = whole_step (step n t) (whole_at step f)
 
 -- the pipeline that is all of the text, with at most d open parentheses and n steps
-unfoldable pub pipeline_at : ℕ → ℕ → List ℕ → Result Pipe ℕ
-pipeline_at d n t = whole_at (step_at (below d) d) n n t
+unfoldable pub pipeline_at : Bounds → ℕ → ℕ → List ℕ → Result Pipe ℕ
+pipeline_at limits d n t = whole_at (step_at limits (below limits d) d) n n t

@@ -1,6 +1,6 @@
 -- Reading expressions from left to right: what a text begins with and what is left of it, or nothing. The laws in proofs/ say that
 -- this reads exactly the texts of the grammar.
-use Rattle.std.specs.Prelude.{ℕ, zero, suc, ◌==◌, ◌&&◌, nat_le, ℤ, pos, Bool, true, false, List, [], ◌∷◌, length, codes, Option, Some, None, if◌then◌else◌}
+use Rattle.std.specs.Prelude.{ℕ, zero, suc, ◌==◌, ◌&&◌, ◌||◌, nat_le, ℤ, pos, Bool, true, false, List, [], ◌∷◌, length, codes, Option, Some, None, if◌then◌else◌}
 use Rattle.std.specs.Str.{is_utf8}
 use Rattle.std.specs.Str.Parse.{digits_value_after}
 use Rattle.std.specs.Char.{is_ascii_digit}
@@ -15,6 +15,7 @@ use Rattle.apply_ast.specs.declared.expressions.UnOp.{UnOp}
 use Rattle.apply_ast.specs.declared.expressions.BinOp.{BinOp}
 use Rattle.apply_ast.specs.declared.expressions.Fun1.{Fun1}
 use Rattle.apply_ast.specs.declared.expressions.Fun2.{Fun2}
+use Rattle.apply_grammar.specs.Limits.{Bounds}
 
 infixl 10 ◌>>=◌
 -- what the function makes of the option's value, if there is one
@@ -195,9 +196,13 @@ quote_at (b ∷ (c ∷ t)) =
     if b == 39 then (if c == 39 then (quote_at t >>= λ x. Some (39 ∷ x.0, x.1)) else Some ([], c ∷ t))
     else (quote_at (c ∷ t) >>= λ x. Some (b ∷ x.0, x.1))
 
--- the characters up to the closing quote
-unfoldable pub text_at : List ℕ → Leaf Expr
-text_at t = quote_at t >>= λ x. if is_utf8 x.0 then Some (Expr.Text x.0, x.1) else None
+-- the bytes of a string literal are characters, where they must be
+abbrev pub is_literal : Bounds → List ℕ → Bool
+is_literal limits s = limits.any_bytes || is_utf8 s
+
+-- the text up to the closing quote
+unfoldable pub text_at : Bounds → List ℕ → Leaf Expr
+text_at limits t = quote_at t >>= λ x. if is_literal limits x.0 then Some (Expr.Text x.0, x.1) else None
 
 -- a word that stands for a value, or a path
 unfoldable pub word_at : List ℕ → Leaf Expr
@@ -208,9 +213,9 @@ word_at t =
     (path_at t >>= λ p. Some (Expr.Path' p.0, p.1))
 
 -- a literal or a path
-unfoldable pub atom_at : List ℕ → Leaf Expr
-atom_at t =
-    branch (after 39 t) text_at
+unfoldable pub atom_at : Bounds → List ℕ → Leaf Expr
+atom_at limits t =
+    branch (after 39 t) (text_at limits)
     (branch (digits_at t) (λ ds. number_behind ds.0 ds.1) (word_at t))
 
 -- ---- expressions
@@ -246,11 +251,11 @@ unfoldable pub call_at : Reader → List ℕ → Reader
 call_at inner w n t = branch (fun1_of w) (λ f. call1_at inner f n t) (fun2_of w >>= λ f. call2_at inner f n t)
 
 -- an expression in parentheses, a call, a literal or a path
-unfoldable pub primary : Reader → Reader
-primary inner n t =
+unfoldable pub primary : Bounds → Reader → Reader
+primary limits inner n t =
     branch (open_at t) (paren_at inner n)
     (branch (open_at (run goes_on_name t).1) (λ r. spend n (λ m. call_at inner (run goes_on_name t).0 m r))
-    (atom_at t >>= λ x. Some (x.0, n, x.1)))
+    (atom_at limits t >>= λ x. Some (x.0, n, x.1)))
 
 -- signs, and what they stand before
 unfoldable pub signed : Reader → Reader
@@ -278,13 +283,13 @@ climb prim m n t = do
   goes prim m x.0 x.1 x.2
 
 -- an expression behind an opening parenthesis, where d may be open
-unfoldable pub parens : ℕ → Reader
-parens zero n t = None
-parens (suc d) n t = climb (primary (parens d)) 1 n t
+unfoldable pub parens : Bounds → ℕ → Reader
+parens limits zero n t = None
+parens limits (suc d) n t = climb (primary limits (parens limits d)) 1 n t
 
 -- an expression at the front
-abbrev pub expr_at : ℕ → ℕ → Reader
-expr_at d m = climb (primary (parens d)) m
+abbrev pub expr_at : Bounds → ℕ → ℕ → Reader
+expr_at limits d m = climb (primary limits (parens limits d)) m
 
 -- the value, where nothing is left
 abbrev pub at_end : {A : Type 0} → List ℕ → A → Option A
@@ -292,8 +297,8 @@ at_end [] x = Some x
 at_end (b ∷ t) x = None
 
 -- the expression that is all of the text
-unfoldable pub whole_expr : ℕ → ℕ → List ℕ → Option Expr
-whole_expr d n t = expr_at d 1 n t >>= λ x. at_end x.2 x.0
+unfoldable pub whole_expr : Bounds → ℕ → ℕ → List ℕ → Option Expr
+whole_expr limits d n t = expr_at limits d 1 n t >>= λ x. at_end x.2 x.0
 
 -- the path that is all of the text
 unfoldable pub whole_path : List ℕ → Option Path

@@ -6,7 +6,12 @@ use Rattle.apply_grammar.specs.declared.refusals.GrammarRefused.{GrammarRefused}
 use Rattle.apply_grammar.specs.declared.refusals.GrammarRefused.TheVariants as refused
 use Rattle.apply_grammar.specs.Frames.{IsFrame, HasNoFrame}
 use Rattle.apply_grammar.specs.Limits.{TextIn, IsSyntax}
-use Rattle.apply_grammar.specs.FrameReading.{Asked}
+use Rattle.apply_ast.specs.Trees.{Pipe}
+use Rattle.edm_values.specs.Names.{Name}
+
+-- what a line asks for: whether for the plan, the entity set, and the pipeline
+abbrev pub Asked : Type 0
+Asked = Bool × Name × Pipe
 
 -- the line has a frame, and its text is one of the pipeline within the limits
 pub record IsRequest (line : List ℕ) (asked : Asked) : Type 0 where

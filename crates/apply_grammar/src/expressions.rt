@@ -2,19 +2,20 @@
 //!
 //! `depth` is the number of parentheses that may still be opened, and `ops` that of the operators and calls that may still
 //! come. A reader gives the tree, the operators and calls that are left, and what follows.
-ghost use Rattle.std.specs.Prelude.{◌≡◌, ℕ, ◌+◌, ◌<◌, ◌≤◌, length, option_map, IfOk, IsUtf8, List, Option, Some};
+ghost use Rattle.std.specs.Prelude.{◌≡◌, ℕ, ◌+◌, ◌<◌, ◌≤◌, length, option_map, IfOk, List, Option, Some};
 ghost use Rattle.apply_ast.specs.Trees as trees;
-ghost use Rattle.apply_ast.specs.Printing as printing;
+ghost use Rattle.apply_ast.specs.Grammar.{expr_text};
 ghost use Rattle.apply_ast.specs.Views.{expr_of};
 ghost use Rattle.apply_grammar.specs.Gives.{Gives};
 ghost use Rattle.apply_grammar.specs.Limits as limits;
+ghost use Rattle.apply_grammar.specs.Limits.{served};
 ghost use Rattle.apply_grammar.specs.Reading as reading;
 
 use crate::bytes::{after, blanks_at, close_at, comma_at, open_at, same, skip_blanks, word_run};
 use crate::literals::{digits_at, read_number, read_text};
 use crate::paths::path_at;
 use crate::refusals::ExprRefused;
-use crate::words::{binop_level, binop_of, fun1_of, fun2_of};
+use crate::words::{binop_of, fun1_of, fun2_of};
 use apply_ast::{BinOp, Expr, Fun1, Fun2, UnOp};
 use std::alloc::Global;
 
@@ -31,7 +32,7 @@ fn op_at(level: u8, text: &[u8]) -> Option<(BinOp, &[u8])>
     let (word, rest) = word_run(blanks_at(text)?);
     let op = binop_of(word)?;
     let rest = blanks_at(rest)?;
-    if level <= binop_level(op) {
+    if level <= op.level() {
         Some((op, rest))
     } else {
         None
@@ -79,7 +80,7 @@ fn read_word(alloc: Global, text: &[u8]) -> Result<(Expr, &[u8]), ExprRefused>
 
 #[tactic(auto, unfolding(crate::specs::Reading::atom_at))]
 fn read_atom(alloc: Global, text: &[u8]) -> Result<(Expr, &[u8]), ExprRefused>
-    ensures { Gives (λ x. (expr_of x.0, x.1.now)) result (reading.atom_at text.now) }
+    ensures { Gives (λ x. (expr_of x.0, x.1.now)) result (reading.atom_at served text.now) }
 {
     match after(text, b'\'') {
         Some(behind) => read_text(alloc, behind),
@@ -99,7 +100,7 @@ fn read_paren(
     ops: u16,
     text: &[u8],
 ) -> Result<(Expr, u16, &[u8]), ExprRefused>
-    ensures exact { Gives (λ x. (expr_of x.0, x.1, x.2.now)) result (reading.paren_at (reading.parens depth) ops text.now) }
+    ensures exact { Gives (λ x. (expr_of x.0, x.1, x.2.now)) result (reading.paren_at (reading.parens served depth) ops text.now) }
     ensures less { IfOk result (λ x. x.1 ≤ ops) }
 {
     let (e, ops, rest) = read_inner(alloc, depth, ops, text)?;
@@ -116,7 +117,7 @@ fn read_inner(
     ops: u16,
     text: &[u8],
 ) -> Result<(Expr, u16, &[u8]), ExprRefused>
-    ensures exact { Gives (λ x. (expr_of x.0, x.1, x.2.now)) result (reading.parens depth ops text.now) }
+    ensures exact { Gives (λ x. (expr_of x.0, x.1, x.2.now)) result (reading.parens served depth ops text.now) }
     ensures less { IfOk result (λ x. x.1 ≤ ops) }
 {
     if depth == 0 {
@@ -134,7 +135,7 @@ fn read_call1(
     ops: u16,
     text: &[u8],
 ) -> Result<(Expr, u16, &[u8]), ExprRefused>
-    ensures exact { Gives (λ x. (expr_of x.0, x.1, x.2.now)) result (reading.call1_at (reading.parens depth) f ops text.now) }
+    ensures exact { Gives (λ x. (expr_of x.0, x.1, x.2.now)) result (reading.call1_at (reading.parens served depth) f ops text.now) }
     ensures less { IfOk result (λ x. x.1 ≤ ops) }
 {
     let (e, ops, rest) = read_paren(alloc, depth, ops, text)?;
@@ -150,7 +151,7 @@ fn read_call2(
     ops: u16,
     text: &[u8],
 ) -> Result<(Expr, u16, &[u8]), ExprRefused>
-    ensures exact { Gives (λ x. (expr_of x.0, x.1, x.2.now)) result (reading.call2_at (reading.parens depth) f ops text.now) }
+    ensures exact { Gives (λ x. (expr_of x.0, x.1, x.2.now)) result (reading.call2_at (reading.parens served depth) f ops text.now) }
     ensures less { IfOk result (λ x. x.1 ≤ ops) }
 {
     let (a, ops, rest) = read_inner(alloc, depth, ops, text)?;
@@ -176,7 +177,7 @@ fn read_call<'a>(
     ops: u16,
     text: &'a [u8],
 ) -> Result<(Expr, u16, &'a [u8]), ExprRefused>
-    ensures exact { Gives (λ x. (expr_of x.0, x.1, x.2.now)) result (reading.call_at (reading.parens depth) word.now ops text.now) }
+    ensures exact { Gives (λ x. (expr_of x.0, x.1, x.2.now)) result (reading.call_at (reading.parens served depth) word.now ops text.now) }
     ensures less { IfOk result (λ x. x.1 ≤ ops) }
 {
     match fun1_of(word) {
@@ -196,7 +197,7 @@ fn read_primary(
     ops: u16,
     text: &[u8],
 ) -> Result<(Expr, u16, &[u8]), ExprRefused>
-    ensures exact { Gives (λ x. (expr_of x.0, x.1, x.2.now)) result (reading.primary (reading.parens depth) ops text.now) }
+    ensures exact { Gives (λ x. (expr_of x.0, x.1, x.2.now)) result (reading.primary served (reading.parens served depth) ops text.now) }
     ensures less { IfOk result (λ x. x.1 ≤ ops) }
 {
     match open_at(text) {
@@ -226,7 +227,7 @@ fn read_signed(
     ops: u16,
     text: &[u8],
 ) -> Result<(Expr, u16, &[u8]), ExprRefused>
-    ensures exact { Gives (λ x. (expr_of x.0, x.1, x.2.now)) result (reading.signed (reading.primary (reading.parens depth)) ops text.now) }
+    ensures exact { Gives (λ x. (expr_of x.0, x.1, x.2.now)) result (reading.signed (reading.primary served (reading.parens served depth)) ops text.now) }
     ensures less { IfOk result (λ x. x.1 ≤ ops) }
 {
     match sign_at(text) {
@@ -250,7 +251,7 @@ pub(crate) fn read_level(
     text: &[u8],
 ) -> Result<(Expr, u16, &[u8]), ExprRefused>
     requires { level ≤ 7 }
-    ensures exact { Gives (λ x. (expr_of x.0, x.1, x.2.now)) result (reading.climb (reading.primary (reading.parens depth)) level ops text.now) }
+    ensures exact { Gives (λ x. (expr_of x.0, x.1, x.2.now)) result (reading.climb (reading.primary served (reading.parens served depth)) level ops text.now) }
     ensures less { IfOk result (λ x. x.1 ≤ ops) }
 {
     let (mut left, mut ops, mut rest) = read_signed(alloc, depth, ops, text)?;
@@ -258,7 +259,7 @@ pub(crate) fn read_level(
         if ops == 0 {
             return Err(ExprRefused::Syntax);
         }
-        let (right, less, next) = read_level(alloc, depth, binop_level(op) + 1, ops - 1, behind)?;
+        let (right, less, next) = read_level(alloc, depth, op.level() + 1, ops - 1, behind)?;
         left = Expr::Binary(op, Box::new(alloc, left)?, Box::new(alloc, right)?);
         ops = less;
         rest = next;
@@ -267,7 +268,7 @@ pub(crate) fn read_level(
 }
 
 fn whole_expr(alloc: Global, text: &[u8]) -> Result<Expr, ExprRefused>
-    ensures { Gives expr_of result (reading.whole_expr limits.most_open limits.most_operations text.now) }
+    ensures { Gives expr_of result (reading.whole_expr served limits.most_open limits.most_operations text.now) }
 {
     let (e, _, rest) = read_level(alloc, OPEN_MAX, 1, OPERATIONS_MAX, text)?;
     if rest.is_empty() {
@@ -287,7 +288,7 @@ pub fn read_expr(alloc: Global, text: &str) -> Result<Expr, ExprRefused>
     whole_expr(alloc, text.as_bytes())
 }
 
-/// A text has at most one expression within the limits.
+/// The law that a text has at most one expression: of any bytes, and without a limit. It does nothing when it runs.
 pub fn one_expression()
-    ensures { (t : List ℕ) (a b : trees.Expr) → IsUtf8 t → limits.ExprTextIn t a → limits.ExprTextIn t b → a ≡ b }
+    ensures { (t : List ℕ) (a b : trees.Expr) → expr_text a t → expr_text b t → a ≡ b }
 {}

@@ -3,6 +3,7 @@ ghost use Rattle.std.specs.Prelude.{◌≡◌, ℕ, ◌+◌, ◌≤◌, map, len
 ghost use Rattle.apply_ast.specs.Views.{expr_of, named_of, item_of, agg_of, hier_of, number_literal_of, limit_of, top_of, traverse_of};
 ghost use Rattle.apply_grammar.specs.Gives.{Gives};
 ghost use Rattle.apply_grammar.specs.Limits as limits;
+ghost use Rattle.apply_grammar.specs.Limits.{served};
 ghost use Rattle.apply_grammar.specs.Reading as reading;
 ghost use Rattle.apply_grammar.specs.PipeReading as pipes;
 
@@ -25,7 +26,7 @@ pub(crate) fn read_small(
     depth: u8,
     text: &[u8],
 ) -> Result<(Expr, &[u8]), ExprRefused>
-    ensures { Gives (λ x. (expr_of x.0, x.1.now)) result (pipes.small_at depth text.now) }
+    ensures { Gives (λ x. (expr_of x.0, x.1.now)) result (pipes.small_at served depth text.now) }
 {
     let (e, _, rest) = read_level(alloc, depth, 1, OPERATIONS_MAX, text)?;
     Ok((e, rest))
@@ -50,7 +51,7 @@ fn with_at(text: &[u8]) -> Option<&[u8]>
 /// An item of a computation.
 #[tactic(auto, unfolding(crate::specs::PipeReading::named_at))]
 fn read_named(alloc: Global, depth: u8, text: &[u8]) -> Result<(Named, &[u8]), ExprRefused>
-    ensures { Gives (λ x. (named_of x.0, x.1.now)) result (pipes.named_at depth text.now) }
+    ensures { Gives (λ x. (named_of x.0, x.1.now)) result (pipes.named_at served depth text.now) }
 {
     let (expr, rest) = read_small(alloc, depth, text)?;
     match as_at(rest) {
@@ -68,7 +69,7 @@ pub(crate) fn read_named_list(
     depth: u8,
     text: &[u8],
 ) -> Result<(NamedList, &[u8]), ExprRefused>
-    ensures { Gives (λ x. (map named_of x.0, x.1.now)) result (reading.list_at reading.comma_at (pipes.named_at depth) text.now) }
+    ensures { Gives (λ x. (map named_of x.0, x.1.now)) result (reading.list_at reading.comma_at (pipes.named_at served depth) text.now) }
 {
     let (first, mut rest) = read_named(alloc, depth, text)?;
     let mut list = Vec::new(alloc);
@@ -101,7 +102,7 @@ fn direction_at(text: &[u8]) -> (bool, &[u8])
 /// An item of an order.
 #[tactic(auto, unfolding(crate::specs::PipeReading::item_at))]
 fn read_item(alloc: Global, depth: u8, text: &[u8]) -> Result<(OrderItem, &[u8]), ExprRefused>
-    ensures { Gives (λ x. (item_of x.0, x.1.now)) result (pipes.item_at depth text.now) }
+    ensures { Gives (λ x. (item_of x.0, x.1.now)) result (pipes.item_at served depth text.now) }
 {
     let (expr, rest) = read_small(alloc, depth, text)?;
     let (desc, rest) = direction_at(rest);
@@ -114,7 +115,7 @@ pub(crate) fn read_order(
     depth: u8,
     text: &[u8],
 ) -> Result<(OrderList, &[u8]), ExprRefused>
-    ensures { Gives (λ x. (map item_of x.0, x.1.now)) result (reading.list_at reading.comma_at (pipes.item_at depth) text.now) }
+    ensures { Gives (λ x. (map item_of x.0, x.1.now)) result (reading.list_at reading.comma_at (pipes.item_at served depth) text.now) }
 {
     let (first, mut rest) = read_item(alloc, depth, text)?;
     let mut list = Vec::new(alloc);
@@ -166,7 +167,7 @@ fn read_custom(alloc: Global, text: &[u8]) -> Result<(AggItem, &[u8]), ExprRefus
 /// An expression with its method, or a custom aggregate.
 #[tactic(auto, unfolding(crate::specs::PipeReading::measure_at))]
 fn read_measure(alloc: Global, depth: u8, text: &[u8]) -> Result<(AggItem, &[u8]), ExprRefused>
-    ensures { Gives (λ x. (agg_of x.0, x.1.now)) result (pipes.measure_at depth text.now) }
+    ensures { Gives (λ x. (agg_of x.0, x.1.now)) result (pipes.measure_at served depth text.now) }
 {
     let (expr, rest) = read_small(alloc, depth, text)?;
     match with_at(rest) {
@@ -195,7 +196,7 @@ fn read_count(alloc: Global, text: &[u8]) -> Result<(AggItem, &[u8]), ExprRefuse
 /// An item of an aggregation.
 #[tactic(auto, unfolding(crate::specs::PipeReading::agg_at))]
 fn read_agg(alloc: Global, depth: u8, text: &[u8]) -> Result<(AggItem, &[u8]), ExprRefused>
-    ensures { Gives (λ x. (agg_of x.0, x.1.now)) result (pipes.agg_at depth text.now) }
+    ensures { Gives (λ x. (agg_of x.0, x.1.now)) result (pipes.agg_at served depth text.now) }
 {
     match after(text, b'$') {
         Some(behind) => read_count(alloc, behind),
@@ -209,7 +210,7 @@ pub(crate) fn read_aggs(
     depth: u8,
     text: &[u8],
 ) -> Result<(AggList, &[u8]), ExprRefused>
-    ensures { Gives (λ x. (map agg_of x.0, x.1.now)) result (reading.list_at reading.comma_at (pipes.agg_at depth) text.now) }
+    ensures { Gives (λ x. (map agg_of x.0, x.1.now)) result (reading.list_at reading.comma_at (pipes.agg_at served depth) text.now) }
 {
     let (first, mut rest) = read_agg(alloc, depth, text)?;
     let mut list = Vec::new(alloc);
@@ -313,7 +314,7 @@ pub(crate) fn read_top(
     kind: LimitKind,
     text: &[u8],
 ) -> Result<(TopStep, &[u8]), ExprRefused>
-    ensures { Gives (λ x. (top_of x.0, x.1.now)) result (pipes.top_at depth bottom kind text.now) }
+    ensures { Gives (λ x. (top_of x.0, x.1.now)) result (pipes.top_at served depth bottom kind text.now) }
 {
     match limit_at(kind, text) {
         Some((limit, rest)) => match comma_at(rest) {
@@ -347,7 +348,7 @@ fn order_at(text: &[u8]) -> Option<(bool, &[u8])>
 
 /// Items of an order, each behind a comma.
 fn read_more_order(alloc: Global, depth: u8, text: &[u8]) -> Result<(OrderList, &[u8]), ExprRefused>
-    ensures { Gives (λ x. (map item_of x.0, x.1.now)) result (reading.items_at reading.comma_at (pipes.item_at depth) (length text.now) text.now) }
+    ensures { Gives (λ x. (map item_of x.0, x.1.now)) result (reading.items_at reading.comma_at (pipes.item_at served depth) (length text.now) text.now) }
 {
     let mut list = Vec::new(alloc);
     let mut rest = text;
@@ -366,7 +367,7 @@ pub(crate) fn read_traverse(
     depth: u8,
     text: &[u8],
 ) -> Result<(TraverseStep, &[u8]), ExprRefused>
-    ensures { Gives (λ x. (traverse_of x.0, x.1.now)) result (pipes.traverse_at depth text.now) }
+    ensures { Gives (λ x. (traverse_of x.0, x.1.now)) result (pipes.traverse_at served depth text.now) }
 {
     let (hier, path, rest) = read_node(alloc, text)?;
     match comma_at(rest) {

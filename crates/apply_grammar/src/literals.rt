@@ -5,6 +5,7 @@ ghost use Rattle.std.specs.Char.{is_ascii_digit};
 ghost use Rattle.edm_values.specs.Parts.{mantissa_max, scale_max};
 ghost use Rattle.apply_ast.specs.Views.{expr_of};
 ghost use Rattle.apply_grammar.specs.Gives.{Gives};
+ghost use Rattle.apply_grammar.specs.Limits.{served};
 ghost use Rattle.apply_grammar.specs.Reading as reading;
 
 use crate::bytes::{after, digit_run};
@@ -179,7 +180,7 @@ fn read_quote(alloc: Global, text: &[u8]) -> Result<(Vec<u8>, &[u8]), ExprRefuse
 /// The text literal up to the closing quote.
 #[tactic(auto, unfolding(crate::specs::Reading::text_at))]
 pub(crate) fn read_text(alloc: Global, text: &[u8]) -> Result<(Expr, &[u8]), ExprRefused>
-    ensures { Gives (λ x. (expr_of x.0, x.1.now)) result (reading.text_at text.now) }
+    ensures { Gives (λ x. (expr_of x.0, x.1.now)) result (reading.text_at served text.now) }
 {
     let (bytes, rest) = read_quote(alloc, text)?;
     match String::from_utf8(bytes) {

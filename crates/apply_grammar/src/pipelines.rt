@@ -8,6 +8,7 @@ ghost use Rattle.apply_ast.specs.Trees as trees;
 ghost use Rattle.apply_ast.specs.Views.{key_of, keys_of, keys_from, step_of, pipe_of, pipes_of, inner_of};
 ghost use Rattle.apply_grammar.specs.Gives.{Gives, GivesPipe};
 ghost use Rattle.apply_grammar.specs.Limits as limits;
+ghost use Rattle.apply_grammar.specs.Limits.{served};
 ghost use Rattle.apply_grammar.specs.Reading as reading;
 ghost use Rattle.apply_grammar.specs.PipeReading as pipes;
 
@@ -35,7 +36,7 @@ fn read_filter(
     n: u16,
     text: &[u8],
 ) -> Result<(Step, u16, &[u8]), ExprRefused>
-    ensures exact { Gives (λ x. (step_of x.0, x.1, x.2.now)) result (pipes.closed trees.Step.Filter n (pipes.small_at depth text.now)) }
+    ensures exact { Gives (λ x. (step_of x.0, x.1, x.2.now)) result (pipes.closed trees.Step.Filter n (pipes.small_at served depth text.now)) }
     ensures less { IfOk result (λ x. x.1 ≤ n) }
 {
     let (x, rest) = read_small(alloc, depth, text)?;
@@ -53,7 +54,7 @@ fn read_compute(
     n: u16,
     text: &[u8],
 ) -> Result<(Step, u16, &[u8]), ExprRefused>
-    ensures exact { Gives (λ x. (step_of x.0, x.1, x.2.now)) result (pipes.closed trees.Step.Compute n (reading.list_at reading.comma_at (pipes.named_at depth) text.now)) }
+    ensures exact { Gives (λ x. (step_of x.0, x.1, x.2.now)) result (pipes.closed trees.Step.Compute n (reading.list_at reading.comma_at (pipes.named_at served depth) text.now)) }
     ensures less { IfOk result (λ x. x.1 ≤ n) }
 {
     let (x, rest) = read_named_list(alloc, depth, text)?;
@@ -71,7 +72,7 @@ fn read_orderby(
     n: u16,
     text: &[u8],
 ) -> Result<(Step, u16, &[u8]), ExprRefused>
-    ensures exact { Gives (λ x. (step_of x.0, x.1, x.2.now)) result (pipes.closed trees.Step.OrderBy n (reading.list_at reading.comma_at (pipes.item_at depth) text.now)) }
+    ensures exact { Gives (λ x. (step_of x.0, x.1, x.2.now)) result (pipes.closed trees.Step.OrderBy n (reading.list_at reading.comma_at (pipes.item_at served depth) text.now)) }
     ensures less { IfOk result (λ x. x.1 ≤ n) }
 {
     let (x, rest) = read_order(alloc, depth, text)?;
@@ -89,7 +90,7 @@ fn read_aggregate(
     n: u16,
     text: &[u8],
 ) -> Result<(Step, u16, &[u8]), ExprRefused>
-    ensures exact { Gives (λ x. (step_of x.0, x.1, x.2.now)) result (pipes.closed trees.Step.Aggregate n (reading.list_at reading.comma_at (pipes.agg_at depth) text.now)) }
+    ensures exact { Gives (λ x. (step_of x.0, x.1, x.2.now)) result (pipes.closed trees.Step.Aggregate n (reading.list_at reading.comma_at (pipes.agg_at served depth) text.now)) }
     ensures less { IfOk result (λ x. x.1 ≤ n) }
 {
     let (x, rest) = read_aggs(alloc, depth, text)?;
@@ -109,7 +110,7 @@ fn read_selection(
     n: u16,
     text: &[u8],
 ) -> Result<(Step, u16, &[u8]), ExprRefused>
-    ensures exact { Gives (λ x. (step_of x.0, x.1, x.2.now)) result (pipes.closed trees.Step.TopBy n (pipes.top_at depth bottom kind text.now)) }
+    ensures exact { Gives (λ x. (step_of x.0, x.1, x.2.now)) result (pipes.closed trees.Step.TopBy n (pipes.top_at served depth bottom kind text.now)) }
     ensures less { IfOk result (λ x. x.1 ≤ n) }
 {
     let (x, rest) = read_top(alloc, depth, bottom, kind, text)?;
@@ -127,7 +128,7 @@ fn read_walk(
     n: u16,
     text: &[u8],
 ) -> Result<(Step, u16, &[u8]), ExprRefused>
-    ensures exact { Gives (λ x. (step_of x.0, x.1, x.2.now)) result (pipes.closed trees.Step.Traverse n (pipes.traverse_at depth text.now)) }
+    ensures exact { Gives (λ x. (step_of x.0, x.1, x.2.now)) result (pipes.closed trees.Step.Traverse n (pipes.traverse_at served depth text.now)) }
     ensures less { IfOk result (λ x. x.1 ≤ n) }
 {
     let (x, rest) = read_traverse(alloc, depth, text)?;
@@ -225,7 +226,7 @@ fn read_inner(
     n: u16,
     text: &[u8],
 ) -> Result<(Option<Pipe>, u16, &[u8]), ExprRefused>
-    ensures exact { Gives (λ x. (inner_of (option_map pipe_of x.0), x.1, x.2.now)) result (pipes.inner_at (pipes.pipe_at depth) n text.now) }
+    ensures exact { Gives (λ x. (inner_of (option_map pipe_of x.0), x.1, x.2.now)) result (pipes.inner_at (pipes.pipe_at served depth) n text.now) }
     ensures less { IfOk result (λ x. x.1 ≤ n) }
 {
     match comma_at(text) {
@@ -246,7 +247,7 @@ fn read_recursive(
     n: u16,
     text: &[u8],
 ) -> Result<(KeyItem, u16, &[u8]), ExprRefused>
-    ensures exact { Gives (λ x. (key_of x.0, x.1, x.2.now)) result (pipes.recursive_at (pipes.pipe_at depth) n text.now) }
+    ensures exact { Gives (λ x. (key_of x.0, x.1, x.2.now)) result (pipes.recursive_at (pipes.pipe_at served depth) n text.now) }
     ensures less { IfOk result (λ x. x.1 ≤ n) }
 {
     let (hier, path, rest) = read_node(alloc, text)?;
@@ -263,7 +264,7 @@ fn read_closed_recursive(
     n: u16,
     text: &[u8],
 ) -> Result<(KeyItem, u16, &[u8]), ExprRefused>
-    ensures exact { Gives (λ x. (key_of x.0, x.1, x.2.now)) result (pipes.ended (λ k. k) (pipes.recursive_at (pipes.pipe_at depth) n text.now)) }
+    ensures exact { Gives (λ x. (key_of x.0, x.1, x.2.now)) result (pipes.ended (λ k. k) (pipes.recursive_at (pipes.pipe_at served depth) n text.now)) }
     ensures less { IfOk result (λ x. x.1 ≤ n) }
 {
     let (key, n, rest) = read_recursive(alloc, depth, n, text)?;
@@ -282,7 +283,7 @@ fn read_key_call<'a>(
     n: u16,
     text: &'a [u8],
 ) -> Result<(KeyItem, u16, &'a [u8]), ExprRefused>
-    ensures exact { Gives (λ x. (key_of x.0, x.1, x.2.now)) result (pipes.key_call_at (pipes.below depth 0) depth word.now n text.now) }
+    ensures exact { Gives (λ x. (key_of x.0, x.1, x.2.now)) result (pipes.key_call_at (pipes.below served depth 0) depth word.now n text.now) }
     ensures less { IfOk result (λ x. x.1 ≤ n) }
 {
     if depth == 0 {
@@ -306,7 +307,7 @@ fn read_key(
     n: u16,
     text: &[u8],
 ) -> Result<(KeyItem, u16, &[u8]), ExprRefused>
-    ensures exact { Gives (λ x. (key_of x.0, x.1, x.2.now)) result (pipes.key_at (pipes.below depth 0) depth n text.now) }
+    ensures exact { Gives (λ x. (key_of x.0, x.1, x.2.now)) result (pipes.key_at (pipes.below served depth 0) depth n text.now) }
     ensures less { IfOk result (λ x. x.1 ≤ n) }
 {
     let (word, rest) = word_run(text);
@@ -327,7 +328,7 @@ fn read_key_list(
     n: u16,
     text: &[u8],
 ) -> Result<(Vec<KeyItem>, u16, &[u8]), ExprRefused>
-    ensures exact { Gives (λ x. (map key_of x.0.items, x.1, x.2.now)) result (pipes.some_at (pipes.key_at (pipes.below depth 0) depth) n text.now) }
+    ensures exact { Gives (λ x. (map key_of x.0.items, x.1, x.2.now)) result (pipes.some_at (pipes.key_at (pipes.below served depth 0) depth) n text.now) }
     ensures less { IfOk result (λ x. x.1 ≤ n) }
 {
     let (first, mut n, mut rest) = read_key(alloc, depth, n, text)?;
@@ -351,7 +352,7 @@ fn read_closed_keys(
     n: u16,
     text: &[u8],
 ) -> Result<(KeyList, u16, &[u8]), ExprRefused>
-    ensures exact { Gives (λ x. (keys_of x.0, x.1, x.2.now)) result (pipes.ended keys_from (pipes.some_at (pipes.key_at (pipes.below depth 0) depth) n text.now)) }
+    ensures exact { Gives (λ x. (keys_of x.0, x.1, x.2.now)) result (pipes.ended keys_from (pipes.some_at (pipes.key_at (pipes.below served depth 0) depth) n text.now)) }
     ensures less { IfOk result (λ x. x.1 ≤ n) }
 {
     let (keys, n, rest) = read_key_list(alloc, depth, n, text)?;
@@ -369,7 +370,7 @@ fn read_keys(
     n: u16,
     text: &[u8],
 ) -> Result<(KeyList, u16, &[u8]), ExprRefused>
-    ensures exact { Gives (λ x. (keys_of x.0, x.1, x.2.now)) result (pipes.keys_at (pipes.below depth 1) depth n text.now) }
+    ensures exact { Gives (λ x. (keys_of x.0, x.1, x.2.now)) result (pipes.keys_at (pipes.below served depth 1) depth n text.now) }
     ensures less { IfOk result (λ x. x.1 ≤ n) }
 {
     if depth == 0 {
@@ -390,7 +391,7 @@ fn read_groupby(
     n: u16,
     text: &[u8],
 ) -> Result<(Step, u16, &[u8]), ExprRefused>
-    ensures exact { Gives (λ x. (step_of x.0, x.1, x.2.now)) result (pipes.groupby_at (pipes.pipe_at depth) (pipes.below depth 1) depth n text.now) }
+    ensures exact { Gives (λ x. (step_of x.0, x.1, x.2.now)) result (pipes.groupby_at (pipes.pipe_at served depth) (pipes.below served depth 1) depth n text.now) }
     ensures less { IfOk result (λ x. x.1 ≤ n) }
 {
     let (keys, n, rest) = read_keys(alloc, depth, n, text)?;
@@ -409,7 +410,7 @@ fn read_pipe_list(
     n: u16,
     text: &[u8],
 ) -> Result<(Vec<Pipe>, u16, &[u8]), ExprRefused>
-    ensures exact { Gives (λ x. (map pipe_of x.0.items, x.1, x.2.now)) result (pipes.some_at (pipes.pipe_at depth) n text.now) }
+    ensures exact { Gives (λ x. (map pipe_of x.0.items, x.1, x.2.now)) result (pipes.some_at (pipes.pipe_at served depth) n text.now) }
     ensures less { IfOk result (λ x. x.1 ≤ n) }
 {
     let (first, mut n, mut rest) = read_pipe(alloc, depth, n, text)?;
@@ -433,7 +434,7 @@ fn read_branches(
     n: u16,
     text: &[u8],
 ) -> Result<(PipeList, u16, &[u8]), ExprRefused>
-    ensures exact { Gives (λ x. (pipes_of x.0, x.1, x.2.now)) result (pipes.branches_at (pipes.pipe_at depth) n text.now) }
+    ensures exact { Gives (λ x. (pipes_of x.0, x.1, x.2.now)) result (pipes.branches_at (pipes.pipe_at served depth) n text.now) }
     ensures less { IfOk result (λ x. x.1 ≤ n) }
 {
     let (branches, n, rest) = read_pipe_list(alloc, depth, n, text)?;
@@ -453,7 +454,7 @@ fn read_concat(
     n: u16,
     text: &[u8],
 ) -> Result<(Step, u16, &[u8]), ExprRefused>
-    ensures exact { Gives (λ x. (step_of x.0, x.1, x.2.now)) result (pipes.ended trees.Step.Concat (pipes.branches_at (pipes.pipe_at depth) n text.now)) }
+    ensures exact { Gives (λ x. (step_of x.0, x.1, x.2.now)) result (pipes.ended trees.Step.Concat (pipes.branches_at (pipes.pipe_at served depth) n text.now)) }
     ensures less { IfOk result (λ x. x.1 ≤ n) }
 {
     let (branches, n, rest) = read_branches(alloc, depth, n, text)?;
@@ -473,7 +474,7 @@ fn read_join(
     n: u16,
     text: &[u8],
 ) -> Result<(Step, u16, &[u8]), ExprRefused>
-    ensures exact { Gives (λ x. (step_of x.0, x.1, x.2.now)) result (pipes.join_at (pipes.pipe_at depth) outer n text.now) }
+    ensures exact { Gives (λ x. (step_of x.0, x.1, x.2.now)) result (pipes.join_at (pipes.pipe_at served depth) outer n text.now) }
     ensures less { IfOk result (λ x. x.1 ≤ n) }
 {
     let (nav, alias, rest) = read_alias(alloc, text)?;
@@ -503,7 +504,7 @@ fn read_climb(
     n: u16,
     text: &[u8],
 ) -> Result<(Step, u16, &[u8]), ExprRefused>
-    ensures exact { Gives (λ x. (step_of x.0, x.1, x.2.now)) result (pipes.climb_at (pipes.pipe_at depth) up n text.now) }
+    ensures exact { Gives (λ x. (step_of x.0, x.1, x.2.now)) result (pipes.climb_at (pipes.pipe_at served depth) up n text.now) }
     ensures less { IfOk result (λ x. x.1 ≤ n) }
 {
     let (hier, path, rest) = read_node(alloc, text)?;
@@ -540,7 +541,7 @@ fn read_call(
     n: u16,
     text: &[u8],
 ) -> Result<(Step, u16, &[u8]), ExprRefused>
-    ensures exact { Gives (λ x. (step_of x.0, x.1, x.2.now)) result (pipes.call_at (pipes.below (suc depth)) depth form n text.now) }
+    ensures exact { Gives (λ x. (step_of x.0, x.1, x.2.now)) result (pipes.call_at served (pipes.below served (suc depth)) depth form n text.now) }
     ensures less { IfOk result (λ x. x.1 ≤ n) }
 {
     match form {
@@ -568,7 +569,7 @@ fn read_body<'a>(
     n: u16,
     text: &'a [u8],
 ) -> Result<(Step, u16, &'a [u8]), ExprRefused>
-    ensures exact { Gives (λ x. (step_of x.0, x.1, x.2.now)) result (pipes.body_at (pipes.below depth) depth word.now n text.now) }
+    ensures exact { Gives (λ x. (step_of x.0, x.1, x.2.now)) result (pipes.body_at served (pipes.below served depth) depth word.now n text.now) }
     ensures less { IfOk result (λ x. x.1 ≤ n) }
 {
     if depth == 0 {
@@ -592,7 +593,7 @@ fn read_step(
     n: u16,
     text: &[u8],
 ) -> Result<(Step, u16, &[u8]), ExprRefused>
-    ensures exact { Gives (λ x. (step_of x.0, x.1, x.2.now)) result (pipes.step_at (pipes.below depth) depth n text.now) }
+    ensures exact { Gives (λ x. (step_of x.0, x.1, x.2.now)) result (pipes.step_at served (pipes.below served depth) depth n text.now) }
     ensures less { IfOk result (λ x. x.1 < n) }
 {
     if n == 0 {
@@ -614,7 +615,7 @@ fn read_pipe(
     n: u16,
     text: &[u8],
 ) -> Result<(Pipe, u16, &[u8]), ExprRefused>
-    ensures exact { Gives (λ x. (pipe_of x.0, x.1, x.2.now)) result (pipes.pipe_at depth n text.now) }
+    ensures exact { Gives (λ x. (pipe_of x.0, x.1, x.2.now)) result (pipes.pipe_at served depth n text.now) }
     ensures less { IfOk result (λ x. x.1 < n) }
 {
     let (first, mut n, mut rest) = read_step(alloc, depth, n, text)?;
@@ -631,7 +632,7 @@ fn read_pipe(
 
 /// The pipeline that is all of the text.
 pub(crate) fn read_pipeline(alloc: Global, text: &[u8]) -> Result<Pipe, GrammarRefused>
-    ensures { GivesPipe result (pipes.pipeline_at limits.most_open limits.most_steps text.now) }
+    ensures { GivesPipe result (pipes.pipeline_at served limits.most_open limits.most_steps text.now) }
 {
     let mut steps = Vec::new(alloc);
     let mut k: u32 = 1;

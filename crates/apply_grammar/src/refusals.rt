@@ -43,7 +43,7 @@ pub enum GrammarRefused {
     TooLong,
     /// It is no request. The number is 0 where the decoded line is no UTF-8 or has no frame, and else that of the first
     /// transformation, from 1, that is none or that neither a slash nor the end of the line follows.
-    #[error("the text is no pipeline from transformation {0} on")]
+    #[error("the line is no request from transformation {0} on; 0 stands for the whole line")]
     Syntax(u32),
     /// Memory ran out.
     #[error("out of memory")]

@@ -1,12 +1,11 @@
 //! The frame of a line, and requests.
-ghost use Rattle.std.specs.Prelude.{◌≡◌, ◌↔◌, ◌<◌, ◌≤◌, length, option_map, IfOk, IsErrOf, IsUtf8, ℕ, List, Ok};
+ghost use Rattle.std.specs.Prelude.{◌≡◌, ◌↔◌, ◌<◌, ◌≤◌, length, option_map, IfOk, IsErrOf, ℕ, List, Ok};
 ghost use Rattle.apply_grammar.specs.Gives.{Gives, GivesRequest};
 ghost use Rattle.apply_grammar.specs.Frames.{line_limit};
 ghost use Rattle.apply_grammar.specs.FrameReading as frames;
-ghost use Rattle.apply_grammar.specs.FrameReading.{Asked};
-ghost use Rattle.apply_grammar.specs.Requests.{IsRequest, IsNoRequest, IfSyntax, asked_of};
-ghost use Rattle.apply_grammar.specs.Limits as limits;
+ghost use Rattle.apply_grammar.specs.Requests.{Asked, IsRequest, IsNoRequest, IfSyntax, asked_of};
 ghost use Rattle.apply_ast.specs.Trees as trees;
+ghost use Rattle.apply_ast.specs.Grammar.{Text};
 
 use crate::bytes::{after, blanks_at, word_behind};
 use crate::paths::read_name;
@@ -78,10 +77,8 @@ fn read_decoded(alloc: Global, text: &[u8]) -> Result<Request, GrammarRefused>
         Err(ExprRefused::Syntax) => return Err(GrammarRefused::Syntax(0)),
         Err(ExprRefused::Memory) => return Err(GrammarRefused::Memory),
     };
-    match read_pipeline(alloc, text) {
-        Ok(pipe) => Ok(Request { explain, set, pipe }),
-        Err(refused) => Err(refused),
-    }
+    let pipe = read_pipeline(alloc, text)?;
+    Ok(Request { explain, set, pipe })
 }
 
 /// The request of a line that is not too long.
@@ -113,7 +110,7 @@ pub fn read_request(alloc: Global, line: &[u8]) -> Result<Request, GrammarRefuse
     read_line(alloc, line)
 }
 
-/// A text has at most one pipeline within the limits.
+/// The law that a text has at most one pipeline: of any bytes, and without a limit. It does nothing when it runs.
 pub fn one_pipeline()
-    ensures { (t : List ℕ) (p q : trees.Pipe) → IsUtf8 t → limits.TextIn t p → limits.TextIn t q → p ≡ q }
+    ensures { (t : List ℕ) (p q : trees.Pipe) → Text p t → Text q t → p ≡ q }
 {}

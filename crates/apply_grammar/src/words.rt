@@ -1,6 +1,5 @@
 //! The words of operators, functions, methods and steps.
-ghost use Rattle.std.specs.Prelude.{◌≡◌, ◌≤◌};
-ghost use Rattle.apply_ast.specs.Printing as printing;
+ghost use Rattle.std.specs.Prelude.{◌≡◌};
 ghost use Rattle.apply_grammar.specs.Reading as reading;
 ghost use Rattle.apply_grammar.specs.PipeReading as pipes;
 
@@ -62,26 +61,6 @@ pub(crate) fn binop_of(word: &[u8]) -> Option<BinOp>
         Some(BinOp::Mul)
     } else {
         None
-    }
-}
-
-/// The level of an operator, from 1, the loosest.
-pub(crate) fn binop_level(op: BinOp) -> u8
-    ensures value { result ≡ printing.binop_level op }
-    ensures small { result ≤ 6 }
-{
-    match op {
-        BinOp::Or => 1,
-        BinOp::And => 2,
-        BinOp::Eq => 3,
-        BinOp::Ne => 3,
-        BinOp::Gt => 4,
-        BinOp::Ge => 4,
-        BinOp::Lt => 4,
-        BinOp::Le => 4,
-        BinOp::Add => 5,
-        BinOp::Sub => 5,
-        BinOp::Mul => 6,
     }
 }
 

@@ -1,5 +1,6 @@
 use Rattle.std.proofs.Common.{◌≡◌, ◌+◌, ◌*◌, ◌≤◌}
 use Rattle.apply_ast.specs.Views.{expr_of}
+use Rattle.apply_grammar.specs.Limits.{served}
 use Rattle.apply_grammar.specs.Reading.{primary, parens, goes, climb}
 use Rattle.apply_grammar.proofs.expressions.+expr.Given as goal
 
@@ -29,7 +30,7 @@ decreases-read_level l = 524288 * l.depth + 8 * l.ops + 6
 
 abbrev pub invariant-read_level-loop-op : goal.invariant-read_level-loop-op
 invariant-read_level-loop-op l =
-    (goes (primary (parens l.depth)) l.level (expr_of l.left) l.ops l.rest ≡ climb (primary (parens l.depth)) l.level l.fn.ops l.fn.text) × (l.ops ≤ l.fn.ops)
+    (goes (primary served (parens served l.depth)) l.level (expr_of l.left) l.ops l.rest ≡ climb (primary served (parens served l.depth)) l.level l.fn.ops l.fn.text) × (l.ops ≤ l.fn.ops)
 
 abbrev pub decreases-read_level-loop-op : goal.decreases-read_level-loop-op
 decreases-read_level-loop-op l = l.ops

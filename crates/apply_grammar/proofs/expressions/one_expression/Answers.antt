@@ -1,4 +1,4 @@
-use Rattle.apply_grammar.proofs.ExprWhole.{one_expr}
+use Rattle.apply_grammar.proofs.OneTree.{one_expr}
 use Rattle.apply_grammar.proofs.expressions.one_expression.Goals as goal
 
 pub returns : goal.returns

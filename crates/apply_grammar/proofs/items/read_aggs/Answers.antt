@@ -2,6 +2,7 @@ use Rattle.std.proofs.Common.{map, Some, sym, ap, ◌∙◌}
 use Rattle.std.proofs.lemmas.Result.{err_from_is_err_and}
 use Rattle.std.proofs.lemmas.List.{map_push}
 use Rattle.apply_ast.specs.Views.{agg_of}
+use Rattle.apply_grammar.specs.Limits.{served}
 use Rattle.apply_grammar.specs.Reading.{comma_at}
 use Rattle.apply_grammar.specs.PipeReading.{agg_at}
 use Rattle.apply_grammar.proofs.PartLaws.{agg_items}
@@ -12,21 +13,21 @@ use Rattle.apply_grammar.proofs.items.read_aggs.Goals as goal
 pub returns-in_err-first : goal.returns-in_err-first
 returns-in_err-first c =
     let p = err_from_is_err_and c.from_residual.result c.from_residual.ensures.1 in
-    rw (p.1, p.2) (fails_on c.in_err-first.field-0.0 c.in_err-first.ensures (first_fails comma_at (agg_at c.args.depth) c.args.text.now))
+    rw (p.1, p.2) (fails_on c.in_err-first.field-0.0 c.in_err-first.ensures (first_fails comma_at (agg_at served c.args.depth) c.args.text.now))
 
 pub loop-behind-init : goal.loop-behind-init
-loop-behind-init c = rw c.in_ok-push.ensures.items (rw c.new-list.ensures.items (list_start comma_at (agg_at c.args.depth) c.args.text.now (agg_of c.in_ok-first.first) c.in_ok-first.rest.now c.in_ok-first.ensures))
+loop-behind-init c = rw c.in_ok-push.ensures.items (rw c.new-list.ensures.items (list_start comma_at (agg_at served c.args.depth) c.args.text.now (agg_of c.in_ok-first.first) c.in_ok-first.rest.now c.in_ok-first.ensures))
 
 pub returns-in_err-item : goal.returns-in_err-item
 returns-in_err-item c =
     let p = err_from_is_err_and c.from_residual-in_err-item.result c.from_residual-in_err-item.ensures.1 in
-    rw (p.1, p.2) (fails_on c.in_err-item.field-0.0 c.in_err-item.ensures (λ h. list_fails (agg_items c.args.depth) _ _ _ _ c.in-Some.ensures h c.loop-behind.invariant))
+    rw (p.1, p.2) (fails_on c.in_err-item.field-0.0 c.in_err-item.ensures (λ h. list_fails (agg_items served c.args.depth) _ _ _ _ c.in-Some.ensures h c.loop-behind.invariant))
 
 pub loop-behind-smaller : goal.loop-behind-smaller
-loop-behind-smaller c = turn_shorter (agg_items c.args.depth) _ _ _ _ c.in-Some.ensures c.in_ok-item.ensures
+loop-behind-smaller c = turn_shorter (agg_items served c.args.depth) _ _ _ _ c.in-Some.ensures c.in_ok-item.ensures
 
 pub loop-behind-preserved : goal.loop-behind-preserved
-loop-behind-preserved c = rw (c.in_ok-push-2.ensures.items, map_push agg_of c.loop-behind.list.items c.in_ok-item.item) (list_turn (agg_items c.args.depth) _ _ _ _ _ _ c.in-Some.ensures c.in_ok-item.ensures c.loop-behind.invariant)
+loop-behind-preserved c = rw (c.in_ok-push-2.ensures.items, map_push agg_of c.loop-behind.list.items c.in_ok-item.item) (list_turn (agg_items served c.args.depth) _ _ _ _ _ _ c.in-Some.ensures c.in_ok-item.ensures c.loop-behind.invariant)
 
 pub returns : goal.returns
-returns c = list_stop comma_at (agg_at c.args.depth) _ _ _ c.in_default.ensures c.loop-behind.invariant ∙ ap (λ n. Some (map agg_of n, c.loop-behind.rest.now)) (sym c.new.ensures)
+returns c = list_stop comma_at (agg_at served c.args.depth) _ _ _ c.in_default.ensures c.loop-behind.invariant ∙ ap (λ n. Some (map agg_of n, c.loop-behind.rest.now)) (sym c.new.ensures)

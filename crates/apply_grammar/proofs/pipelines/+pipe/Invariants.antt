@@ -1,5 +1,6 @@
 use Rattle.std.proofs.Common.{◌≡◌, ◌+◌, ◌*◌, ◌≤◌, ◌<◌, length, map}
 use Rattle.apply_ast.specs.Views.{step_of, pipe_of, key_of}
+use Rattle.apply_grammar.specs.Limits.{served}
 use Rattle.apply_grammar.specs.PipeReading.{pipe_at, rest_at, more_at, some_at, key_at, below}
 use Rattle.apply_grammar.proofs.PipeSteps.{step, with_steps, with_parts}
 use Rattle.apply_grammar.proofs.pipelines.+pipe.Given as goal
@@ -60,21 +61,21 @@ decreases-read_closed_keys l = 1048576 * l.depth + 16 * l.n + 14
 
 abbrev pub invariant-read_pipe-loop-behind : goal.invariant-read_pipe-loop-behind
 invariant-read_pipe-loop-behind l =
-    (with_steps (map step_of l.steps.items) (rest_at (step l.depth) l.n l.n l.rest) ≡ pipe_at l.depth l.fn.n l.fn.text) × (0 < length l.steps.items) × (l.n < l.fn.n)
+    (with_steps (map step_of l.steps.items) (rest_at (step served l.depth) l.n l.n l.rest) ≡ pipe_at served l.depth l.fn.n l.fn.text) × (0 < length l.steps.items) × (l.n < l.fn.n)
 
 abbrev pub decreases-read_pipe-loop-behind : goal.decreases-read_pipe-loop-behind
 decreases-read_pipe-loop-behind l = l.n
 
 abbrev pub invariant-read_pipe_list-loop-behind : goal.invariant-read_pipe_list-loop-behind
 invariant-read_pipe_list-loop-behind l =
-    (with_parts (map pipe_of l.branches.items) (more_at (pipe_at l.depth) (length l.rest) l.n l.rest) ≡ some_at (pipe_at l.depth) l.fn.n l.fn.text) × (l.n ≤ l.fn.n)
+    (with_parts (map pipe_of l.branches.items) (more_at (pipe_at served l.depth) (length l.rest) l.n l.rest) ≡ some_at (pipe_at served l.depth) l.fn.n l.fn.text) × (l.n ≤ l.fn.n)
 
 abbrev pub decreases-read_pipe_list-loop-behind : goal.decreases-read_pipe_list-loop-behind
 decreases-read_pipe_list-loop-behind l = length l.rest
 
 abbrev pub invariant-read_key_list-loop-behind : goal.invariant-read_key_list-loop-behind
 invariant-read_key_list-loop-behind l =
-    (with_parts (map key_of l.keys.items) (more_at (key_at (below l.depth 0) l.depth) (length l.rest) l.n l.rest) ≡ some_at (key_at (below l.depth 0) l.depth) l.fn.n l.fn.text) × (l.n ≤ l.fn.n)
+    (with_parts (map key_of l.keys.items) (more_at (key_at (below served l.depth 0) l.depth) (length l.rest) l.n l.rest) ≡ some_at (key_at (below served l.depth 0) l.depth) l.fn.n l.fn.text) × (l.n ≤ l.fn.n)
 
 abbrev pub decreases-read_key_list-loop-behind : goal.decreases-read_key_list-loop-behind
 decreases-read_key_list-loop-behind l = length l.rest
