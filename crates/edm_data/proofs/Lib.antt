@@ -1,7 +1,9 @@
+pub mod ColumnLemmas
 pub mod DataRows
 pub mod EntityLemmas
 pub mod FirstPlaces
 mod FrontRows
+pub mod GridLemmas
 pub mod GroupLemmas
 pub mod JsonValueLemmas
 pub mod KeyOrderLemmas
@@ -15,6 +17,7 @@ pub mod SearchLemmas
 pub mod SeenKeys
 pub mod ShapeLemmas
 pub mod TableLemmas
+pub mod TextLemmas
 pub mod TreeLemmas
 mod HierarchyRows
 pub mod ValueFits

@@ -1,4 +1,4 @@
--- The order of keys that are seen behind references is that of the keys.
+-- The order of keys that are seen is that of the keys.
 use Rattle.std.proofs.Common.{◌≡◌, ℕ, ◌+◌, Bool, cond, ◌||◌, List, [], ◌∷◌, take, map, get_or, refl, sym, ◌∙◌, ap, Some, None}
 use Rattle.std.specs.declared.option.Option.{Option}
 use Rattle.std.specs.Option.{option_map}
@@ -13,6 +13,10 @@ use Rattle.std.proofs.lemmas.Option.{slice_get-map}
 use Rattle.std.proofs.lemmas.List.{take-map}
 use Rattle.std.proofs.Math.ListN.{get_or-map}
 use Rattle.edm_values.specs.Lists.{is_some_and}
+use Rattle.edm_values.specs.Values.{seen_value}
+use Rattle.edm_values.specs.declared.Seen.{Seen}
+use Rattle.edm_values.specs.declared.Value.{Value}
+use Rattle.edm_data.specs.declared.keys.Key.{Key}
 use Rattle.edm_data.specs.KeyOrders.{is_twice, IsFirstTwice, AreDistinct, IsKeyOrder, keyed}
 
 position_from-map : {A K : Type 0} (f : A → K) (p : K → Bool) (i : ℕ) (xs : List A) → position_from p i (map f xs) ≡ position_from (λ a. p (f a)) i xs
@@ -71,3 +75,26 @@ module _ {A K : Type 0} (f : A → K) (R : K → K → Ordering) where
 
   pub IsFirstTwice-seen : (keys : List A) (k : ℕ) → IsFirstTwice seen_cmp keys k → IsFirstTwice R (map f keys) k
   IsFirstTwice-seen keys k first = record { here = is_twice-seen keys k ∙ first.here; before = λ q h. is_twice-seen keys q ∙ first.before q h }
+
+-- a key that is seen as this value
+seen_of : Value → Seen
+seen_of Value.Null = Seen.Null
+seen_of (Value.Bool b) = Seen.Bool b
+seen_of (Value.Int z) = Seen.Int z
+seen_of (Value.Dec d) = Seen.Dec d
+seen_of (Value.Text t) = Seen.Text (record { ref_ptr = (0, 0); now = t })
+seen_of (Value.Day d) = Seen.Day d
+seen_of Value.Beyond = Seen.Beyond
+
+pub key_of_value : Value → Key
+key_of_value v = record { value = seen_of v }
+
+pub value_of_key : (v : Value) → seen_value ((key_of_value v).value) ≡ v
+unfolding key_of_value seen_of
+value_of_key Value.Null = refl
+value_of_key (Value.Bool b) = refl
+value_of_key (Value.Int z) = refl
+value_of_key (Value.Dec d) = refl
+value_of_key (Value.Text t) = refl
+value_of_key (Value.Day d) = refl
+value_of_key Value.Beyond = refl

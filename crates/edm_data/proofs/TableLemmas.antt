@@ -31,7 +31,7 @@ and_second : (a b : Bool) → (a && b) ≡ true → b ≡ true
 and_second true b h = h
 and_second false b h = absurd (false≢true h)
 
-length-are_values_of : (ps : List Property) (vs : List Value) → are_values_of ps vs ≡ true → length vs ≡ length ps
+pub length-are_values_of : (ps : List Property) (vs : List Value) → are_values_of ps vs ≡ true → length vs ≡ length ps
 length-are_values_of [] [] h = refl
 length-are_values_of [] (v ∷ vs) h = absurd (false≢true h)
 length-are_values_of (p ∷ ps) [] h = absurd (false≢true h)

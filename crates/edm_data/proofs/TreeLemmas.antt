@@ -7,7 +7,6 @@ use Rattle.std.specs.Option.{option_map, option_and_then, unwrap_or, is_none}
 use Rattle.std.specs.List.{slice_get, find, list_all}
 use Rattle.std.proofs.lemmas.Bool.{cases_lt}
 use Rattle.std.proofs.lemmas.List.{map-append, length-map}
-use Rattle.std.proofs.lemmas.Simd.{map-map}
 use Rattle.std.proofs.lemmas.Option.{slice_get-map, slice_get_past, slice_get_within, slice_get-get_or, none-some}
 use Rattle.serde_json.specs.Data.{Data, null}
 use Rattle.serde_json.specs.Find.{get}
@@ -18,7 +17,8 @@ use Rattle.edm_model.specs.JsonTrees.{items_in, is_object, members_in}
 use Rattle.edm_model.specs.LookUps.{set_name, set_type, properties_of, IsSet}
 use Rattle.edm_data.specs.Worlds.{World, entity_at, all_places}
 use Rattle.edm_data.specs.References.{entities_of}
-use Rattle.edm_data.specs.Rows.{rows_of, world_in}
+use Rattle.edm_data.specs.Columns.{Grid}
+use Rattle.edm_data.specs.Rows.{world_in}
 use Rattle.edm_data.specs.Fitting.{FitsModel, are_values_of}
 use Rattle.edm_data.proofs.ValueFits.{values_fit}
 use Rattle.edm_data.specs.FirstItems.{IsFirstNone, rows_read}
@@ -72,8 +72,8 @@ entities_at rows s vs at q h =
     ap (λ o. is_none (unwrap_or (option_and_then (λ row. slice_get row q) o) None)) at ∙ row_some vs q inside
 
 -- the rows of a set are entities
-pub entities_of_rows : (rows : List (List (Option (List Value)))) (s : ℕ) (r : Vec (Vec Value Global) Global) → slice_get rows s ≡ Some (rows_read r) → AreEntities rows s
-entities_of_rows rows s r at = entities_at rows s (map (λ x. x.items) r.items) (at ∙ ap Some (sym (map-map Some (λ x. x.items) r.items)))
+pub entities_of_rows : (rows : List (List (Option (List Value)))) (s : ℕ) (r : Grid) → slice_get rows s ≡ Some (rows_read r) → AreEntities rows s
+entities_of_rows rows s r at = entities_at rows s r.rows at
 
 -- every item is an entity
 pub rows_accepted : (m : Model) (rows : List (List (Option (List Value)))) → ((s : ℕ) → s < length rows → AreEntities rows s) → rows_reading m rows ≡ World' (world_of m rows)
@@ -100,7 +100,7 @@ Tells-shape m d s (RowsRefused.Shape k) r shape memory there before first =
 Tells-shape m d s RowsRefused.Memory r shape memory there before first = subst (λ x. Tells x (rows_reading m (items_of_sets m d))) (sym (memory refl)) tt
 
 -- the tables of one set more
-pub tables-more : (m : Model) (d : Data) (i : ℕ) (old new : List (Vec (Vec Value Global) Global)) (rows : Vec (Vec Value Global) Global) → new ≡ old ++ rows ∷ [] → option_map (items_of_set m d) (slice_get m.sets i) ≡ Some (rows_read rows) → map rows_read old ≡ map (items_of_set m d) (take i m.sets) → map rows_read new ≡ map (items_of_set m d) (take (i + 1) m.sets)
+pub tables-more : (m : Model) (d : Data) (i : ℕ) (old new : List Grid) (rows : Grid) → new ≡ old ++ rows ∷ [] → option_map (items_of_set m d) (slice_get m.sets i) ≡ Some (rows_read rows) → map rows_read old ≡ map (items_of_set m d) (take i m.sets) → map rows_read new ≡ map (items_of_set m d) (take (i + 1) m.sets)
 tables-more m d i old new rows grown here before = rw (grown, map-append rows_read old (rows ∷ []), before, add-one) (front (items_of_set m d) m.sets i (rows_read rows) here) where
   front : {X R : Type 0} (f : X → R) (items : List X) (k : ℕ) (r : R) → option_map f (slice_get items k) ≡ Some r → map f (take k items) ++ r ∷ [] ≡ map f (take (suc k) items)
   front f [] k r here = cc
@@ -108,9 +108,9 @@ tables-more m d i old new rows grown here before = rw (grown, map-append rows_re
   front f (y ∷ items) (suc k) r here = ap (λ l. f y ∷ l) (front f items k r here)
 
 -- the size of a set's table
-pub few_here : (rows : List (List (Option (List Value)))) (s : ℕ) (r : Vec (Vec Value Global) Global) → slice_get rows s ≡ Some (rows_read r) → length r.items < 2 ^ 32 → size_at rows s < 2 ^ 32
+pub few_here : (rows : List (List (Option (List Value)))) (s : ℕ) (r : Grid) → slice_get rows s ≡ Some (rows_read r) → length r.rows < 2 ^ 32 → size_at rows s < 2 ^ 32
 few_here rows s r at few =
-    let size : size_at rows s ≡ length r.items = ap (λ o. length (unwrap_or o [])) at ∙ length-map r.items (λ x. Some x.items) in
+    let size : size_at rows s ≡ length r.rows = ap (λ o. length (unwrap_or o [])) at ∙ length-map r.rows Some in
     rw size few
 
 pub few_all : (read rows : List (List (Option (List Value)))) (i : ℕ) → read ≡ rows → length rows ≤ i → ((s : ℕ) → s < i → size_at rows s < 2 ^ 32) → (s : ℕ) → size_at read s < 2 ^ 32
@@ -123,22 +123,23 @@ few_all read rows i is all each s = rw is (⊎_elim (each s)
 
 -- ---- the world of the tables
 
-values_of_rows : (r : Vec (Vec Value Global) Global) → map (λ o. unwrap_or o []) (rows_read r) ≡ rows_of r
-values_of_rows r = map-map (λ o. unwrap_or o []) (λ x. Some x.items) r.items
+values_of_rows : (rows : List (List Value)) → map (λ o. unwrap_or o []) (map Some rows) ≡ rows
+values_of_rows [] = refl
+values_of_rows (r ∷ rows) = ap (λ l. r ∷ l) (values_of_rows rows)
 
-values_of_sets : (sets : List (Vec (Vec Value Global) Global)) → map (map (λ o. unwrap_or o [])) (map rows_read sets) ≡ map rows_of sets
+values_of_sets : (sets : List Grid) → map (map (λ o. unwrap_or o [])) (map rows_read sets) ≡ map (λ g. g.rows) sets
 values_of_sets [] = refl
-values_of_sets (r ∷ sets) = ap (λ x. x ∷ map (map (λ o. unwrap_or o [])) (map rows_read sets)) (values_of_rows r) ∙ ap (λ l. rows_of r ∷ l) (values_of_sets sets)
+values_of_sets (r ∷ sets) = ap (λ x. x ∷ map (map (λ o. unwrap_or o [])) (map rows_read sets)) (values_of_rows r.rows) ∙ ap (λ l. r.rows ∷ l) (values_of_sets sets)
 
 abbrev world_with : Model → List (List (List Value)) → World
 world_with m l = record { model = m; entities = l }
 
 -- the world of items that were read
-pub world_is : (m : Model) (sets : Vec (Vec (Vec Value Global) Global) Global) (rows : List (List (Option (List Value)))) → map rows_read sets.items ≡ rows → world_of m rows ≡ world_in m sets
+pub world_is : (m : Model) (sets : Vec Grid Global) (rows : List (List (Option (List Value)))) → map rows_read sets.items ≡ rows → world_of m rows ≡ world_in m sets
 world_is m sets rows is = ap (world_with m) (ap (map (map (λ o. unwrap_or o []))) (sym is) ∙ values_of_sets sets.items)
 
 -- an entity has a value of each property
-entity_fits : (ps : List Property) (d : Data) (vs : List Value) → entity_of ps d ≡ Some vs → are_values_of ps vs ≡ true
+pub entity_fits : (ps : List Property) (d : Data) (vs : List Value) → entity_of ps d ≡ Some vs → are_values_of ps vs ≡ true
 entity_fits ps d vs h = (elim (is_object d && list_all (is_known_member ps) (members_in d)) as (λ b. (if b then all_some (map (property_value d) ps) else None) ≡ Some vs → are_values_of ps vs ≡ true) [ true ↦ λ e. values_fit d ps vs e | false ↦ λ e. cc ]) h
 
 item_fits : (m : Model) (es : EntitySet) (items : List Data) (k : ℕ) (vs : List Value) → option_map (item_of m es) (slice_get items k) ≡ Some (Some vs) → are_values_of (properties_of m es.of) vs ≡ true
@@ -156,24 +157,24 @@ set_fits m d s k rows vs v is here = inside (slice_get m.sets s) refl is where
       let type : set_type m s ≡ es.of = ap (λ o. unwrap_or (option_map (λ e. e.of) o) 0) at in
       rw type (item_fits m es (array_in d es) k v (row_read (item_of m es) (array_in d es) rows items k v here))
 
-table_size : (sets : List (Vec (Vec Value Global) Global)) (s : ℕ) → length (unwrap_or (slice_get (map rows_of sets) s) []) ≡ size_at (map rows_read sets) s
-table_size sets s = ap (λ o. length (unwrap_or o [])) (slice_get-map rows_of sets s) ∙ inside (slice_get sets s) ∙ sym (ap (λ o. length (unwrap_or o [])) (slice_get-map rows_read sets s)) where
-  inside : (o : Option (Vec (Vec Value Global) Global)) → length (unwrap_or (option_map rows_of o) []) ≡ length (unwrap_or (option_map rows_read o) [])
+table_size : (sets : List Grid) (s : ℕ) → length (unwrap_or (slice_get (map (λ g. g.rows) sets) s) []) ≡ size_at (map rows_read sets) s
+table_size sets s = ap (λ o. length (unwrap_or o [])) (slice_get-map (λ g. g.rows) sets s) ∙ inside (slice_get sets s) ∙ sym (ap (λ o. length (unwrap_or o [])) (slice_get-map rows_read sets s)) where
+  inside : (o : Option Grid) → length (unwrap_or (option_map (λ g. g.rows) o) []) ≡ length (unwrap_or (option_map rows_read o) [])
   inside None = refl
-  inside (Some r) = length-map r.items (λ x. x.items) ∙ sym (length-map r.items (λ x. Some x.items))
+  inside (Some r) = sym (length-map r.rows Some)
 
 -- the tables have the form that the model says
-pub tables_fit : (m : Model) (d : Data) (sets : Vec (Vec (Vec Value Global) Global) Global) → map rows_read sets.items ≡ items_of_sets m d → ((s : ℕ) → size_at (map rows_read sets.items) s < 2 ^ 32) → FitsModel (world_in m sets)
+pub tables_fit : (m : Model) (d : Data) (sets : Vec Grid Global) → map rows_read sets.items ≡ items_of_sets m d → ((s : ℕ) → size_at (map rows_read sets.items) s < 2 ^ 32) → FitsModel (world_in m sets)
 tables_fit m d sets is few = record {
-  sets = length-map sets.items rows_of ∙ sym (length-map sets.items rows_read) ∙ ap length is ∙ length-map m.sets (items_of_set m d);
+  sets = length-map sets.items (λ g. g.rows) ∙ sym (length-map sets.items rows_read) ∙ ap length is ∙ length-map m.sets (items_of_set m d);
   counts = λ s. rw (table_size sets.items s) (few s);
   rows = λ s k vs h. inside s k vs (slice_get sets.items s) refl h;
 } where
-  inside : (s k : ℕ) (vs : List Value) (o : Option (Vec (Vec Value Global) Global)) → slice_get sets.items s ≡ o → slice_get (entities_of (world_in m sets) s) k ≡ Some vs → are_values_of (properties_of m (set_type m s)) vs ≡ true
+  inside : (s k : ℕ) (vs : List Value) (o : Option Grid) → slice_get sets.items s ≡ o → slice_get (entities_of (world_in m sets) s) k ≡ Some vs → are_values_of (properties_of m (set_type m s)) vs ≡ true
   inside s k vs None at h =
-      let empty : entities_of (world_in m sets) s ≡ [] = ap (λ o. unwrap_or o []) (slice_get-map rows_of sets.items s ∙ ap (option_map rows_of) at) in
+      let empty : entities_of (world_in m sets) s ≡ [] = ap (λ o. unwrap_or o []) (slice_get-map (λ g. g.rows) sets.items s ∙ ap (option_map (λ g. g.rows)) at) in
       absurd (none-some vs (ap (λ l. slice_get l k) (sym empty) ∙ h))
   inside s k vs (Some r) at h =
-      let rows : entities_of (world_in m sets) s ≡ rows_of r = ap (λ o. unwrap_or o []) (slice_get-map rows_of sets.items s ∙ ap (option_map rows_of) at) in
-      let table : option_map (items_of_set m d) (slice_get m.sets s) ≡ Some (map Some (rows_of r)) = sym (slice_get-map (items_of_set m d) m.sets s) ∙ ap (λ l. slice_get l s) (sym is) ∙ slice_get-map rows_read sets.items s ∙ ap (option_map rows_read) at ∙ ap Some (sym (map-map Some (λ x. x.items) r.items)) in
-      set_fits m d s k (rows_of r) [] vs table (ap (λ l. slice_get l k) (sym rows) ∙ h)
+      let rows : entities_of (world_in m sets) s ≡ r.rows = ap (λ o. unwrap_or o []) (slice_get-map (λ g. g.rows) sets.items s ∙ ap (option_map (λ g. g.rows)) at) in
+      let table : option_map (items_of_set m d) (slice_get m.sets s) ≡ Some (map Some r.rows) = sym (slice_get-map (items_of_set m d) m.sets s) ∙ ap (λ l. slice_get l s) (sym is) ∙ slice_get-map rows_read sets.items s ∙ ap (option_map rows_read) at in
+      set_fits m d s k r.rows [] vs table (ap (λ l. slice_get l k) (sym rows) ∙ h)

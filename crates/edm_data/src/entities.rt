@@ -1,5 +1,5 @@
 //! The entities of a data file, read from its JSON.
-ghost use Rattle.std.specs.Prelude.{◌≡◌, ℕ, ◌<◌, ◌^◌, List, map, find, not, length, string_bytes, slice_get, option_map, Some, Err, IfOk};
+ghost use Rattle.std.specs.Prelude.{◌≡◌, ℕ, ◌<◌, ◌^◌, List, map, find, not, length, string_bytes, slice_get, option_map, Some, Err, IfOk, []};
 ghost use Rattle.std.specs.List.{list_all};
 ghost use Rattle.serde_json.specs.View.{view, members_view};
 ghost use Rattle.edm_values.specs.Lists.{all_some};
@@ -9,7 +9,9 @@ ghost use Rattle.edm_model.specs.Soundness.{IsSound};
 ghost use Rattle.edm_data.specs.DataFile as file;
 ghost use Rattle.edm_data.specs.FirstItems.{IsFirstNone, rows_read};
 
+use crate::columns::Column;
 use crate::json_values::json_value;
+use crate::table::Table;
 use edm_model::{Model, PropId, SetId, TypeId};
 use edm_values::Value;
 use serde_json::{Map, Value as Json};
@@ -107,20 +109,36 @@ fn entity_values(
     Ok(Some(values))
 }
 
+/// A table with no entities of a type.
+fn empty_table(alloc: Global, model: &Model, t: TypeId) -> Result<Table, AllocError>
+    requires { IsType model.now t }
+    ensures width { IfOk result (λ table. table.width ≡ length (properties_of model.now t)) }
+    ensures rows { IfOk result (λ table. table.rows ≡ []) }
+{
+    let props = model.props(t);
+    let mut columns = Vec::with_capacity(alloc, props.len())?;
+    for p in props {
+        columns.push(Column::new(alloc, model.prop_type(*p)))?;
+    }
+    Ok(Table::new(columns))
+}
+
 /// The entities of a set's items, or the first item that is none.
 pub(crate) fn set_rows(
     alloc: Global,
     model: &Model,
     t: TypeId,
     items: &[Json],
-) -> Result<Vec<Vec<Value>>, RowsRefused>
+) -> Result<Table, RowsRefused>
     requires sound { IsSound model.now }
     requires there { IsType model.now t }
     requires few { length items.now < 2 ^ 32 }
     ensures ok { IfOk result (λ rows. rows_read rows ≡ map (λ x. file.entity_of (properties_of model.now t) (view x)) items.now) }
     ensures shape { (k : ℕ) → result ≡ Err (RowsRefused.Shape k) → IsFirstNone (map (λ x. file.entity_of (properties_of model.now t) (view x)) items.now) k }
 {
-    let mut rows = Vec::new(alloc);
+    let Ok(mut rows) = empty_table(alloc, model, t) else {
+        return Err(RowsRefused::Memory);
+    };
     for (k, item) in items.iter().enumerate() {
         let Ok(found) = entity(alloc, model, t, item) else {
             return Err(RowsRefused::Memory);
@@ -128,10 +146,10 @@ pub(crate) fn set_rows(
         let Some(values) = found else {
             return Err(RowsRefused::Shape(k as u32));
         };
-        match rows.push(values) {
-            Ok(()) => {}
+        rows = match rows.push(alloc, values.as_slice()) {
+            Ok(rows) => rows,
             Err(_) => return Err(RowsRefused::Memory),
-        }
+        };
     }
     Ok(rows)
 }

@@ -12,15 +12,21 @@
 //! loaded; how fast they are is measured and not proved.
 #![tactic(auto)]
 
+mod columns;
 mod data;
 mod entities;
 mod groups;
 mod json_values;
 mod key_order;
 mod keyed;
+mod keys;
 mod load;
+mod places;
 mod references;
+mod table;
 mod tables;
+mod texts;
+mod values;
 
 pub use data::Data;
 use edm_model::SetId;
@@ -72,6 +78,3 @@ pub enum DataRefused {
     #[error("out of memory")]
     Memory,
 }
-
-#[cfg(test)]
-mod tests;

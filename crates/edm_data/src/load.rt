@@ -13,9 +13,10 @@ use crate::DataRefused;
 use crate::data::Data;
 use crate::entities::{RowsRefused, first_other_member, set_items, set_rows};
 use crate::keyed::Keyed;
+use crate::table::Table;
 use crate::tables::Tables;
 use edm_model::{Model, SetId};
-use edm_values::{Text, Value};
+use edm_values::Text;
 use serde_json::Value as Json;
 use std::alloc::Global;
 
@@ -23,16 +24,11 @@ use std::alloc::Global;
 pub const DATA_LIMIT: usize = 33_554_432;
 
 /// The entities of a set, or the first item that is none.
-fn set_table(
-    alloc: Global,
-    model: &Model,
-    s: SetId,
-    root: &Json,
-) -> Result<Vec<Vec<Value>>, RowsRefused>
+fn set_table(alloc: Global, model: &Model, s: SetId, root: &Json) -> Result<Table, RowsRefused>
     requires sound { IsSound model.now }
     requires there { IsSet model.now s }
     ensures ok { IfOk result (λ rows. option_map (file.items_of_set model.now (view root.now)) (slice_get model.now.sets s) ≡ Some (rows_read rows)) }
-    ensures few { IfOk result (λ rows. length rows.items < 2 ^ 32) }
+    ensures few { IfOk result (λ rows. length rows.rows < 2 ^ 32) }
     ensures shape { (k : ℕ) → result ≡ Err (RowsRefused.Shape k)
         → IfSome (option_map (file.items_of_set model.now (view root.now)) (slice_get model.now.sets s)) (λ os. IsFirstNone os k) }
 {
@@ -55,7 +51,7 @@ fn refused_in(s: SetId, refused: RowsRefused) -> DataRefused
 }
 
 /// The entities of each set, or the first item that is none.
-fn all_rows(alloc: Global, model: &Model, root: &Json) -> Result<Vec<Vec<Vec<Value>>>, DataRefused>
+fn all_rows(alloc: Global, model: &Model, root: &Json) -> Result<Vec<Table>, DataRefused>
     ensures ok { IfOk result (λ sets. map rows_read sets.items ≡ file.items_of_sets model.now (view root.now)) }
     ensures few { IfOk result (λ sets. (s : ℕ) → length (unwrap_or (slice_get (map rows_read sets.items) s) []) < 2 ^ 32) }
     ensures accepted { OnOk result (file.rows_reading model.now (file.items_of_sets model.now (view root.now)) ≡ file.World' (file.world_of model.now (file.items_of_sets model.now (view root.now)))) }

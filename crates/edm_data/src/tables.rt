@@ -1,5 +1,5 @@
 //! The entities of the sets, as lists of values.
-ghost use Rattle.std.specs.Prelude.{◌≡◌, ℕ, ◌<◌, ◌^◌, List, length, map, slice_get, IfOk};
+ghost use Rattle.std.specs.Prelude.{◌≡◌, ◌<◌, ◌^◌, length, map, IfOk};
 ghost use Rattle.edm_model.specs.LookUps.{IsSet, IsType, key_at, parts, navigations_of, set_type};
 ghost use Rattle.edm_values.specs.Values.{seen_value};
 ghost use Rattle.edm_data.specs.Fitting.{FitsModel};
@@ -7,15 +7,17 @@ ghost use Rattle.edm_data.specs.References as world;
 ghost use Rattle.edm_data.specs.Rows.{world_in};
 
 use crate::EntityRef;
+use crate::keys::Key;
+use crate::table::Table;
 use edm_model::{NavId, SetId};
-use edm_values::{Seen, Value};
+use edm_values::Seen;
 use std::alloc::{AllocError, Global};
 
 /// The entities of a model's sets, in data order, each with its values in the order of its type's properties.
 #[derive(Drop)]
 pub(crate) struct Tables {
     model: edm_model::Model,
-    sets: Vec<Vec<Vec<Value>>>,
+    sets: Vec<Table>,
 }
 
 impl std::marker::Model for Tables {
@@ -32,7 +34,7 @@ impl std::marker::Model for Tables {
 
 impl Tables {
     /// The tables of a model.
-    pub(crate) fn new(model: edm_model::Model, sets: Vec<Vec<Vec<Value>>>) -> Tables
+    pub(crate) fn new(model: edm_model::Model, sets: Vec<Table>) -> Tables
         requires { FitsModel (world_in model sets) }
         ensures { result ≡ world_in model sets }
     {
@@ -48,43 +50,30 @@ impl Tables {
         &self.model
     }
 
-    /// The entities of a set.
-    fn rows(&self, s: SetId) -> &[Vec<Value>]
-        ensures value { map (λ r. r.items) result.now ≡ world.entities_of self.now s }
-        ensures fits { FitsModel self.now }
-    {
-        match self.sets.get(s.place()) {
-            Some(rows) => rows.as_slice(),
-            None => &[],
-        }
-    }
-
     /// The number of a set's entities.
     pub(crate) fn count(&self, s: SetId) -> u32
         ensures { result ≡ world.count self.now s }
     {
-        self.rows(s).len() as u32
+        match self.sets.get(s.place()) {
+            Some(table) => table.count(),
+            None => 0,
+        }
     }
 
     /// The value at a place of an entity.
     pub(crate) fn value(&self, e: EntityRef, place: usize) -> Seen<'_>
         ensures { seen_value result ≡ world.property self.now e place }
     {
-        let rows = self.rows(e.set);
-        let Some(row) = rows.get(e.at as usize) else {
-            return Seen::Null;
-        };
-        let Some(value) = row.get(place) else {
-            return Seen::Null;
-        };
-        value.seen()
+        match self.sets.get(e.set.place()) {
+            Some(table) => table.value(e.at, place),
+            None => Seen::Null,
+        }
     }
 
     /// The place of the key among the values of a set's entities.
     pub(crate) fn key_place(&self, s: SetId) -> usize
         requires { IsSet self.now.model s }
-        ensures value { result ≡ key_at self.now.model s }
-        ensures within { (k : ℕ) (vs : List Value) → slice_get (world.entities_of self.now s) k ≡ Some vs → result < length vs }
+        ensures { result ≡ key_at self.now.model s }
     {
         let model = self.model();
         model.key_of(model.set_type(s)).place()
@@ -101,16 +90,17 @@ impl Tables {
     }
 
     /// The keys of a set's entities, in data order.
-    pub(crate) fn keys(&self, alloc: Global, s: SetId) -> Result<Vec<&Value>, AllocError>
+    pub(crate) fn keys(&self, alloc: Global, s: SetId) -> Result<Vec<Key<'_>>, AllocError>
         requires { IsSet self.now.model s }
-        ensures keys { IfOk result (λ keys. map (λ v. v.now) keys.items ≡ world.keys_of self.now s) }
+        ensures keys { IfOk result (λ keys. map (λ k. seen_value k.value) keys.items ≡ world.keys_of self.now s) }
         ensures few { IfOk result (λ keys. length keys.items < 2 ^ 32) }
     {
-        let key = self.key_place(s);
-        let rows = self.rows(s);
-        let mut keys = Vec::with_capacity(alloc, rows.len())?;
-        for row in rows {
-            keys.push(&row[key])?;
+        let place = self.key_place(s);
+        let count = self.count(s);
+        let mut keys = Vec::with_capacity(alloc, count as usize)?;
+        for at in 0..count {
+            let value = self.value(EntityRef { set: s, at }, place);
+            keys.push(Key { value })?;
         }
         Ok(keys)
     }

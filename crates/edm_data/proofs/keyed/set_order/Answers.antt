@@ -1,19 +1,20 @@
 use Rattle.std.proofs.Common.{refl}
-use Rattle.edm_values.specs.Values.{value_cmp}
+use Rattle.edm_values.specs.Values.{seen_value, value_cmp}
+use Rattle.edm_data.specs.Keys.{key_cmp}
 use Rattle.edm_data.specs.References.{keys_of}
 use Rattle.edm_data.specs.KeyOrders.{IsKeyOrder, AreDistinct}
 use Rattle.edm_data.proofs.KeyedLemmas.{IfOk-then}
-use Rattle.edm_data.proofs.SeenKeys.{IsKeyOrder-seen, AreDistinct-seen, IsFirstTwice-seen}
+use Rattle.edm_data.proofs.SeenKeys.{key_of_value, value_of_key, IsKeyOrder-seen, AreDistinct-seen, IsFirstTwice-seen}
 use Rattle.edm_data.proofs.keyed.set_order.Goals as goal
 
 pub key_order-requires : goal.key_order-requires
 key_order-requires c = rw c.as_slice.ensures.value c.in-Ok.ensures.few
 
 pub returns-in-Ok-clause-ok : goal.returns-in-Ok-clause-ok
-returns-in-Ok-clause-ok c = IfOk-then c.key_order.result (λ order. IsKeyOrder (λ a b. value_cmp a.now b.now) c.as_slice.result.now order.items) (λ order. IsKeyOrder value_cmp (keys_of c.args.tables.now c.args.s) order.items) (λ order o. rw (← c.in-Ok.ensures.keys, ← c.as_slice.ensures.value) (IsKeyOrder-seen (λ v. v.now) value_cmp (λ k. record { ref_ptr = (0, 0); now = k }) (λ k. refl) c.as_slice.result.now order.items o)) c.key_order.ensures.ok
+returns-in-Ok-clause-ok c = IfOk-then c.key_order.result (λ order. IsKeyOrder key_cmp c.as_slice.result.now order.items) (λ order. IsKeyOrder value_cmp (keys_of c.args.tables.now c.args.s) order.items) (λ order o. rw (← c.in-Ok.ensures.keys, ← c.as_slice.ensures.value) (IsKeyOrder-seen (λ k. seen_value k.value) value_cmp key_of_value value_of_key c.as_slice.result.now order.items o)) c.key_order.ensures.ok
 
 pub returns-in-Ok-clause-distinct : goal.returns-in-Ok-clause-distinct
-returns-in-Ok-clause-distinct c = IfOk-then c.key_order.result (λ order. AreDistinct (λ a b. value_cmp a.now b.now) c.as_slice.result.now) (λ order. AreDistinct value_cmp (keys_of c.args.tables.now c.args.s)) (λ order o. rw (← c.in-Ok.ensures.keys, ← c.as_slice.ensures.value) (AreDistinct-seen (λ v. v.now) value_cmp c.as_slice.result.now o)) c.key_order.ensures.distinct
+returns-in-Ok-clause-distinct c = IfOk-then c.key_order.result (λ order. AreDistinct key_cmp c.as_slice.result.now) (λ order. AreDistinct value_cmp (keys_of c.args.tables.now c.args.s)) (λ order o. rw (← c.in-Ok.ensures.keys, ← c.as_slice.ensures.value) (AreDistinct-seen (λ k. seen_value k.value) value_cmp c.as_slice.result.now o)) c.key_order.ensures.distinct
 
 pub returns-in-Ok-clause-twice : goal.returns-in-Ok-clause-twice
-returns-in-Ok-clause-twice c = λ k is. rw (← c.in-Ok.ensures.keys, ← c.as_slice.ensures.value) (IsFirstTwice-seen (λ v. v.now) value_cmp c.as_slice.result.now k (c.key_order.ensures.twice k is))
+returns-in-Ok-clause-twice c = λ k is. rw (← c.in-Ok.ensures.keys, ← c.as_slice.ensures.value) (IsFirstTwice-seen (λ k. seen_value k.value) value_cmp c.as_slice.result.now k (c.key_order.ensures.twice k is))

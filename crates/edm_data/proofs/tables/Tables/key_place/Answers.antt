@@ -1,13 +1,10 @@
 use Rattle.std.proofs.Common.{ap, ◌∙◌}
 use Rattle.edm_model.specs.LookUps.{key_of, set_type}
-use Rattle.edm_data.proofs.TableLemmas.{key_facts, key_place}
+use Rattle.edm_data.proofs.TableLemmas.{key_place}
 use Rattle.edm_data.proofs.tables.Tables.key_place.Goals as goal
 
-pub returns-clause-value : goal.returns-clause-value
-returns-clause-value c =
+pub returns : goal.returns
+returns c =
     let m = c.model-model.result.now in
     let s = c.args.s in
     c.place.ensures ∙ ap (λ p. p.at) c.key_of.ensures.value ∙ ap (λ t. (key_of m t).at) c.set_type.ensures.value ∙ ap (λ x. (key_of x (set_type x s)).at) c.model-model.ensures.value ∙ key_place c.args.self.now.model s c.requires
-
-pub returns-clause-within : goal.returns-clause-within
-returns-clause-within c = λ k vs row. rw c.place.ensures (key_facts c.args.self.now c.model-model.result.now c.args.s c.set_type.result c.key_of.result c.model-model.ensures.fits c.model-model.ensures.value c.set_type.ensures.value c.key_of.ensures.value c.key_of.ensures.there k vs row)

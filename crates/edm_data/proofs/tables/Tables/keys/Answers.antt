@@ -1,23 +1,20 @@
-use Rattle.std.proofs.Common.{◌≡◌, arith, Some}
-use Rattle.std.specs.List.{slice_get}
-use Rattle.edm_values.specs.Values.{value_in}
+use Rattle.std.proofs.Common.{◌≡◌, ◌+◌, ◌<◌, ◌∷◌, [], ◌++◌, length, map, take, get_or, sym, ap, ◌∙◌, arith}
+use Rattle.std.proofs.lemmas.List.{map-append, take_more}
+use Rattle.edm_values.specs.declared.Value.{Value}
+use Rattle.edm_values.specs.Values.{seen_value}
 use Rattle.edm_model.specs.LookUps.{key_at}
-use Rattle.edm_data.specs.References.{entities_of}
-use Rattle.edm_data.proofs.TableLemmas.{few_keys, column-more, column-all, row_there, value_there}
+use Rattle.edm_data.specs.Worlds.{entity_at}
+use Rattle.edm_data.specs.References.{count, entities_of, keys_of, property}
+use Rattle.edm_data.specs.declared.keys.Key.{Key}
+use Rattle.edm_data.proofs.KeyedLemmas.{key_number}
+use Rattle.edm_data.proofs.TableLemmas.{key_there}
 use Rattle.edm_data.proofs.tables.Tables.keys.Goals as goal
 
-pub index-requires : goal.index-requires
-index-requires c =
-    let row : slice_get (entities_of c.args.self.now c.args.s) c.loop-row.row-index ≡ Some c.row-item.result.items = row_there (λ r. r.items) c.rows-rows.result.now _ c.loop-row.row-index c.row-item.result c.rows-rows.ensures.value c.loop-row-test.true c.row-item.is in
-    omega (arith, c.key_place-key.ensures.within c.loop-row.row-index c.row-item.result.items row, c.row-item.result.ok.0)
-
-pub loop-row-preserved : goal.loop-row-preserved
-loop-row-preserved c =
-    let row : slice_get (entities_of c.args.self.now c.args.s) c.loop-row.row-index ≡ Some c.row-item.result.items = row_there (λ r. r.items) c.rows-rows.result.now _ c.loop-row.row-index c.row-item.result c.rows-rows.ensures.value c.loop-row-test.true c.row-item.is in
-    column-more (λ r. value_in r.items c.key_place-key.result) (λ v. v.now) c.loop-row.keys.items c.push.new.self.items c.rows-rows.result.now c.loop-row.row-index c.row-item.result c.index.result c.in_ok-push.ensures.items c.loop-row.invariant c.loop-row-test.true c.row-item.is (value_there c.row-item.result.items c.key_place-key.result c.index.result.now (c.key_place-key.ensures.within c.loop-row.row-index c.row-item.result.items row) c.index.ensures)
-
-pub returns-clause-keys : goal.returns-clause-keys
-returns-clause-keys c = column-all (λ r. r.items) (λ vs. value_in vs (key_at c.args.self.now.model c.args.s)) (λ v. v.now) c.loop-row.keys.items c.rows-rows.result.now (entities_of c.args.self.now c.args.s) c.loop-row.row-index (rw (← c.key_place-key.ensures.value) c.loop-row.invariant) (omega arith) c.rows-rows.ensures.value
-
-pub returns-clause-few : goal.returns-clause-few
-returns-clause-few c = few_keys (λ v. v.now) c.args.self.now c.args.s c.loop-row.keys.items c.rows-rows.ensures.fits (column-all (λ r. r.items) (λ vs. value_in vs (key_at c.args.self.now.model c.args.s)) (λ v. v.now) c.loop-row.keys.items c.rows-rows.result.now (entities_of c.args.self.now c.args.s) c.loop-row.row-index (rw (← c.key_place-key.ensures.value) c.loop-row.invariant) (omega arith) c.rows-rows.ensures.value)
+pub loop-at-preserved : goal.loop-at-preserved
+loop-at-preserved c =
+    let w = c.args.self.now in
+    let s = c.args.s in
+    let at = c.loop-at.at in
+    let within : at < length (keys_of w s) = rw key_number (let size = c.count-count.ensures in omega (arith, size)) in
+    let here : seen_value c.value-value.result ≡ get_or (keys_of w s) at Value.Null = c.value-value.ensures ∙ ap (property w (entity_at s at)) c.key_place-place.ensures ∙ key_there (entities_of w s) (key_at w.model s) at in
+    rw (c.in_ok-push.ensures.items, map-append (λ (k : Key). seen_value k.value) c.loop-at.keys.items (record { value = c.value-value.result } ∷ []), c.loop-at.invariant, here) (sym (take_more (keys_of w s) at Value.Null within))

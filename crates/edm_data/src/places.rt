@@ -1,0 +1,64 @@
+//! Places that rise.
+ghost use Rattle.std.specs.Prelude.{◌≡◌, ◌<◌, [], ◌∷◌, ◌++◌, length, nat_eq, position, OnOk, OnErr};
+ghost use Rattle.edm_data.specs.Columns.{AreBelow};
+
+use std::alloc::{AllocError, Global};
+
+/// Places of a list, each above the one before it: those at which something stands.
+#[derive(Drop)]
+pub(crate) struct Places {
+    list: Vec<u32>,
+}
+
+impl std::marker::Model for Places {
+    ghost use Rattle.std.specs.Prelude.{ℕ, List};
+    ghost use Rattle.edm_data.specs.Columns.{AreRising};
+
+    ghost Value = { List ℕ };
+
+    ghost view = { λ p. p.list.items };
+
+    ghost invariant = { λ p. AreRising p.list.items };
+}
+
+impl Places {
+    /// No places.
+    pub(crate) fn new(alloc: Global) -> Places
+        ensures { result ≡ [] }
+    {
+        Places {
+            list: Vec::new(alloc),
+        }
+    }
+
+    /// The number of the places.
+    pub(crate) fn len(&self) -> usize
+        ensures { result ≡ length self.now }
+    {
+        self.list.len()
+    }
+
+    /// Where this place stands among them. It is looked for first where it stands if no place before it is left out.
+    pub(crate) fn find(&self, place: u32) -> Option<usize>
+        ensures { result ≡ position (nat_eq place) self.now }
+    {
+        let first = place as usize;
+        if first < self.list.len() && self.list[first] == place {
+            return Some(first);
+        }
+        match self.list.as_slice().binary_search(&place) {
+            Ok(found) => Some(found),
+            Err(_) => None,
+        }
+    }
+
+    /// Puts a place above all others at the end. After an `Err` the places are as before.
+    pub(crate) fn push(&mut self, place: u32) -> Result<(), AllocError>
+        requires { AreBelow place self.old }
+        ensures ok { OnOk result (self.new ≡ self.old ++ place ∷ []) }
+        ensures err { OnErr result (self.new ≡ self.old) }
+    {
+        self.list.push(place)?;
+        Ok(())
+    }
+}
