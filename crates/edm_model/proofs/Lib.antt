@@ -11,3 +11,7 @@ pub mod Ordered
 pub mod NameSearch
 pub mod SetEach
 pub mod Passing
+pub mod TreeParts
+pub mod NameLaws
+pub mod IdLaws
+pub mod Accepted

@@ -14,73 +14,20 @@ use Rattle.edm_values.specs.declared.EdmType.{EdmType}
 use Rattle.edm_values.specs.Literals.{same_kind}
 use Rattle.edm_values.specs.Parts.{scale_max}
 use Rattle.edm_model.specs.Models.{Property, Navigation, Hierarchy, Custom, EntityType, EntitySet, Model, Part}
-use Rattle.edm_model.specs.LookUps.{properties_of, navigations_of, hierarchies_of_type, customs_of_type, property_at, navigation_on, hierarchy_on, key_of, set_type, set_of_type, IsType, IsSet, IsProperty}
+use Rattle.edm_model.specs.LookUps.{properties_of, navigations_of, hierarchies_of_type, customs_of_type, property_at, navigation_on, hierarchy_on, key_of, set_type, set_of_type, IsType, IsSet, IsProperty, IsNavigation}
 use Rattle.edm_model.specs.JsonTrees.{Member, members_in, is_true, lacks, text_at, whole_number}
-use Rattle.edm_model.specs.ModelFile.{is_model, model_of, is_type, type_tree, type_members, type_place, type_of, property_of, navigation_of, hierarchy_of, custom_of, set_of, set_members, property_members, navigation_members, term_members, hierarchy_term, definition_term, key_name, member_place, named, kind_of, property_kind, is_nullable, is_key_kind, is_many, is_navigable, is_constrained, has_partner, is_reference_to, leads_to, is_entity_set, target_of, constraint, namespace, has_simple_parts, is_own, is_property, is_navigation, container, schema, is_hierarchy, precision_of, scale_of, decimal_kind, kind_name, whole_between}
+use Rattle.edm_model.specs.ModelFile.{is_model, model_of, is_type, type_tree, type_members, type_place, type_of, property_of, navigation_of, hierarchy_of, custom_of, set_of, set_members, property_members, navigation_members, term_members, hierarchy_term, definition_term, key_name, member_place, named, kind_of, property_kind, is_nullable, is_key_kind, is_many, partner_place, is_navigable, is_constrained, has_partner, is_reference_to, leads_to, is_entity_set, target_of, constraint, namespace, has_simple_parts, is_own, is_property, is_navigation, container, schema, is_hierarchy, precision_of, scale_of, decimal_kind, kind_name, whole_between}
 use Rattle.edm_model.specs.Soundness.{IsSound, InOrder, IsReference, AreOfOneKind, AreOrdered, is_declared_kind}
 use Rattle.edm_model.proofs.Counted.{all_places_at}
 use Rattle.edm_model.proofs.Mapped.{length-mapped, map_mapped}
 use Rattle.edm_model.proofs.Ordered.{none_ordered, made_ordered, qualified_ordered}
+use Rattle.edm_model.proofs.Accepted.{places_pass, in_types, of_types, type_passes}
+use Rattle.edm_model.proofs.IdLaws.{places_within, parts_there, all_parts_there, all_customs_there}
+use Rattle.edm_model.proofs.NameLaws.{set_names, type_names, property_names, navigation_names, qualifiers, custom_names, properties_are_no_navigations, customs_are_no_properties, customs_are_no_navigations, sets_in_order, types_in_order, properties_in_order, navigations_in_order, hierarchies_in_order, customs_in_order, found_place_of, found_named}
 use Rattle.edm_model.proofs.Passing.{some_map, some_bind, some_passes, some_there, all_get, filter_get, find_place, one_place, only_place}
 use Rattle.edm_model.proofs.Places.{within_types}
 use Rattle.edm_model.proofs.SetEach.{and_left, and_right, set_each_same}
-
--- ---- the parts of the model of a tree, by the trees of its types
-
-pub properties_is : (d : Data) (t : ℕ) → properties_of (model_of d) t ≡ map property_of (property_members (type_tree d t))
-properties_is d t = ap (λ o. unwrap_or (option_map (λ e. e.properties) o) []) (slice_get-map (type_of d) (type_members d) t) ∙ go (slice_get (type_members d) t)
-  where
-    go : (o : Option Member) → unwrap_or (option_map (λ e. e.properties) (option_map (type_of d) o)) [] ≡ map property_of (property_members (unwrap_or (option_map (λ m. m.1) o) null))
-    go None = refl
-    go (Some m) = refl
-
-pub navigations_is : (d : Data) (t : ℕ) → navigations_of (model_of d) t ≡ map (navigation_of d (type_tree d t)) (navigation_members (type_tree d t))
-navigations_is d t = ap (λ o. unwrap_or (option_map (λ e. e.navigations) o) []) (slice_get-map (type_of d) (type_members d) t) ∙ go (slice_get (type_members d) t)
-  where
-    go : (o : Option Member) → unwrap_or (option_map (λ e. e.navigations) (option_map (type_of d) o)) [] ≡ map (navigation_of d (unwrap_or (option_map (λ m. m.1) o) null)) (navigation_members (unwrap_or (option_map (λ m. m.1) o) null))
-    go None = refl
-    go (Some m) = refl
-
-pub hierarchies_is : (d : Data) (t : ℕ) → hierarchies_of_type (model_of d) t ≡ map (hierarchy_of (type_tree d t)) (term_members hierarchy_term (type_tree d t))
-hierarchies_is d t = ap (λ o. unwrap_or (option_map (λ e. e.hierarchies) o) []) (slice_get-map (type_of d) (type_members d) t) ∙ go (slice_get (type_members d) t)
-  where
-    go : (o : Option Member) → unwrap_or (option_map (λ e. e.hierarchies) (option_map (type_of d) o)) [] ≡ map (hierarchy_of (unwrap_or (option_map (λ m. m.1) o) null)) (term_members hierarchy_term (unwrap_or (option_map (λ m. m.1) o) null))
-    go None = refl
-    go (Some m) = refl
-
-pub customs_is : (d : Data) (t : ℕ) → customs_of_type (model_of d) t ≡ map custom_of (term_members definition_term (type_tree d t))
-customs_is d t = ap (λ o. unwrap_or (option_map (λ e. e.customs) o) []) (slice_get-map (type_of d) (type_members d) t) ∙ go (slice_get (type_members d) t)
-  where
-    go : (o : Option Member) → unwrap_or (option_map (λ e. e.customs) (option_map (type_of d) o)) [] ≡ map custom_of (term_members definition_term (unwrap_or (option_map (λ m. m.1) o) null))
-    go None = refl
-    go (Some m) = refl
-
-pub key_is : (d : Data) (t : ℕ) → (key_of (model_of d) t).at ≡ unwrap_or (member_place (property_members (type_tree d t)) (key_name (type_tree d t))) 0
-key_is d t = ap (λ o. unwrap_or (option_map (λ e. e.key) o) 0) (slice_get-map (type_of d) (type_members d) t) ∙ go (slice_get (type_members d) t)
-  where
-    go : (o : Option Member) → unwrap_or (option_map (λ e. e.key) (option_map (type_of d) o)) 0 ≡ unwrap_or (member_place (property_members (unwrap_or (option_map (λ m. m.1) o) null)) (key_name (unwrap_or (option_map (λ m. m.1) o) null))) 0
-    go None = refl
-    go (Some m) = refl
-
--- ---- where the parts stand
-
-pub property_here : (d : Data) (p : Part) (q : Property) → property_at (model_of d) p ≡ Some q → (m : Member) × (slice_get (property_members (type_tree d p.of)) p.at ≡ Some m) × (property_of m ≡ q)
-property_here d p q h = some_map property_of (slice_get (property_members (type_tree d p.of)) p.at) q (sym (slice_get-map property_of (property_members (type_tree d p.of)) p.at) ∙ (ap (λ xs. slice_get xs p.at) (sym (properties_is d p.of)) ∙ h))
-
-pub property_there : (d : Data) (t k : ℕ) (m : Member) → slice_get (property_members (type_tree d t)) k ≡ Some m → slice_get (properties_of (model_of d) t) k ≡ Some (property_of m)
-property_there d t k m h = ap (λ xs. slice_get xs k) (properties_is d t) ∙ (slice_get-map property_of (property_members (type_tree d t)) k ∙ ap (option_map property_of) h)
-
-pub is_property_at : (m : Model) (t k : ℕ) (q : Property) → slice_get (properties_of m t) k ≡ Some q → IsProperty m (record { of = t; at = k })
-is_property_at m t k q h = let inside = slice_get_within (properties_of m t) k q h in (within_types (λ e. e.properties) m.types t k inside, inside)
-
-pub navigation_here : (d : Data) (n : Part) (v : Navigation) → navigation_on (model_of d) n ≡ Some v → (m : Member) × (slice_get (navigation_members (type_tree d n.of)) n.at ≡ Some m) × (navigation_of d (type_tree d n.of) m ≡ v)
-navigation_here d n v h = some_map (navigation_of d (type_tree d n.of)) (slice_get (navigation_members (type_tree d n.of)) n.at) v (sym (slice_get-map (navigation_of d (type_tree d n.of)) (navigation_members (type_tree d n.of)) n.at) ∙ (ap (λ xs. slice_get xs n.at) (sym (navigations_is d n.of)) ∙ h))
-
-pub navigation_there : (d : Data) (t k : ℕ) (m : Member) → slice_get (navigation_members (type_tree d t)) k ≡ Some m → slice_get (navigations_of (model_of d) t) k ≡ Some (navigation_of d (type_tree d t) m)
-navigation_there d t k m h = ap (λ xs. slice_get xs k) (navigations_is d t) ∙ (slice_get-map (navigation_of d (type_tree d t)) (navigation_members (type_tree d t)) k ∙ ap (option_map (navigation_of d (type_tree d t))) h)
-
-pub hierarchy_here : (d : Data) (p : Part) (q : Hierarchy) → hierarchy_on (model_of d) p ≡ Some q → (m : Member) × (slice_get (term_members hierarchy_term (type_tree d p.of)) p.at ≡ Some m) × (hierarchy_of (type_tree d p.of) m ≡ q)
-hierarchy_here d p q h = some_map (hierarchy_of (type_tree d p.of)) (slice_get (term_members hierarchy_term (type_tree d p.of)) p.at) q (sym (slice_get-map (hierarchy_of (type_tree d p.of)) (term_members hierarchy_term (type_tree d p.of)) p.at) ∙ (ap (λ xs. slice_get xs p.at) (sym (hierarchies_is d p.of)) ∙ h))
+use Rattle.edm_model.proofs.TreeParts.{properties_is, navigations_is, hierarchies_is, customs_is, key_is, property_here, property_there, is_property_at, navigation_here, navigation_there, hierarchy_here}
 
 -- the member of a name, with its place
 pub named_at : (ms : List Member) (name : List ℕ) (x : Data) → named ms name ≡ Some x → (k : ℕ) × (m : Member) × (member_place ms name ≡ Some k) × (slice_get ms k ≡ Some m) × (m.1 ≡ x)
@@ -113,15 +60,6 @@ same_place k = grind (arith, nat_tests)
 
 place_same : (k t : ℕ) → (k == t) ≡ true → k ≡ t
 place_same k t h = grind (arith, nat_tests)
-
-or_second : (a b : Bool) → (not a || b) ≡ true → a ≡ true → b ≡ true
-or_second true b h e = h
-or_second false b h e = absurd (false≢true e)
-
-tree_passes : (p : Data → Bool) (ms : List Member) (t : ℕ) → list_all (λ m. p m.1) ms ≡ true → t < length ms → p (unwrap_or (option_map (λ m. m.1) (slice_get ms t)) null) ≡ true
-tree_passes p [] t h below = absurd (omega arith)
-tree_passes p (m ∷ ms) zero h below = and_left (p m.1) (list_all (λ m. p m.1) ms) h
-tree_passes p (m ∷ ms) (suc t) h below = tree_passes p ms t (and_right (p m.1) (list_all (λ m. p m.1) ms) h) (omega arith)
 
 between : (low high : ℕ) (o : Option ℕ) (n : ℕ) → option_and_then (λ n. if nat_le low n && nat_le n high then Some n else None) o ≡ Some n → (nat_le low n && nat_le n high) ≡ true
 between low high None n h = absurd (none-some n h)
@@ -164,25 +102,11 @@ named_declared false false false false false decimal h = refl
 kind_declared : (p : Data) → is_declared_kind (unwrap_or (kind_of p) EdmType.Text) ≡ true
 kind_declared p = named_declared (same_text (kind_name p) (codes "Edm.Int64")) (same_text (kind_name p) (codes "Edm.Decimal")) (same_text (kind_name p) (codes "Edm.String")) (same_text (kind_name p) (codes "Edm.Date")) (same_text (kind_name p) (codes "Edm.Boolean")) (decimal_kind (scale_of p) (precision_of p)) (decimal_declared (scale_of p) (precision_of p) (scale_between (get (codes "$Scale") p)) (precision_between (get (codes "$Precision") p)))
 
--- ---- the rules that hold
-
-places_pass : (p : ℕ → Bool) (n k : ℕ) → list_all p (places n) ≡ true → k < n → p k ≡ true
-places_pass p n k h below = elim (p k) as (λ b. p k ≡ b → b ≡ true) [ true ↦ λ e. refl | false ↦ λ e. sym (all_places_at p n k below e) ∙ h ] refl
-
 module _ (d : Data) (h : is_model d ≡ true) where
-  in_types : (t : ℕ) → IsType (model_of d) t → t < length (type_members d)
-  in_types t below = subst (λ n. t < n) (length-mapped (type_of d) (type_members d)) below
-
-  of_types : (t : ℕ) → t < length (type_members d) → IsType (model_of d) t
-  of_types t below = subst (λ n. t < n) (sym (length-mapped (type_of d) (type_members d))) below
-
-  type_passes : (t : ℕ) → t < length (type_members d) → is_type d t (type_tree d t) ≡ true
-  type_passes t below = places_pass (λ k. is_type d k (type_tree d k)) (length (type_members d)) t (and_right _ _ (and_left _ _ (and_left _ _ h))) below
-
   key_there : (t : ℕ) → t < length (type_members d) → (k : ℕ) × (m : Member) × (member_place (property_members (type_tree d t)) (key_name (type_tree d t)) ≡ Some k) × (slice_get (property_members (type_tree d t)) k ≡ Some m) × ((not (is_nullable m.1) && is_some_and is_key_kind (kind_of m.1)) ≡ true)
   key_there t below =
       let test = λ (p : Data). not (is_nullable p) && is_some_and is_key_kind (kind_of p) in
-      let one = some_passes test (named (property_members (type_tree d t)) (key_name (type_tree d t))) (and_right _ _ (and_left _ _ (and_left _ _ (and_left _ _ (and_left _ _ (and_left _ _ (and_left _ _ (and_left _ _ (type_passes t below))))))))) in
+      let one = some_passes test (named (property_members (type_tree d t)) (key_name (type_tree d t))) (and_right _ _ (and_left _ _ (and_left _ _ (and_left _ _ (and_left _ _ (and_left _ _ (and_left _ _ (and_left _ _ (type_passes d h t below))))))))) in
       let place = named_at (property_members (type_tree d t)) (key_name (type_tree d t)) one.0 one.1 in
       (place.0, place.1, place.2, place.3, subst (λ p. test p ≡ true) (sym place.4) one.2)
 
@@ -191,7 +115,7 @@ module _ (d : Data) (h : is_model d ≡ true) where
 
   keys : (t : ℕ) → IsType (model_of d) t → IsProperty (model_of d) (key_of (model_of d) t)
   keys t is =
-      let below = in_types t is in
+      let below = in_types d t is in
       let key = key_there t below in
       subst (λ k. IsProperty (model_of d) (record { of = t; at = k })) (sym (key_at t below)) (is_property_at (model_of d) t key.0 (property_of key.1) (property_there d t key.0 key.1 key.3))
 
@@ -199,7 +123,7 @@ module _ (d : Data) (h : is_model d ≡ true) where
   key_property : (t : ℕ) (p : Property) → property_at (model_of d) (key_of (model_of d) t) ≡ Some p → (m : Member) × (property_of m ≡ p) × ((not (is_nullable m.1) && is_some_and is_key_kind (kind_of m.1)) ≡ true)
   key_property t p is =
       let inside = slice_get_within (properties_of (model_of d) t) (key_of (model_of d) t).at p is in
-      let below = in_types t (within_types (λ e. e.properties) (model_of d).types t (key_of (model_of d) t).at inside) in
+      let below = in_types d t (within_types (λ e. e.properties) (model_of d).types t (key_of (model_of d) t).at inside) in
       let key = key_there t below in
       let there = property_there d t key.0 key.1 key.3 in
       (key.1, same_Some (property_of key.1) p (sym there ∙ (ap (slice_get (properties_of (model_of d) t)) (sym (key_at t below)) ∙ is)), key.4)
@@ -223,9 +147,9 @@ module _ (d : Data) (h : is_model d ≡ true) where
   navigation_passes : (n : Part) (v : Navigation) → navigation_on (model_of d) n ≡ Some v → (m : Member) × (p : ℕ) × (navigation_of d (type_tree d n.of) m ≡ v) × (type_place d m.1 ≡ Some p) × ((if lacks (codes "$Collection") m.1 then is_constrained (type_tree d n.of) (type_tree d p) m.1 else has_partner d n.of (type_tree d p) m.1) ≡ true)
   navigation_passes n v is =
       let inside = slice_get_within (navigations_of (model_of d) n.of) n.at v is in
-      let below = in_types n.of (within_types (λ e. e.navigations) (model_of d).types n.of n.at inside) in
+      let below = in_types d n.of (within_types (λ e. e.navigations) (model_of d).types n.of n.at inside) in
       let here = navigation_here d n v is in
-      let passes = all_get (λ (m : Member). is_navigable d n.of (type_tree d n.of) m.1) (navigation_members (type_tree d n.of)) n.at here.0 (and_right _ _ (and_left _ _ (and_left _ _ (and_left _ _ (type_passes n.of below))))) here.1 in
+      let passes = all_get (λ (m : Member). is_navigable d n.of (type_tree d n.of) m.1) (navigation_members (type_tree d n.of)) n.at here.0 (and_right _ _ (and_left _ _ (and_left _ _ (and_left _ _ (type_passes d h n.of below))))) here.1 in
       let place = some_passes (λ p. if lacks (codes "$Collection") here.0.1 then is_constrained (type_tree d n.of) (type_tree d p) here.0.1 else has_partner d n.of (type_tree d p) here.0.1) (type_place d here.0.1) passes in
       (here.0, place.0, here.2, place.1, place.2)
 
@@ -233,7 +157,7 @@ module _ (d : Data) (h : is_model d ≡ true) where
   targets n v is =
       let nav = navigation_passes n v is in
       let target : nav.1 ≡ v.target = sym (ap (λ o. unwrap_or o 0) nav.3) ∙ ap (λ w. w.target) nav.2 in
-      subst (IsType (model_of d)) target (of_types nav.1 (place_below nav.0.1 nav.1 nav.3))
+      subst (IsType (model_of d)) target (of_types d nav.1 (place_below nav.0.1 nav.1 nav.3))
 
   -- the property of a name has its kind in the model
   kind_at : (t : ℕ) (name : List ℕ) (x : EdmType) → property_kind (type_tree d t) name ≡ Some x → (k : ℕ) × (q : Property) × (member_place (property_members (type_tree d t)) name ≡ Some k) × (slice_get (properties_of (model_of d) t) k ≡ Some q) × (q.kind ≡ x)
@@ -289,15 +213,17 @@ module _ (d : Data) (h : is_model d ≡ true) where
       let ok = if_many (is_constrained (type_tree d n.of) (type_tree d p) m.1) (has_partner d n.of (type_tree d p) m.1) (get (codes "$Collection") m.1) nav.4 (ap (λ w. w.many) nav.2 ∙ many) in
       let back = reference_there p n.of (text_at (codes "$Partner") m.1) (and_right _ _ ok) in
       let tree : target_of d m.1 ≡ type_tree d p = ap (λ o. unwrap_or (option_map (type_tree d) o) null) nav.3 in
-      let partner : v.partner ≡ back.0 = ap (λ w. w.partner) (sym nav.2) ∙ (ap (λ t. unwrap_or (member_place (navigation_members t) (text_at (codes "$Partner") m.1)) 0) tree ∙ ap (λ o. unwrap_or o 0) back.1) in
+      let is_many_here : is_many m.1 ≡ true = ap (λ w. w.many) nav.2 ∙ many in
+      let read : partner_place d m.1 ≡ unwrap_or (member_place (navigation_members (target_of d m.1)) (text_at (codes "$Partner") m.1)) 0 = ap (λ b. if b then unwrap_or (member_place (navigation_members (target_of d m.1)) (text_at (codes "$Partner") m.1)) 0 else 0) is_many_here in
+      let partner : v.partner ≡ back.0 = ap (λ w. w.partner) (sym nav.2) ∙ (read ∙ (ap (λ t. unwrap_or (member_place (navigation_members t) (text_at (codes "$Partner") m.1)) 0) tree ∙ ap (λ o. unwrap_or o 0) back.1)) in
       subst (λ t. IsReference (model_of d) (record { of = t; at = v.partner }) n.of) (sym target) (subst (λ j. IsReference (model_of d) (record { of = p; at = j }) n.of) (sym partner) back.2)
 
   parents : (q : Part) (r : Hierarchy) → hierarchy_on (model_of d) q ≡ Some r → IsReference (model_of d) (record { of = q.of; at = r.parent }) q.of
   parents q r is =
       let inside = slice_get_within (hierarchies_of_type (model_of d) q.of) q.at r is in
-      let below = in_types q.of (within_types (λ e. e.hierarchies) (model_of d).types q.of q.at inside) in
+      let below = in_types d q.of (within_types (λ e. e.hierarchies) (model_of d).types q.of q.at inside) in
       let here = hierarchy_here d q r is in
-      let passes = all_get (λ (m : Member). is_hierarchy d q.of (type_tree d q.of) m.1) (term_members hierarchy_term (type_tree d q.of)) q.at here.0 (and_right _ _ (and_left _ _ (and_left _ _ (type_passes q.of below)))) here.1 in
+      let passes = all_get (λ (m : Member). is_hierarchy d q.of (type_tree d q.of) m.1) (term_members hierarchy_term (type_tree d q.of)) q.at here.0 (and_right _ _ (and_left _ _ (and_left _ _ (type_passes d h q.of below)))) here.1 in
       let back = reference_there q.of q.of (text_at (codes "ParentNavigationProperty") here.0.1) (and_right _ _ passes) in
       let parent : r.parent ≡ back.0 = ap (λ w. w.parent) (sym here.2) ∙ ap (λ o. unwrap_or o 0) back.1 in
       subst (λ j. IsReference (model_of d) (record { of = q.of; at = j }) q.of) (sym parent) back.2
@@ -323,7 +249,7 @@ module _ (d : Data) (h : is_model d ≡ true) where
   set_type_is s is = ap (λ o. unwrap_or (option_map (λ (e : EntitySet). e.of) o) 0) (set_there s is).1
 
   set_types : (s : ℕ) → IsSet (model_of d) s → IsType (model_of d) (set_type (model_of d) s)
-  set_types s is = subst (IsType (model_of d)) (sym (set_type_is s is)) (of_types (set_there s is).0.of (set_there s is).2)
+  set_types s is = subst (IsType (model_of d)) (sym (set_type_is s is)) (of_types d (set_there s is).0.of (set_there s is).2)
 
   sets_of_types : (s : ℕ) → IsSet (model_of d) s → set_of_type (model_of d) (set_type (model_of d) s) ≡ s
   sets_of_types s is =
@@ -333,34 +259,18 @@ module _ (d : Data) (h : is_model d ≡ true) where
 
   type_sets : (t : ℕ) → IsType (model_of d) t → IsSet (model_of d) (set_of_type (model_of d) t)
   type_sets t is =
-      let one = one_place (λ (x : EntitySet). x.of == t) (map (set_of d) (set_members d)) (one_each t (in_types t is)) in
+      let one = one_place (λ (x : EntitySet). x.of == t) (map (set_of d) (set_members d)) (one_each t (in_types d t is)) in
       subst (IsSet (model_of d)) (sym (ap (λ o. unwrap_or o 0) one.2)) (slice_get_within (map (set_of d) (set_members d)) one.0 one.1 one.3)
 
   types_of_sets : (t : ℕ) → IsType (model_of d) t → set_type (model_of d) (set_of_type (model_of d) t) ≡ t
   types_of_sets t is =
-      let one = one_place (λ (x : EntitySet). x.of == t) (map (set_of d) (set_members d)) (one_each t (in_types t is)) in
+      let one = one_place (λ (x : EntitySet). x.of == t) (map (set_of d) (set_members d)) (one_each t (in_types d t is)) in
       ap (set_type (model_of d)) (ap (λ o. unwrap_or o 0) one.2) ∙ (ap (λ o. unwrap_or (option_map (λ (e : EntitySet). e.of) o) 0) one.3 ∙ place_same one.1.of t one.4)
 
   -- ---- kinds and names
 
   kinds : (p : Part) (q : Property) → property_at (model_of d) p ≡ Some q → is_declared_kind q.kind ≡ true
   kinds p q is = let here = property_here d p q is in ap (λ x. is_declared_kind x.kind) (sym here.2) ∙ kind_declared here.0.1
-
-  property_names : (p : Part) (q : Property) → property_at (model_of d) p ≡ Some q → is_name q.name ≡ true
-  property_names p q is =
-      let here = property_here d p q is in
-      let inside = slice_get_within (properties_of (model_of d) p.of) p.at q is in
-      let below = in_types p.of (within_types (λ e. e.properties) (model_of d).types p.of p.at inside) in
-      let simple = tree_passes has_simple_parts (type_members d) p.of (and_right _ _ (and_right _ _ h)) below in
-      let both = filter_get _ (λ (m : Member). is_own m.0 && is_property m.1) (members_in (type_tree d p.of)) p.at here.0 simple here.1 in
-      ap (λ x. is_name x.name) (sym here.2) ∙ or_second (is_own here.0.0) (is_name here.0.0) (and_left _ _ (and_left _ _ (and_left _ _ both.0))) (and_left _ _ both.1)
-
--- the members of each entity type are in order, also where there is none
-tree_ordered : (d : Data) → InOrder d → (t : ℕ) → AreOrdered (map (λ m. m.0) (members_in (type_tree d t)))
-tree_ordered d o t = elim (cases_lt t (length (type_members d))) [
-  | inl below ↦ o.of_types t below
-  | inr above ↦ subst (λ (x : Option Member). AreOrdered (map (λ m. m.0) (members_in (unwrap_or (option_map (λ m. m.1) x) null)))) (sym (slice_get_past (type_members d) t above)) none_ordered
-]
 
 -- the model of an accepted tree is sound
 pub sound : (d : Data) → is_model d ≡ true → InOrder d → IsSound (model_of d)
@@ -379,10 +289,28 @@ sound d h o = record {
   partners = partners d h;
   parents = parents d h;
   property_names = property_names d h;
-  sets_ordered = made_ordered (λ (e : EntitySet). e.name) (set_of d) _ (members_in (container d)) (λ m. refl) o.of_container;
-  types_ordered = made_ordered (λ (e : EntityType). e.name) (type_of d) _ (members_in (schema d)) (λ m. refl) o.of_schema;
-  properties_ordered = λ t. subst (λ (xs : List Property). AreOrdered (map (λ p. p.name) xs)) (sym (properties_is d t)) (made_ordered (λ (p : Property). p.name) property_of (λ m. is_own m.0 && is_property m.1) (members_in (type_tree d t)) (λ m. refl) (tree_ordered d o t));
-  navigations_ordered = λ t. subst (λ (xs : List Navigation). AreOrdered (map (λ n. n.name) xs)) (sym (navigations_is d t)) (made_ordered (λ (n : Navigation). n.name) (navigation_of d (type_tree d t)) (λ m. is_own m.0 && is_navigation m.1) (members_in (type_tree d t)) (λ m. refl) (tree_ordered d o t));
-  hierarchies_ordered = λ t. subst (λ (xs : List Hierarchy). AreOrdered (map (λ q. q.qualifier) xs)) (sym (hierarchies_is d t)) (subst AreOrdered (sym (map_mapped (λ (q : Hierarchy). q.qualifier) (hierarchy_of (type_tree d t)) (term_members hierarchy_term (type_tree d t)))) (qualified_ordered hierarchy_term (members_in (type_tree d t)) (tree_ordered d o t)));
-  customs_ordered = λ t. subst (λ (xs : List Custom). AreOrdered (map (λ c. c.name) xs)) (sym (customs_is d t)) (subst AreOrdered (sym (map_mapped (λ (c : Custom). c.name) custom_of (term_members definition_term (type_tree d t)))) (qualified_ordered definition_term (members_in (type_tree d t)) (tree_ordered d o t)));
+  sets_ordered = sets_in_order d o;
+  types_ordered = types_in_order d o;
+  properties_ordered = properties_in_order d o;
+  navigations_ordered = navigations_in_order d o;
+  hierarchies_ordered = hierarchies_in_order d o;
+  customs_ordered = customs_in_order d o;
+  set_names = set_names d h;
+  type_names = type_names d h;
+  navigation_names = navigation_names d h;
+  qualifiers = qualifiers d h;
+  custom_names = custom_names d h;
+  properties_are_no_navigations = properties_are_no_navigations d o;
+  customs_are_no_properties = customs_are_no_properties d h;
+  customs_are_no_navigations = customs_are_no_navigations d h;
+  sets_found = λ s e. found_place_of (λ (x : EntitySet). x.name) (map (set_of d) (set_members d)) s e (sets_in_order d o);
+  properties_found = λ t k q. found_named (λ (x : EntityType). x.properties) (λ (x : Property). x.name) (model_of d) t k q (properties_in_order d o t);
+  navigations_found = λ t k v. found_named (λ (x : EntityType). x.navigations) (λ (x : Navigation). x.name) (model_of d) t k v (navigations_in_order d o t);
+  hierarchies_found = λ t k q. found_named (λ (x : EntityType). x.hierarchies) (λ (x : Hierarchy). x.qualifier) (model_of d) t k q (hierarchies_in_order d o t);
+  customs_found = λ t k u. found_named (λ (x : EntityType). x.customs) (λ (x : Custom). x.name) (model_of d) t k u (customs_in_order d o t);
+  sets_there = places_within (length (model_of d).sets);
+  properties_there = λ t is. parts_there (IsProperty (model_of d)) t (length (properties_of (model_of d) t)) (λ k below. (is, below));
+  navigations_there = λ t is. parts_there (IsNavigation (model_of d)) t (length (navigations_of (model_of d) t)) (λ k below. (is, below));
+  hierarchies_there = all_parts_there (model_of d);
+  customs_there = all_customs_there (model_of d);
 }

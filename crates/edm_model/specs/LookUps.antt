@@ -47,6 +47,10 @@ navigation_on m n = slice_get (navigations_of m n.of) n.at
 abbrev pub hierarchy_on : Model → Part → Option Hierarchy
 hierarchy_on m h = slice_get (hierarchies_of_type m h.of) h.at
 
+-- this custom aggregate
+abbrev pub custom_on : Model → Part → Option Custom
+custom_on m c = slice_get (customs_of_type m c.of) c.at
+
 -- the key of the type at this place
 abbrev pub key_of : Model → ℕ → Part
 key_of m t = record { of = t; at = unwrap_or (option_map (λ e. e.key) (type_at m t)) 0 }

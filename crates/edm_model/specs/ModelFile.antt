@@ -326,6 +326,10 @@ is_model d = has_one_schema d && has_one_container d && list_all (λ k. is_type 
 abbrev pub property_of : Member → Property
 property_of m = record { name = m.0; kind = unwrap_or (kind_of m.1) EdmType.Text; nullable = is_nullable m.1 }
 
+-- the place of the partner, which a collection-valued navigation alone has: `$Partner` of a single-valued one is not read
+abbrev pub partner_place : Data → Data → ℕ
+partner_place d n = if is_many n then unwrap_or (member_place (navigation_members (target_of d n)) (text_at (codes "$Partner") n)) 0 else 0
+
 -- a navigation of the model
 abbrev pub navigation_of : Data → Data → Member → Navigation
 navigation_of d t m = record {
@@ -333,7 +337,7 @@ navigation_of d t m = record {
   target = unwrap_or (type_place d m.1) 0;
   many = is_many m.1;
   dependent = unwrap_or (option_and_then (λ c. member_place (property_members t) c.0) (constraint m.1)) 0;
-  partner = unwrap_or (member_place (navigation_members (target_of d m.1)) (text_at (codes "$Partner") m.1)) 0;
+  partner = partner_place d m.1;
 }
 
 -- a recursive hierarchy of the model with this qualifier

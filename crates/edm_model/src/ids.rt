@@ -166,4 +166,11 @@ impl CustomId {
     {
         self.at
     }
+
+    /// The entity type that it belongs to.
+    pub fn owner(self) -> TypeId
+        ensures { result ≡ self.of }
+    {
+        TypeId { place: self.of }
+    }
 }

@@ -1,5 +1,6 @@
 //! Models and their readers.
 ghost use Rattle.std.specs.Prelude.{ℕ, ◌≡◌, ◌<◌, length, map, Some, false, true, option_map, IfOk, IfSome};
+ghost use Rattle.std.specs.List.{All};
 ghost use Rattle.edm_values.specs.Lists.{places};
 ghost use Rattle.edm_model.specs.LookUps.{parts, type_at, property_at, navigation_on, hierarchy_on, properties_of, navigations_of, IsSet, IsType, IsProperty, IsNavigation, IsHierarchy, IsCustom, found_part, property_named, navigation_named, hierarchy_of_type_named, custom_named, hierarchies_of_type, customs_of_type, dependent_of, partner_of, parent_of};
 ghost use Rattle.edm_model.specs.LookUps as find;
@@ -74,6 +75,7 @@ impl Model {
     /// The entity sets, in byte order of their names.
     pub fn sets(&self) -> &[SetId]
         ensures value { result.now ≡ places (length self.now.sets) }
+        ensures there { All (IsSet self.now) result.now }
         ensures sound { IsSound self.now }
     {
         self.ids.sets.as_slice()
@@ -302,7 +304,8 @@ impl Model {
 
     /// The hierarchies, by type name and then by qualifier.
     pub fn hiers(&self) -> &[HierId]
-        ensures { result.now ≡ hierarchy_parts self.now }
+        ensures value { result.now ≡ hierarchy_parts self.now }
+        ensures there { All (IsHierarchy self.now) result.now }
     {
         self.ids.hierarchies.as_slice()
     }
@@ -331,6 +334,7 @@ impl Model {
         ensures value { option_map (λ q. parent_of h q) (hierarchy_on self.now h) ≡ Some result }
         ensures there { IsNavigation self.now result }
         ensures back { IsReference self.now result h.of }
+        ensures node { find.set_type self.now (find.set_of_type self.now h.of) ≡ h.of }
     {
         let hierarchy = self.hierarchy(h);
         NavId {
@@ -341,7 +345,8 @@ impl Model {
 
     /// The custom aggregates, by type name and then by name.
     pub fn customs(&self) -> &[Custom]
-        ensures { result.now ≡ custom_list self.now }
+        ensures value { result.now ≡ custom_list self.now }
+        ensures there { All (λ c. IsCustom self.now c.id) result.now }
     {
         self.ids.customs.as_slice()
     }

@@ -91,7 +91,7 @@ fn navigation_place(alloc: Global, entity_type: &Value, name: &str) -> Result<us
     Ok(member_place(&navigations, name).unwrap_or(0))
 }
 
-/// The place of the navigation property of the target that leads back.
+/// The place of the navigation property of the target that leads back, of a collection-valued one; 0 of the others.
 fn partner_place(
     alloc: Global,
     root: &Value,
@@ -99,8 +99,11 @@ fn partner_place(
     navigation: &Value,
 ) -> Result<usize, AllocError>
     requires { map member_seen types.now ≡ spec.type_members (view root.now) }
-    ensures { IfOk result (λ k. k ≡ unwrap_or (spec.member_place (spec.navigation_members (spec.target_of (view root.now) (view navigation.now))) (text_at (codes "$Partner") (view navigation.now))) 0) }
+    ensures { IfOk result (λ k. k ≡ spec.partner_place (view root.now) (view navigation.now)) }
 {
+    if !is_true_at("$Collection", navigation) {
+        return Ok(0);
+    }
     match type_place(root, types, navigation) {
         Some(place) => {
             let target = type_tree(root, types, place);

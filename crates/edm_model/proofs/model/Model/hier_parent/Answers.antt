@@ -12,3 +12,6 @@ returns-clause-back c =
 
 pub returns-clause-there : goal.returns-clause-there
 returns-clause-there c = reference_is_navigation c.args.self.now (record { of = c.h.inside.of; at = c.hierarchy.inside.parent }) c.args.h.of (returns-clause-back c)
+
+pub returns-clause-node : goal.returns-clause-node
+returns-clause-node c = c.hierarchy-hierarchy.ensures.sound.types_of_sets c.args.h.of c.requires.0
