@@ -90,10 +90,7 @@ pub fits_from : (z : ℤ) → fits_integer z ≡ true → FitsSigned w64 z
 fits_from (pos n) h = record { sfits = ltb-true n (2 ^ 63) h }
 fits_from (negsuc n) h = record { sfits = ltb-true n (2 ^ 63) h }
 
--- a number that is below its limit, or not
-pub below-holds : (limit n : ℕ) → n < limit → Some n ≡ below limit n
-below-holds limit n h = grind (arith, nat_tests)
-
+-- a number that is not below its limit
 pub below-fails : (limit n : ℕ) → limit ≤ n → None ≡ below limit n
 below-fails limit n h = grind (arith, nat_tests)
 
@@ -189,12 +186,6 @@ fraction_digits s t h =
     chosen : (b : Bool) → list_any is_point t ≡ b → (not b || is_digits (fraction_part t)) ≡ true → list_all (λ d. is_digit d 10) (fraction_part t) ≡ true
     chosen true e g = (and_parts (nat_lt 0 (length (fraction_part t))) (list_all (λ d. is_digit d 10) (fraction_part t)) g).1
     chosen false e g = ap (list_all (λ d. is_digit d 10)) (no_fraction t e)
-
-pub whole_digits : (s : ℕ) (t : List ℕ) → is_decimal_text s t ≡ true → list_all (λ b. is_digit b 10) (whole_part t) ≡ true
-whole_digits s t h =
-    let all = and_parts (is_digits (whole_part t) && (not (list_any is_point t) || is_digits (fraction_part t))) (list_all (λ d. d == 48) (drop s (fraction_part t))) h in
-    let parts = and_parts (is_digits (whole_part t)) (not (list_any is_point t) || is_digits (fraction_part t)) all.0 in
-    (and_parts (nat_lt 0 (length (whole_part t))) (list_all (λ d. is_digit d 10) (whole_part t)) parts.0).1
 
 pub kept_digits : (s : ℕ) (t : List ℕ) → is_decimal_text s t ≡ true → list_all (λ b. is_digit b 10) (take s (fraction_part t)) ≡ true
 kept_digits s t h = all_take (λ b. is_digit b 10) s (fraction_part t) (fraction_digits s t h)

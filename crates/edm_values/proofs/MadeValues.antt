@@ -14,9 +14,6 @@ pub use Rattle.edm_values.specs.PartLaws.{where_true-holds, where_true-fails, de
 pub mantissa_limit : (d : Dec) → nat_abs d.mantissa ≤ mantissa_max
 mantissa_limit d = leb-true (nat_abs d.mantissa) mantissa_max (and_parts (nat_le (nat_abs d.mantissa) mantissa_max) (nat_le d.scale scale_max) d.in_range).0
 
-pub scale_limit : (d : Dec) → d.scale ≤ scale_max
-scale_limit d = leb-true d.scale scale_max (and_parts (nat_le (nat_abs d.mantissa) mantissa_max) (nat_le d.scale scale_max) d.in_range).1
-
 pub mantissa_small : (d : Dec) → nat_abs d.mantissa < 2 ^ 64
 mantissa_small d = let h = mantissa_limit d in omega arith
 

@@ -81,9 +81,6 @@ at_one_scale a b c =
     sym (times_cmp (times (nines b.1) a.0) (times (nines a.1) b.0) (nines c.1))
     ∙ (λ i. int_cmp (times_swapped a.0 (nines b.1) (nines c.1) i) (times_swapped b.0 (nines a.1) (nines c.1) i))
 
-first_of_three : (a b c : Number) → ℤ
-first_of_three a b c = times (nines b.1) (times (nines c.1) a.0)
-
 raised_total : IsTotalOrder raised_cmp
 raised_total = record {
   antisymm = λ a b. int_cmp_total.antisymm (times (nines b.1) a.0) (times (nines a.1) b.0);

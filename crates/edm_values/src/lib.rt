@@ -27,8 +27,6 @@ mod names;
 mod numbers;
 mod ordering;
 mod printing;
-#[cfg(test)]
-mod tests;
 mod texts;
 mod views;
 

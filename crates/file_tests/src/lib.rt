@@ -4,3 +4,5 @@
 
 #[cfg(test)]
 mod outside;
+#[cfg(test)]
+mod values;

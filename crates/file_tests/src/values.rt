@@ -1,5 +1,5 @@
 //! Worked examples. The expected texts come from the rules and from a program that was written apart from this one.
-use crate::{
+use edm_values::{
     Day, Dec, EdmType, ReadRefused, Seen, Text, Value, add, compare, mul, neg, order, print_value,
     read_value, sub,
 };
