@@ -1,12 +1,10 @@
 -- Printed numbers and dates are texts of the grammar.
-use Rattle.std.proofs.Common.{◌≡◌, refl, sym, ◌∙◌, ap, subst, ℕ, zero, suc, ◌+◌, ◌-◌, ◌*◌, ◌^◌, ◌<◌, ◌≤◌, nat_le, true, false, ◌&&◌, List, [], ◌∷◌, ◌++◌, length, replicate, decimal, codes, arith, lit<, ℤ, pos, negsuc, int_le}
+use Rattle.std.proofs.Common.{◌≡◌, refl, sym, ◌∙◌, ap, subst, ℕ, zero, suc, ◌+◌, ◌-◌, ◌^◌, ◌<◌, ◌≤◌, nat_le, true, false, ◌&&◌, List, [], ◌∷◌, ◌++◌, length, replicate, decimal, codes, arith, lit<, ℤ, pos, negsuc, int_le}
 use Rattle.std.specs.Fmt.{signed_decimal}
 use Rattle.std.specs.Str.Parse.{AllDigits, digits_value, digits_value_after}
-use Rattle.std.specs.Char.{digit_value}
 use Rattle.std.proofs.lemmas.Bool.{leb-true}
 use Rattle.std.proofs.lemmas.Fmt.{decimal_is_IsNumeral, length-decimal-le}
 use Rattle.std.proofs.lemmas.List.{length-replicate, length-append}
-use Rattle.std.proofs.Math.Nat.{pow-suc}
 use Rattle.edm_values.specs.Values.{integer_max}
 use Rattle.edm_values.specs.Parts.{mantissa_max, scale_max, is_day}
 use Rattle.apply_ast.specs.Trees.{is_int_literal, is_dec_literal}
@@ -20,20 +18,6 @@ use Rattle.apply_ast.proofs.Joining.{parts}
 all_digits-append : (xs ys : List ℕ) → AllDigits 10 xs → AllDigits 10 ys → AllDigits 10 (xs ++ ys)
 all_digits-append [] ys a b = b
 all_digits-append (x ∷ xs) ys a b = (a.0, all_digits-append xs ys a.1 b)
-
-value-append : (n : ℕ) (xs ys : List ℕ) → digits_value_after 10 n (xs ++ ys) ≡ digits_value_after 10 (digits_value_after 10 n xs) ys
-value-append n [] ys = refl
-value-append n (x ∷ xs) ys = value-append (n * 10 + digit_value x) xs ys
-
--- what stands before digits counts by the power of their number
-value-after : (n : ℕ) (xs : List ℕ) → digits_value_after 10 n xs ≡ n * 10 ^ length xs + digits_value_after 10 0 xs
-value-after n [] = omega arith
-value-after n (x ∷ xs) =
-    go n (digit_value x) (digits_value_after 10 (n * 10 + digit_value x) xs) (digits_value_after 10 (0 * 10 + digit_value x) xs) (10 ^ length xs) (10 ^ suc (length xs)) (digits_value_after 10 0 xs)
-    (value-after (n * 10 + digit_value x) xs) (value-after (0 * 10 + digit_value x) xs) (pow-suc 10 (length xs))
-  where
-    go : (n d a b k l v : ℕ) → a ≡ (n * 10 + d) * k + v → b ≡ (0 * 10 + d) * k + v → l ≡ k * 10 → a ≡ n * l + b
-    go n d a b k l v e f g = rw (e, f, g) (omega arith)
 
 -- zeros in front
 zeros_are_digits : (k : ℕ) → AllDigits 10 (replicate k 48)

@@ -9,7 +9,7 @@ use Rattle.edm_values.specs.Lists.{is_nonempty, same_text}
 use Rattle.edm_values.specs.Names.{Name, Path, is_name}
 use Rattle.edm_values.proofs.EachLemmas.{and-left, and-right}
 use Rattle.apply_ast.specs.Trees.{Expr, Named, OrderItem, AggItem, HierName, NumberLiteral, Limit, Pipe, Step, OptPipe, Pipes, Key, Keys, is_int_literal, is_dec_literal, is_long, is_distance}
-use Rattle.apply_ast.specs.Grammar.{Language, Operand, word, comma, wrapped, listed, each_behind, name_text, path_text, int_text, dec_text, bare, expr_text, as_text, named_text, item_text, agg_text, hier_text, limit_text, distance_text, call_text, Text, rest_text, inner_text, more_branches_text, branches_text, key_text, more_keys_text, keys_text, step_text, is_path, expr_writable, named_writable, item_writable, agg_writable, hier_writable, limit_writable, steps_writable, inner_writable, branches_writable, key_writable, keys_writable, step_writable, has_two, has_key}
+use Rattle.apply_ast.specs.Grammar.{Language, word, comma, wrapped, listed, each_behind, name_text, path_text, int_text, dec_text, bare, expr_text, as_text, named_text, item_text, agg_text, hier_text, limit_text, distance_text, call_text, Text, rest_text, inner_text, more_branches_text, branches_text, key_text, more_keys_text, keys_text, step_text, is_path, expr_writable, named_writable, item_writable, agg_writable, hier_writable, limit_writable, steps_writable, inner_writable, branches_writable, key_writable, keys_writable, step_writable, has_two, has_key}
 use Rattle.apply_ast.specs.AstLaws.{TextsAreWritable}
 
 both : (a b : Bool) → a ≡ true → b ≡ true → (a && b) ≡ true

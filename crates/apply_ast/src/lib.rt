@@ -1,7 +1,7 @@
 //! The trees of requests and their printed texts (Data Aggregation 4.0, section 3; URL Conventions 4.01, section 5.1.1).
 //!
 //! `names` has names and paths, `expressions` the expressions of filters and computations, `items` what stands in the
-//! parentheses of steps and holds no pipeline, and `steps` the pipelines themselves. A list inside a public type is a small
+//! parentheses of steps and holds no pipeline, and `steps` the pipelines themselves, over the lists of `non_empty`. A list inside a public type is a small
 //! type over `Vec`: made from one, read as a slice, and taken apart again without memory. `copies` copies each tree, and
 //! `expression_texts`, `item_texts` and `step_texts` print them.
 //!
@@ -9,8 +9,9 @@
 //! `specs/Trees`; `specs/Views` leads from a value of the program to its tree, and two values are the same where their trees
 //! are. `specs/Grammar` says which texts a tree has, and `specs/Printing` which of them is printed.
 //!
-//! It promises: a tree is what it was made from; a copy has the tree of its original; `Name::new` accepts exactly the names;
-//! `print` gives exactly the printed text, which is a text of the grammar for each tree that the grammar can write.
+//! It promises: a tree is what it was made from; a pipeline has at least one step; a copy has the tree of its original, and a
+//! copy of a copied path takes no memory; `Name::new` accepts exactly the names; `print` gives exactly the printed text,
+//! which is a text of the grammar for each tree that the grammar can write.
 #![tactic(auto)]
 
 mod copies;
@@ -22,8 +23,6 @@ mod names;
 mod non_empty;
 mod step_texts;
 mod steps;
-#[cfg(test)]
-mod tests;
 
 pub use edm_values::Method;
 pub use expressions::{BinOp, Expr, Fun1, Fun2, UnOp};

@@ -356,9 +356,9 @@ parentheses limits {P} {A} {L} x = record {
         let i = inner_shallow d _ (subst (IsShallow (suc d)) (paren_cut A t h) s) in
         let j = shallow_front d b.left c.left (shallow_rest d o.right (b.left ++ c.left) v i) in
         let m : InCharacters limits b.left = λ e.
-            let k = inner_utf8 _ (middle A (λ t g. x.whole t g) t h) (subst (λ l. IsUtf8 l) (paren_cut A t h) (u e)) in
-            let l = v.splits (b.left ++ c.left) k in
-            (w.splits c.left l.1).0 in
+        let k = inner_utf8 _ (middle A (λ t g. x.whole t g) t h) (subst (λ l. IsUtf8 l) (paren_cut A t h) (u e)) in
+        let l = v.splits (b.left ++ c.left) k in
+        (w.splits c.left l.1).0 in
         record { left = h.left; right = h.right; first = h.first; second = record { left = b.left; right = b.right; first = x.deep p d b.left b.first j m; second = b.second; cut = b.cut }; cut = h.cut }
 
 -- ---- expressions

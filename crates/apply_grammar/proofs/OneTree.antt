@@ -98,9 +98,9 @@ pub one_expr : (t : List ℕ) (a b : Expr) → expr_text a t → expr_text b t �
 one_expr t a b h k =
     let m = operations a + operations b in
     let read = λ (e : Expr) (g : expr_text e t) (l : operations e ≤ m).
-        let x = small_tied (any m) e in
-        let s : SmallExpr (any m) e (opens t) t = x.deep (le-leb (operations e) m l) (opens t) t g (is_shallow t) no_limit in
-        expr_only (any m) (opens t) m t e s.of s.small in
+    let x = small_tied (any m) e in
+    let s : SmallExpr (any m) e (opens t) t = x.deep (le-leb (operations e) m l) (opens t) t g (is_shallow t) no_limit in
+    expr_only (any m) (opens t) m t e s.of s.small in
     some_is (sym (read a h (omega arith)) ∙ read b k (omega arith))
 
 pub one_pipeline : (t : List ℕ) (p q : Pipe) → Text p t → Text q t → p ≡ q

@@ -9,8 +9,9 @@
 //! `percent_encoding` and on `thiserror`.
 //!
 //! It promises: a line is answered by its request exactly where it has a frame and its text is one of the grammar within
-//! the limits; where it is none, the answer has the number of the transformation where it stops being one; and a text has at
-//! most one pipeline. Only want of memory is free. The readers are equal to reading functions on lists of bytes
+//! the limits; where it is none, the answer has the number of the transformation where it stops being one. The request is the
+//! only one: a text of any bytes, within the limits or not, has at most one pipeline, and at most one expression. Only want of
+//! memory is free. The readers are equal to reading functions on lists of bytes
 //! (`specs/Reading`, `specs/PipeReading`, `specs/FrameReading`), and the laws in `proofs/` say that these read exactly the
 //! grammar of `apply_ast` within the limits of `specs/Limits`.
 #![tactic(auto)]
@@ -23,8 +24,6 @@ mod paths;
 mod pipelines;
 mod refusals;
 mod requests;
-#[cfg(test)]
-mod tests;
 mod words;
 
 pub use expressions::{OPEN_MAX, OPERATIONS_MAX, one_expression, read_expr};

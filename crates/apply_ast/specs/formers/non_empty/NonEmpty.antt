@@ -1,7 +1,7 @@
 -- `NonEmpty` as a type that may hold the type that holds it.
-use Rattle.std.specs.Prelude.{◌≡◌, ◌<◌, length}
+use Rattle.std.specs.Prelude.{◌≡◌, ◌<◌}
 use mathlib.Core.Path.{refl, sym, subst}
-use mathlib.Core.List.{List, []}
+use mathlib.Core.List.{List}
 use mathlib.Core.Former.{Former, this, list, via, children}
 use native.Mathlib.Bridge.{le_prop}
 use base.Stored.{code_map}
