@@ -11,7 +11,8 @@ use Rattle.edm_model.specs.LookUps.{set_name}
 use Rattle.edm_data.specs.Worlds.{entity_at}
 use Rattle.edm_data.specs.DataFile.{DataReading}
 use Rattle.apply_serve.specs.Loads.{RefusedData, judged_data}
-use Rattle.apply_serve.specs.DataRefusals.{name_at, fault_line, IsLineOf}
+use Rattle.apply_serve.specs.DataRefusals.{IsLineOf}
+use Rattle.apply_serve.specs.Responses.{data_line, fault_line, json_string}
 use Rattle.edm_data.specs.Refusals.{Tells}
 use Rattle.edm_data.specs.declared.DataRefused.{DataRefused}
 use Rattle.edm_data.specs.declared.DataRefused.TheVariants as refused
@@ -22,22 +23,57 @@ slice_get-map f (x ∷ xs) zero = refl
 slice_get-map f (x ∷ xs) (suc k) = slice_get-map f xs k
 
 -- the name of a set of the model
-named : (m : Model) (names : List (List ℕ)) (s : ℕ) → names ≡ map (λ (e : EntitySet). e.name) m.sets → name_at names s ≡ set_name m s
-named m names s h =
-    ap (λ (ns : List (List ℕ)). name_at ns s) h ∙ ap (λ (o : Option (List ℕ)). unwrap_or o []) (slice_get-map (λ (e : EntitySet). e.name) m.sets s)
+named : (m : Model) (names : List (List ℕ)) (s : ℕ) (name : List ℕ) → map (λ (e : EntitySet). e.name) m.sets ≡ names → name ≡ unwrap_or (slice_get names s) [] → name ≡ set_name m s
+named m names s name h e =
+    e ∙ ap (λ (ns : List (List ℕ)). unwrap_or (slice_get ns s) []) (sym h) ∙ ap (λ (o : Option (List ℕ)). unwrap_or o []) (slice_get-map (λ (e : EntitySet). e.name) m.sets s)
+
+-- ---- the line of each refusal
+
+module _ (names : List (List ℕ)) (line : List ℕ) where
+  pub too_long_line : line ≡ codes "data TooLong\n" → IsLineOf names refused.TooLong line
+  too_long_line l = record { told = λ m reading h t. l ∙ ap (data_line m) (sym t); no_memory = λ e. cc }
+
+  pub json_line : line ≡ codes "data Json\n" → IsLineOf names refused.Json line
+  json_line l = record { told = λ m reading h t. l ∙ ap (data_line m) (sym t); no_memory = λ e. cc }
+
+  pub set_line : (name : List ℕ) → line ≡ codes "data Set " ++ json_string name ++ codes "\n" → IsLineOf names (refused.Set name) line
+  set_line name l = record { told = λ m reading h t. l ∙ ap (data_line m) (sym t); no_memory = λ e. cc }
+
+  module _ (s k : ℕ) (name : List ℕ) (is : name ≡ unwrap_or (slice_get names s) []) where
+    pub shape_line : line ≡ fault_line (codes "Shape") name k → IsLineOf names (refused.Shape s k) line
+    shape_line l = record {
+      told = λ m reading h t. l ∙ ap (λ n. fault_line (codes "Shape") n k) (named m names s name h is) ∙ ap (data_line m) (sym t);
+      no_memory = λ e. cc;
+    }
+
+    pub twice_key_line : line ≡ fault_line (codes "TwiceKey") name k → IsLineOf names (refused.TwiceKey s k) line
+    twice_key_line l = record {
+      told = λ m reading h t. l ∙ ap (λ n. fault_line (codes "TwiceKey") n k) (named m names s name h is) ∙ ap (data_line m) (sym t);
+      no_memory = λ e. cc;
+    }
+
+    pub dangling_line : line ≡ fault_line (codes "Dangling") name k → IsLineOf names (refused.Dangling s k) line
+    dangling_line l = record {
+      told = λ m reading h t. l ∙ ap (λ n. fault_line (codes "Dangling") n k) (named m names s name h is) ∙ ap (data_line m) (sym t);
+      no_memory = λ e. cc;
+    }
+
+pub ruleset line_forms = (too_long_line, json_line, set_line, shape_line, twice_key_line, dangling_line)
+
+-- a refusal that tells the reading has its line
+judged : (m : Model) (e : DataRefused) (reading : DataReading) → (e ≡ refused.Memory → ⊥) → Tells e reading → judged_data m reading ≡ RefusedData (data_line m reading)
+judged m refused.TooLong reading some t = rw t refl
+judged m refused.Json reading some t = rw t refl
+judged m (refused.Set name) reading some t = rw t refl
+judged m (refused.Shape s k) reading some t = rw t refl
+judged m (refused.TwiceKey s k) reading some t = rw t refl
+judged m (refused.Dangling s k) reading some t = rw t refl
+judged m refused.Memory reading some t = absurd (some refl)
 
 -- the line of a refusal is that of the reading
 pub line_told : (m : Model) (names : List (List ℕ)) (e : DataRefused) (line : List ℕ) (reading : DataReading) → names ≡ map (λ (s : EntitySet). s.name) m.sets → IsLineOf names e line → Tells e reading → judged_data m reading ≡ RefusedData line
-line_told m names refused.TooLong line reading h l r = ap (judged_data m) r ∙ ap RefusedData (sym l)
-line_told m names refused.Json line reading h l r = ap (judged_data m) r ∙ ap RefusedData (sym l)
-line_told m names (refused.Set name) line reading h l r = ap (judged_data m) r ∙ ap RefusedData (sym l)
-line_told m names (refused.Shape s k) line reading h l r =
-    ap (judged_data m) r ∙ ap RefusedData (ap (λ n. fault_line (codes "Shape") n k) (sym (named m names s h)) ∙ sym l)
-line_told m names (refused.TwiceKey s k) line reading h l r =
-    ap (judged_data m) r ∙ ap RefusedData (ap (λ n. fault_line (codes "TwiceKey") n k) (sym (named m names s h)) ∙ sym l)
-line_told m names (refused.Dangling s k) line reading h l r =
-    ap (judged_data m) r ∙ ap RefusedData (ap (λ n. fault_line (codes "Dangling") n k) (sym (named m names s h)) ∙ sym l)
-line_told m names refused.Memory line reading h l r = absurd l
+line_told m names e line reading h l t =
+    judged m e reading l.no_memory t ∙ ap RefusedData (sym (l.told m reading (sym h) t))
 
 -- the set at a place
 pub set_at : (n k s : ℕ) (xs : List ℕ) → xs ≡ places n → k < length xs → s ≡ get_or xs k s → (s ≡ k) × (k < n)

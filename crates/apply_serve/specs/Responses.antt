@@ -66,9 +66,13 @@ model_line ModelReading.TooLong = codes "model TooLong\n"
 model_line ModelReading.NoJson = codes "model Json\n"
 model_line ModelReading.NoModel = codes "model Model\n"
 
--- the line of an entity at fault
+-- the line of an entity at fault: what is wrong, the name of its set and its place
+abbrev pub fault_line : List ℕ → List ℕ → ℕ → List ℕ
+fault_line word name at = codes "data " ++ word ++ codes " " ++ json_string name ++ codes " " ++ decimal at ++ codes "\n"
+
+-- the same, of an entity of a model's sets
 abbrev pub entity_line : List ℕ → Model → Entity → List ℕ
-entity_line word m e = codes "data " ++ word ++ codes " " ++ json_string (set_name m e.set) ++ codes " " ++ decimal e.at ++ codes "\n"
+entity_line word m e = fault_line word (set_name m e.set) e.at
 
 -- the line of a refused data file, and nothing for a world
 abbrev pub data_line : Model → DataReading → List ℕ

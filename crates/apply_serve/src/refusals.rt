@@ -1,6 +1,6 @@
 //! The lines of refused data files.
-ghost use Rattle.std.specs.Prelude.{◌≡◌, ◌++◌, ℕ, IfOk, map, slice_get, unwrap_or, string_bytes, decimal, codes, []};
-ghost use Rattle.apply_serve.specs.Responses.{json_string};
+ghost use Rattle.std.specs.Prelude.{◌≡◌, ◌++◌, ℕ, IfOk, map, slice_get, unwrap_or, string_bytes, codes, []};
+ghost use Rattle.apply_serve.specs.Responses.{json_string, fault_line};
 ghost use Rattle.apply_serve.specs.DataRefusals.{IsLineOf};
 
 use edm_data::DataRefused;
@@ -39,7 +39,7 @@ fn json_text(alloc: Global, name: &str) -> Result<String, AllocError>
 
 /// The line of an entity at fault.
 fn entity_line(alloc: Global, word: &str, name: &str, at: u32) -> Result<Vec<u8>, AllocError>
-    ensures { IfOk result (λ l. l.items ≡ codes "data " ++ word.now ++ codes " " ++ json_string name.now ++ codes " " ++ decimal at ++ codes "\n") }
+    ensures { IfOk result (λ l. l.items ≡ fault_line word.now name.now at) }
 {
     let mut line = Vec::new(alloc);
     line.extend_from_slice(b"data ")?;
@@ -67,6 +67,7 @@ fn set_line(alloc: Global, name: &str) -> Result<Vec<u8>, AllocError>
 }
 
 /// The line of a refused data file over a model with sets of these names.
+#[tactic(auto, using(crate::proofs::SetNames::line_forms))]
 pub fn data_line(
     alloc: Global,
     names: &[String],

@@ -54,19 +54,19 @@ fn run<F: Folder, S: Source, K: Sink>(
 ) -> Status
     requires { limit ≡ input_limit }
     ensures { Says (record {
-        words = texts_of words.now;
-        files = F.files folder.old;
-        folder_faults = F.fault_count folder.old;
-        folder_faults_after = F.fault_count folder.new;
-        left = S.left input.old;
-        left_after = S.left input.new;
-        input_faults = S.fault_count input.old;
-        input_faults_after = S.fault_count input.new;
-        held = K.held output.old;
-        held_after = K.held output.new;
-        output_faults = K.fault_count output.old;
-        output_faults_after = K.fault_count output.new;
-        status = result;
+      words = texts_of words.now;
+      files = F.files folder.old;
+      folder_faults = F.fault_count folder.old;
+      folder_faults_after = F.fault_count folder.new;
+      left = S.left input.old;
+      left_after = S.left input.new;
+      input_faults = S.fault_count input.old;
+      input_faults_after = S.fault_count input.new;
+      held = K.held output.old;
+      held_after = K.held output.new;
+      output_faults = K.fault_count output.old;
+      output_faults_after = K.fault_count output.new;
+      status = result;
     }) (F.is_steady folder.old) (folder.new ≡ folder.old) (input.new ≡ input.old) (output.new ≡ output.old) }
 {
     let Some(names) = file_names(words) else {
@@ -118,19 +118,19 @@ pub fn serve<R: Threads + Sync, F: Folder, S: Source, K: Sink, L: Ledger>(
 
     // What each status says of the run.
     ensures says { Says (record {
-        words = texts_of words.now;
-        files = F.files folder.old;
-        folder_faults = F.fault_count folder.old;
-        folder_faults_after = F.fault_count folder.new;
-        left = S.left input.old;
-        left_after = S.left input.new;
-        input_faults = S.fault_count input.old;
-        input_faults_after = S.fault_count input.new;
-        held = K.held output.old;
-        held_after = K.held output.new;
-        output_faults = K.fault_count output.old;
-        output_faults_after = K.fault_count output.new;
-        status = result;
+      words = texts_of words.now;
+      files = F.files folder.old;
+      folder_faults = F.fault_count folder.old;
+      folder_faults_after = F.fault_count folder.new;
+      left = S.left input.old;
+      left_after = S.left input.new;
+      input_faults = S.fault_count input.old;
+      input_faults_after = S.fault_count input.new;
+      held = K.held output.old;
+      held_after = K.held output.new;
+      output_faults = K.fault_count output.old;
+      output_faults_after = K.fault_count output.new;
+      status = result;
     }) (F.is_steady folder.old) (folder.new ≡ folder.old) (input.new ≡ input.old) (output.new ≡ output.old) }
 
     // A file that is refused is told so.

@@ -478,13 +478,34 @@ fn other_words_are_told_the_usage(rt: HostRuntime) -> Result<(), Fail> {
 #[test]
 fn a_request_is_built_where_it_asks_for_one_sum_of_a_property(rt: HostRuntime) -> Result<(), Fail> {
     for (line, name) in [
-        (b"Sales?$apply=aggregate(Amount with sum as Total)".as_slice(), Some("Total")),
-        (b"Shops?$apply=aggregate(Nope with sum as T)".as_slice(), Some("T")),
-        (b"explain Sales?$apply=aggregate(Amount with sum as T)".as_slice(), None),
-        (b"Sales?$apply=aggregate(Amount with max as T)".as_slice(), None),
-        (b"Sales?$apply=aggregate(Customer/Name with sum as T)".as_slice(), None),
-        (b"Sales?$apply=aggregate(Amount with sum as T,$count as N)".as_slice(), None),
-        (b"Sales?$apply=aggregate(Amount with sum as T)/identity".as_slice(), None),
+        (
+            b"Sales?$apply=aggregate(Amount with sum as Total)".as_slice(),
+            Some("Total"),
+        ),
+        (
+            b"Shops?$apply=aggregate(Nope with sum as T)".as_slice(),
+            Some("T"),
+        ),
+        (
+            b"explain Sales?$apply=aggregate(Amount with sum as T)".as_slice(),
+            None,
+        ),
+        (
+            b"Sales?$apply=aggregate(Amount with max as T)".as_slice(),
+            None,
+        ),
+        (
+            b"Sales?$apply=aggregate(Customer/Name with sum as T)".as_slice(),
+            None,
+        ),
+        (
+            b"Sales?$apply=aggregate(Amount with sum as T,$count as N)".as_slice(),
+            None,
+        ),
+        (
+            b"Sales?$apply=aggregate(Amount with sum as T)/identity".as_slice(),
+            None,
+        ),
         (b"Sales?$apply=identity".as_slice(), None),
     ] {
         let request = read_request(rt.alloc(), line)?;
