@@ -152,3 +152,14 @@ column-null at vs n below = ap (map value_or_null) (kept-none at vs n below) ∙
 
 pub length-column : (at : List ℕ) (vs : List Value) (n : ℕ) → length (column_values at vs n) ≡ n
 length-column at vs n = length-map (kept at vs n) value_or_null ∙ length-kept at vs n
+
+-- ---- what is kept for a place, in a list that is kept
+
+pub kept_found : {X : Type 0} (at : List ℕ) (xs : List X) (n k i : ℕ) (x : X) → AreBelow n at → position (nat_eq k) at ≡ Some i → i < length xs → x ≡ get_or xs i x → unwrap_or (slice_get (kept at xs n) k) None ≡ Some x
+kept_found at xs n k i x below found within item = kept_there at xs n k below ∙ ap (option_and_then (slice_get xs)) found ∙ slice_get_read xs (length xs) i x refl within item
+
+pub kept_empty : {X : Type 0} (at : List ℕ) (xs : List X) (n k : ℕ) → AreBelow n at → position (nat_eq k) at ≡ None → unwrap_or (slice_get (kept at xs n) k) None ≡ None
+kept_empty at xs n k below found = kept_there at xs n k below ∙ ap (option_and_then (slice_get xs)) found
+
+pub found_within : (p : ℕ → Bool) (at : List ℕ) (i : ℕ) → position p at ≡ Some i → i < length at
+found_within p at i found = (position-Some p at i 0 found).0

@@ -8,14 +8,15 @@ pub mod GroupLemmas
 pub mod JsonValueLemmas
 pub mod KeyOrderLemmas
 pub mod KeyedLemmas
-pub mod LinkLemmas
 pub mod LinkedLemmas
 pub mod LoadLemmas
 pub mod PlaceLemmas
 pub mod ReferenceLemmas
+pub mod RelationLemmas
 pub mod SearchLemmas
 pub mod SeenKeys
 pub mod ShapeLemmas
+pub mod SharedLemmas
 pub mod TableLemmas
 pub mod TextLemmas
 pub mod TreeLemmas

@@ -7,9 +7,9 @@ use Rattle.std.specs.List.{slice_get, find}
 use Rattle.std.proofs.lemmas.Bool.{cases_lt}
 use Rattle.std.proofs.lemmas.Option.{slice_get_past}
 use Rattle.edm_data.specs.Worlds.{World, entity_at, all_places}
-use Rattle.edm_data.specs.References.{count, follow, referred}
+use Rattle.edm_data.specs.References.{count}
 use Rattle.edm_data.specs.Fitting.{FitsModel}
-use Rattle.edm_data.specs.Links.{Links, AreLinks, HasLinks, IsFirstDangling, link_at, links_of}
+use Rattle.edm_data.specs.Links.{IsFirstDangling}
 use Rattle.edm_data.specs.DataFile.{World', Dangling, unless_found, is_dangling, references_reading}
 use Rattle.edm_data.specs.Refusals.{Tells}
 use Rattle.edm_data.specs.declared.DataRefused.{DataRefused}
@@ -38,24 +38,3 @@ references_dangling w s k sound first =
 pub Tells-dangling : (w : World) (s : ℕ) (e : LinksRefused) (r : DataRefused) → ((k : ℕ) → e ≡ LinksRefused.Dangling k → r ≡ DataRefused.Dangling s k) → (e ≡ LinksRefused.Memory → r ≡ DataRefused.Memory) → ((j : ℕ) → j < s → AreSound w j) → ((k : ℕ) → e ≡ LinksRefused.Dangling k → IsFirstDangling w s k) → Tells r (references_reading w)
 Tells-dangling w s (LinksRefused.Dangling k) r dangling memory sound first = subst (λ x. Tells x (references_reading w)) (sym (dangling k refl)) (references_dangling w s k sound (first k refl))
 Tells-dangling w s LinksRefused.Memory r dangling memory sound first = subst (λ x. Tells x (references_reading w)) (sym (memory refl)) tt
-
--- the references of one set more
-pub sets-more : (w : World) (old new : Vec Links Global) (links : Links) (i : ℕ) → new.items ≡ old.items ++ links ∷ [] → length old.items ≡ i → AreLinks w i links → ((s : ℕ) → s < i → (k n : ℕ) → links_of old s k n ≡ follow w (entity_at s k) n) → (s : ℕ) → s < i + 1 → (k n : ℕ) → links_of new s k n ≡ follow w (entity_at s k) n
-sets-more w old new links i grown size here before s h k n = ⊎_elim
-    (λ less. ap (λ o. unwrap_or (option_map (λ l. link_at l k n) o) None) (ap (λ l. slice_get l s) grown ∙ slice_get-push_before old.items links s (omega (arith, less))) ∙ before s less k n)
-    (λ more. let same : s ≡ length old.items = omega (arith, more) in ap (λ o. unwrap_or (option_map (λ l. link_at l k n) o) None) (ap (λ l. slice_get l s) grown ∙ ap (slice_get (old.items ++ links ∷ [])) same ∙ slice_get-push_at old.items links) ∙ here.each k n ∙ ap (λ j. follow w (entity_at j k) n) (sym (same ∙ size)))
-    (cases_lt s i)
-
-no_follow : (w : World) (s k n : ℕ) → length w.model.sets ≤ s → follow w (entity_at s k) n ≡ None
-no_follow w s k n h = ap (λ o. option_and_then (λ x. if x.many then None else referred w (entity_at s k) x) (option_and_then (λ t. slice_get t.navigations n) (option_and_then (λ es. slice_get w.model.types es.of) o))) (slice_get_past w.model.sets s h)
-
--- the references of all sets
-pub HasLinks-all : (w : World) (sets : Vec Links Global) (i : ℕ) → length w.model.sets ≤ i → length sets.items ≡ i → ((s : ℕ) → s < i → (k n : ℕ) → links_of sets s k n ≡ follow w (entity_at s k) n) → HasLinks w sets
-HasLinks-all w sets i all size each = record {
-  each = λ s k n. ⊎_elim (λ less. each s less k n)
-      (λ more.
-      let far : length sets.items ≤ s = omega (arith, more) in
-      let past : length w.model.sets ≤ s = omega (arith, more) in
-      ap (λ o. unwrap_or (option_map (λ l. link_at l k n) o) None) (slice_get_past sets.items s far) ∙ sym (no_follow w s k n past))
-      (cases_lt s i);
-}

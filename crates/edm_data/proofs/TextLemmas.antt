@@ -32,7 +32,7 @@ text_last xs ys n is =
     let size : (length xs + length ys) - length xs ≡ length ys = omega arith in
     rw (is, size, drop-append_seam xs ys) (take_all (length ys) ys (omega arith))
 
-all_push : {X : Type 0} (P : X → Type 0) (xs : List X) (x : X) → AllByRecursion P xs → P x → AllByRecursion P (xs ++ x ∷ [])
+pub all_push : {X : Type 0} (P : X → Type 0) (xs : List X) (x : X) → AllByRecursion P xs → P x → AllByRecursion P (xs ++ x ∷ [])
 all_push P [] x all here = (here, tt)
 all_push P (y ∷ xs) x all here = (all.0, all_push P xs x all.1 here)
 

@@ -13,10 +13,12 @@ pub mod KeptOrders
 pub mod KeptValues
 pub mod KeyOrders
 pub mod Keys
+pub mod LinkLists
 pub mod Links
 pub mod Nodes
 pub mod References
 pub mod Refusals
 pub mod Rows
+pub mod SharedRelations
 pub mod TextSpans
 pub mod Worlds

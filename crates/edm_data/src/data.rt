@@ -9,9 +9,9 @@ ghost use Rattle.edm_data.specs.References as world;
 ghost use Rattle.edm_data.specs.Refusals.{Tells};
 ghost use Rattle.edm_data.specs.Worlds.{entity_at};
 
-use crate::groups::{all_groups, group_of, link_of};
 use crate::keyed::Keyed;
-use crate::references::all_links;
+use crate::references::all_relations;
+use crate::relations::{Relations, relation_of};
 use crate::{DataRefused, EntityRef};
 use edm_model::{NavId, PropId, SetId};
 use edm_values::Seen;
@@ -21,8 +21,7 @@ use std::alloc::{AllocError, Global};
 #[derive(Drop)]
 pub struct Data {
     keyed: Keyed,
-    links: Vec<Vec<Vec<Option<EntityRef>>>>,
-    groups: Vec<Vec<Vec<Vec<u32>>>>,
+    relations: Vec<Relations>,
 }
 
 impl std::marker::Model for Data {
@@ -33,7 +32,7 @@ impl std::marker::Model for Data {
 
     ghost view = { λ d. d.keyed };
 
-    ghost invariant = { λ d. HasReferences d.keyed d.links d.groups };
+    ghost invariant = { λ d. HasReferences d.keyed d.relations.items };
 }
 
 impl Data {
@@ -43,17 +42,9 @@ impl Data {
         ensures sound { OnOk result (references_reading keyed ≡ World' keyed) }
         ensures refused { IfErr result (λ refused. Tells refused (references_reading keyed)) }
     {
-        let links = match all_links(alloc, &keyed) {
-            Ok(links) => links,
-            Err(refused) => return Err(refused),
-        };
-        match all_groups(alloc, &keyed, &links) {
-            Ok(groups) => Ok(Data {
-                keyed,
-                links,
-                groups,
-            }),
-            Err(_) => Err(DataRefused::Memory),
+        match all_relations(alloc, &keyed) {
+            Ok(relations) => Ok(Data { keyed, relations }),
+            Err(refused) => Err(refused),
         }
     }
 
@@ -64,7 +55,7 @@ impl Data {
         ensures distinct { keys_reading self.now ≡ World' self.now }
         ensures sound { references_reading self.now ≡ World' self.now }
     {
-        let _ = &self.links;
+        let _ = &self.relations;
         self.keyed.tables().model()
     }
 
@@ -86,7 +77,10 @@ impl Data {
     pub fn follow(&self, e: EntityRef, n: NavId) -> Option<EntityRef>
         ensures { result ≡ world.follow self.now e n.at }
     {
-        link_of(&self.links, e.set, e.at, n.place())
+        match relation_of(&self.relations, e.set, n.place()) {
+            Some(relation) => relation.follow(e.at),
+            None => None,
+        }
     }
 
     /// The entity of a set that has this key.
@@ -107,14 +101,25 @@ impl Data {
     {
         let model = self.model();
         let set = model.type_set(model.nav_target(n));
-        entities_at(*self.groups.allocator(), set, self.places(e, n))
+        entities_at(*self.relations.allocator(), set, self.places(e, n))
     }
 
     /// The places of the entities that a navigation relates an entity to.
     fn places(&self, e: EntityRef, n: NavId) -> &[u32]
+        requires set { IsSet self.now.model e.set }
+        requires of { n.of ≡ set_type self.now.model e.set }
+        requires there { IsNavigation self.now.model n }
         ensures { IsGroup self.now e.set n.at e.at result.now }
     {
-        group_of(&self.groups, e.set, n.place(), e.at)
+        let model = self.model();
+        if !model.nav_many(n) {
+            return &[];
+        }
+        let from = model.type_set(model.nav_target(n));
+        match relation_of(&self.relations, from, model.nav_partner(n).place()) {
+            Some(relation) => relation.linking(e),
+            None => &[],
+        }
     }
 }
 

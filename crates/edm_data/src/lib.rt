@@ -15,14 +15,15 @@
 mod columns;
 mod data;
 mod entities;
-mod groups;
 mod json_values;
 mod key_order;
 mod keyed;
 mod keys;
+mod links;
 mod load;
 mod places;
 mod references;
+mod relations;
 mod table;
 mod tables;
 mod texts;
