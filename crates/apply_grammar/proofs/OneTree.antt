@@ -1,13 +1,12 @@
 -- A text has at most one expression, and at most one pipeline.
-use Rattle.std.proofs.Common.{◌≡◌, ℕ, ◌+◌, ◌≤◌, ◌==◌, Bool, true, false, ◌&&◌, List, [], ◌∷◌, Result, Ok, refl, sym, ◌∙◌, arith}
+use Rattle.std.proofs.Common.{◌≡◌, ℕ, ◌+◌, ◌≤◌, ◌==◌, Bool, true, false, ◌&&◌, List, [], ◌∷◌, refl, sym, ◌∙◌, arith}
 use Rattle.std.specs.Prelude.{count_by}
 use Rattle.std.specs.List.{list_all}
 use Rattle.std.proofs.lemmas.Bool.{le-leb}
-use Rattle.apply_ast.specs.Trees.{Expr, Named, OrderItem, AggItem, Pipe, Step, OptPipe, Pipes, Key, Keys}
+use Rattle.apply_ast.specs.Trees.{Expr, AggItem, Pipe, Step, OptPipe, Pipes, Key, Keys}
 use Rattle.apply_ast.specs.Grammar.{Text, expr_text}
 use Rattle.apply_ast.specs.Counts.{step_count}
 use Rattle.apply_grammar.specs.Limits.{Bounds, outside, IsShallow, operations, is_small, agg_small, all_small, inner_small, branches_small, key_small, keys_small, step_small}
-use Rattle.apply_grammar.specs.Reading.{whole_expr}
 use Rattle.apply_grammar.proofs.Runs.{both_true, some_is}
 use Rattle.apply_grammar.proofs.Nested.{SmallExpr}
 use Rattle.apply_grammar.proofs.ShallowTexts.{few_are_shallow}
