@@ -19,8 +19,6 @@ mod ids;
 mod model;
 mod named;
 mod parts;
-#[cfg(test)]
-mod tests;
 
 pub use edm_values::Method;
 pub use file::{MODEL_LIMIT, ModelRefused, is_annotation, read_model};

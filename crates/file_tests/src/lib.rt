@@ -3,6 +3,10 @@
 #![tactic(auto)]
 
 #[cfg(test)]
+mod data;
+#[cfg(test)]
+mod models;
+#[cfg(test)]
 mod outside;
 #[cfg(test)]
 mod values;

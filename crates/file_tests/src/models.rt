@@ -2,7 +2,7 @@
 //! model files and from a program that was written apart from this one.
 ghost use Rattle.edm_model.specs.LookUps.{IsSet, IsNavigation};
 
-use crate::{Method, Model, ModelRefused, NavId, SetId, read_model};
+use edm_model::{Method, Model, ModelRefused, NavId, SetId, read_model};
 use edm_values::EdmType;
 use std::alloc::Global;
 use std::process::Abort;

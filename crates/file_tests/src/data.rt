@@ -1,0 +1,263 @@
+//! Worked examples of data files. The expected answers come from the rules of the data file.
+ghost use Rattle.std.specs.Prelude.{◌≡◌, IfSome};
+ghost use Rattle.edm_model.specs.LookUps.{IsSet, IsNavigation, set_type};
+
+use edm_data::{Data, DataRefused, EntityRef, read_data};
+use edm_model::{Model, NavId, SetId, read_model};
+use edm_values::Seen;
+use std::alloc::Global;
+use std::test::Fail;
+
+/// Organisations, each with a parent.
+const MODEL: &str =
+    "{\"$Version\":\"4.01\",\"$EntityContainer\":\"S.C\",\"S\":{\"Org\":{\"$Kind\":\"EntityType\",\"$Key\":[\"ID\"],\"ID\":{},\"ParentID\":{\"$Nullable\":true},\"Level\":{\"$Type\":\"Edm.Int64\",\"$Nullable\":true},\"Size\":{\"$Type\":\"Edm.Decimal\",\"$Scale\":2,\"$Precision\":4,\"$Nullable\":true},\"Parent\":{\"$Kind\":\"NavigationProperty\",\"$Type\":\"S.Org\",\"$ReferentialConstraint\":{\"ParentID\":\"ID\"}}},\"C\":{\"$Kind\":\"EntityContainer\",\"Orgs\":{\"$Collection\":true,\"$Type\":\"S.Org\"}}}}";
+
+/// Sales to customers by organisations, each organisation below another or none.
+const SALES_MODEL: &str =
+    "{\"$Version\":\"4.01\",\"$EntityContainer\":\"W.C\",\"W\":{\"Sale\":{\"$Kind\":\"EntityType\",\"$Key\":[\"ID\"],\"ID\":{\"$Type\":\"Edm.Int64\"},\"CustomerID\":{},\"OrgID\":{\"$Nullable\":true},\"Customer\":{\"$Kind\":\"NavigationProperty\",\"$Type\":\"W.Customer\",\"$Partner\":\"Sales\",\"$ReferentialConstraint\":{\"CustomerID\":\"ID\"}},\"Org\":{\"$Kind\":\"NavigationProperty\",\"$Type\":\"W.Org\",\"$ReferentialConstraint\":{\"OrgID\":\"ID\"}}},\"Customer\":{\"$Kind\":\"EntityType\",\"$Key\":[\"ID\"],\"ID\":{},\"Sales\":{\"$Kind\":\"NavigationProperty\",\"$Collection\":true,\"$Type\":\"W.Sale\",\"$Partner\":\"Customer\"}},\"Org\":{\"$Kind\":\"EntityType\",\"$Key\":[\"ID\"],\"ID\":{},\"ParentID\":{\"$Nullable\":true},\"Superordinate\":{\"$Kind\":\"NavigationProperty\",\"$Type\":\"W.Org\",\"$ReferentialConstraint\":{\"ParentID\":\"ID\"}}},\"C\":{\"$Kind\":\"EntityContainer\",\"Sales\":{\"$Collection\":true,\"$Type\":\"W.Sale\"},\"Customers\":{\"$Collection\":true,\"$Type\":\"W.Customer\"},\"Orgs\":{\"$Collection\":true,\"$Type\":\"W.Org\"}}}}";
+
+/// Six sales, the fifth without an organisation; the last customer has none, and two organisations have no parent.
+const SALES: &str =
+    "{\"Customers\":[{\"ID\":\"C1\"},{\"ID\":\"C2\"},{\"ID\":\"C3\"},{\"ID\":\"C4\"}],\"Orgs\":[{\"ID\":\"Corp\"},{\"ID\":\"EMEA\",\"ParentID\":\"Corp\"},{\"ID\":\"US\",\"ParentID\":\"Corp\"},{\"ID\":\"West\",\"ParentID\":\"US\"},{\"ID\":\"East\",\"ParentID\":\"US\"},{\"ID\":\"Lab\"}],\"Sales\":[{\"ID\":1,\"CustomerID\":\"C1\",\"OrgID\":\"West\"},{\"ID\":\"2\",\"CustomerID\":\"C1\",\"OrgID\":\"East\"},{\"ID\":\"3\",\"CustomerID\":\"C2\",\"OrgID\":\"EMEA\"},{\"ID\":\"4\",\"CustomerID\":\"C3\",\"OrgID\":\"West\"},{\"ID\":\"5\",\"CustomerID\":\"C2\"},{\"ID\":\"6\",\"CustomerID\":\"C1\",\"OrgID\":\"US\"}]}";
+
+/// The six sales.
+fn sales(alloc: Global) -> Option<Data> {
+    let Ok(model) = read_model(alloc, SALES_MODEL.as_bytes()) else {
+        return None;
+    };
+    match read_data(alloc, model, SALES.as_bytes()) {
+        Ok(data) => Some(data),
+        Err(_) => None,
+    }
+}
+
+/// The navigation at this place of a set's type, in byte order of names.
+fn nav_at(model: &Model, s: SetId, n: usize) -> Option<NavId>
+    requires { IsSet model.now s }
+    ensures of { IfSome result (λ nav. nav.of ≡ set_type model.now s) }
+    ensures there { IfSome result (IsNavigation model.now) }
+{
+    let navs = model.navs(model.set_type(s));
+    if n < navs.len() {
+        let nav = navs[n];
+        Some(nav)
+    } else {
+        None
+    }
+}
+
+/// The place of the entity of a set that has this key.
+fn place_of(store: &Data, set: &str, key: Seen<'_>) -> Option<u32> {
+    let s = store.model().set_named(set)?;
+    let found = store.by_key(s, key)?;
+    Some(found.at)
+}
+
+/// The place of what the entity at place `k` of a set refers to by the navigation at place `n`.
+fn followed(store: &Data, set: &str, k: u32, n: usize) -> Option<u32> {
+    let s = store.model().set_named(set)?;
+    let nav = nav_at(store.model(), s, n)?;
+    let found = store.follow(EntityRef { set: s, at: k }, nav)?;
+    Some(found.at)
+}
+
+/// The entities that the navigation at place `n` relates the entity at place `k` of a set to.
+fn related(store: &Data, set: &str, k: u32, n: usize) -> Option<Vec<EntityRef>> {
+    let s = store.model().set_named(set)?;
+    let nav = nav_at(store.model(), s, n)?;
+    match store.related(EntityRef { set: s, at: k }, nav) {
+        Ok(found) => Some(found),
+        Err(_) => None,
+    }
+}
+
+#[test]
+fn finds_entities_by_key(rt: HostRuntime) -> Result<(), Fail> {
+    let Some(store) = sales(rt.alloc()) else {
+        assert_eq!(rt; "no world", "a world");
+        return Ok(());
+    };
+    let rows = [
+        ("Sales", Seen::Int(1), Some(0)),
+        ("Sales", Seen::Int(5), Some(4)),
+        ("Sales", Seen::Int(7), None),
+        ("Sales", Seen::Text("5"), None),
+        ("Orgs", Seen::Text("Corp"), Some(0)),
+        ("Orgs", Seen::Text("Lab"), Some(5)),
+        ("Orgs", Seen::Text("lab"), None),
+        ("Orgs", Seen::Null, None),
+    ];
+    for (set, key, place) in rows {
+        assert_eq!(rt;
+            place_of(&store, set, key),
+            place,
+            "the key {key:?} in {set}"
+        );
+    }
+    Ok(())
+}
+
+#[test]
+fn follows_references(rt: HostRuntime) -> Result<(), Fail> {
+    let Some(store) = sales(rt.alloc()) else {
+        assert_eq!(rt; "no world", "a world");
+        return Ok(());
+    };
+    let rows = [
+        ("Sales", 0, 0, Some(0)),
+        ("Sales", 3, 0, Some(2)),
+        ("Sales", 0, 1, Some(3)),
+        ("Sales", 4, 1, None),
+        ("Orgs", 0, 0, None),
+        ("Orgs", 4, 0, Some(2)),
+        ("Customers", 0, 0, None),
+        ("Sales", 6, 0, None),
+    ];
+    for (set, k, n, place) in rows {
+        assert_eq!(rt;
+            followed(&store, set, k, n),
+            place,
+            "from {k} of {set} by {n}"
+        );
+    }
+    Ok(())
+}
+
+#[test]
+fn gives_related_entities_in_data_order(rt: HostRuntime) -> Result<(), Fail> {
+    let Some(store) = sales(rt.alloc()) else {
+        assert_eq!(rt; "no world", "a world");
+        return Ok(());
+    };
+    let sales = store.model().set_named("Sales");
+    let rows: [(&str, u32, &[u32]); 6] = [
+        ("Customers", 0, &[0, 1, 5]),
+        ("Customers", 1, &[2, 4]),
+        ("Customers", 2, &[3]),
+        ("Customers", 3, &[]),
+        ("Customers", 4, &[]),
+        ("Sales", 0, &[]),
+    ];
+    for (set, k, places) in rows {
+        let Some(found) = related(&store, set, k, 0) else {
+            assert_eq!(rt; "nothing", "a list");
+            return Ok(());
+        };
+        assert_eq!(rt; found.len(), places.len(), "from {k} of {set}");
+        for (entity, place) in found.iter().zip(places.iter()) {
+            assert_eq!(rt; Some(entity.set), sales, "from {k} of {set}");
+            assert_eq!(rt; entity.at, *place, "from {k} of {set}");
+        }
+    }
+    Ok(())
+}
+
+/// The name of what a file is, and the place of the entity that is told.
+fn outcome(alloc: Global, file: &[u8]) -> (&'static str, u32) {
+    let Ok(model) = read_model(alloc, MODEL.as_bytes()) else {
+        return ("NoModel", 0);
+    };
+    match read_data(alloc, model, file) {
+        Ok(_) => ("World", 0),
+        Err(DataRefused::TooLong) => ("TooLong", 0),
+        Err(DataRefused::Json) => ("Json", 0),
+        Err(DataRefused::Set(_)) => ("Set", 0),
+        Err(DataRefused::Shape(_, k)) => ("Shape", k),
+        Err(DataRefused::TwiceKey(_, k)) => ("TwiceKey", k),
+        Err(DataRefused::Dangling(_, k)) => ("Dangling", k),
+        Err(DataRefused::Memory) => ("Memory", 0),
+    }
+}
+
+#[test]
+fn tells_the_first_fault(rt: HostRuntime) -> Result<(), Fail> {
+    let rows = [
+        ("{}", "World", 0),
+        (
+            "{\"Orgs\":[{\"ID\":\"A\",\"ParentID\":\"B\"},{\"ID\":\"B\",\"ParentID\":null,\"x@y\":1}]}",
+            "World",
+            0,
+        ),
+        ("{\"Orgs\":[{\"ID\":\"A\"}", "Json", 0),
+        ("[]", "Json", 0),
+        ("{\"Shops\":[]}", "Set", 0),
+        ("{\"Orgs\":[],\"x@y\":[]}", "Set", 0),
+        ("{\"Orgs\":[{\"ID\":\"A\",\"@\":[1.5]}]}", "World", 0),
+        ("{\"Orgs\":[{\"ID\":\"A\",\"id\":\"a\"}]}", "Shape", 0),
+        ("{\"Orgs\":[{\"ID\":\"A\",\"Parent\":null}]}", "Shape", 0),
+        ("{\"Orgs\":{}}", "Set", 0),
+        ("{\"Orgs\":[{\"ID\":\"A\"},{\"ID\":null}]}", "Shape", 1),
+        (
+            "{\"Orgs\":[{\"ID\":\"A\"},{\"ParentID\":\"A\"}]}",
+            "Shape",
+            1,
+        ),
+        ("{\"Orgs\":[{\"ID\":\"A\",\"Other\":1}]}", "Shape", 0),
+        (
+            "{\"Orgs\":[{\"ID\":\"A\"},{\"ID\":\"B\"},{\"ID\":\"A\",\"ParentID\":\"Z\"}]}",
+            "TwiceKey",
+            2,
+        ),
+        (
+            "{\"Orgs\":[{\"ID\":\"A\"},{\"ID\":\"B\",\"ParentID\":\"Z\"}]}",
+            "Dangling",
+            1,
+        ),
+    ];
+    for (file, name, k) in rows {
+        let found = outcome(rt.alloc(), file.as_bytes());
+        assert_eq!(rt; found.0, name, "the file {file:?}");
+        assert_eq!(rt; found.1, k, "the place in {file:?}");
+    }
+    Ok(())
+}
+
+#[test]
+fn takes_whole_numbers_of_64_bits(rt: HostRuntime) -> Result<(), Fail> {
+    let rows = [
+        (
+            "{\"Orgs\":[{\"ID\":\"A\",\"Level\":-9223372036854775808}]}",
+            "World",
+        ),
+        ("{\"Orgs\":[{\"ID\":\"A\",\"Level\":\"+7\"}]}", "World"),
+        (
+            "{\"Orgs\":[{\"ID\":\"A\",\"Level\":9223372036854775808}]}",
+            "Shape",
+        ),
+        ("{\"Orgs\":[{\"ID\":\"A\",\"Level\":1.0}]}", "Shape"),
+        ("{\"Orgs\":[{\"ID\":\"A\",\"Level\":1e2}]}", "Shape"),
+        ("{\"Orgs\":[{\"ID\":\"A\",\"Level\":-0}]}", "Shape"),
+        ("{\"Orgs\":[{\"ID\":\"A\",\"Level\":1e300}]}", "Shape"),
+        ("{\"Orgs\":[{\"ID\":\"A\",\"Level\":1e400}]}", "Json"),
+        ("{\"Orgs\":[{\"ID\":\"A\",\"Level\":true}]}", "Shape"),
+        ("{\"Orgs\":[{\"ID\":\"A\",\"Size\":99}]}", "World"),
+        ("{\"Orgs\":[{\"ID\":\"A\",\"Size\":100}]}", "Shape"),
+        ("{\"Orgs\":[{\"ID\":\"A\",\"Size\":1.5}]}", "Shape"),
+        ("{\"Orgs\":[{\"ID\":\"A\",\"Size\":\"1e0\"}]}", "Shape"),
+        ("{\"Orgs\":[{\"ID\":\"A\",\"Size\":\"1.230\"}]}", "World"),
+        ("{\"Orgs\":[{\"ID\":\"A\",\"Size\":\"1.234\"}]}", "Shape"),
+    ];
+    for (file, name) in rows {
+        assert_eq!(rt;
+            outcome(rt.alloc(), file.as_bytes()).0,
+            name,
+            "the file {file:?}"
+        );
+    }
+    Ok(())
+}
+
+#[test]
+fn refuses_a_file_that_is_cut(rt: HostRuntime) -> Result<(), Fail> {
+    let file =
+        "{\"Orgs\":[{\"ID\":\"A\",\"ParentID\":null,\"Size\":\"1.5\"},{\"ID\":\"\\u00e9\"}]}".as_bytes();
+    for k in 0..file.len() {
+        assert_eq!(rt;
+            outcome(rt.alloc(), &file[..k]).0,
+            "Json",
+            "the first {k} bytes"
+        );
+    }
+    assert_eq!(rt; outcome(rt.alloc(), file).0, "World", "the whole file");
+    Ok(())
+}
