@@ -42,6 +42,7 @@ all_customs_there m = flat_all here (customs_in m) (length m.types) of_type (pla
   where
     here : Custom → Type 0
     here c = IsCustom m c.id
+
     of_type : (t : ℕ) → IsType m t → All here (customs_in m t)
     of_type t is =
         let n = length (customs_of_type m t) in
