@@ -1,9 +1,9 @@
 //! The trees of requests and their printed texts (Data Aggregation 4.0, section 3; URL Conventions 4.01, section 5.1.1).
 //!
 //! `names` has names and paths, `expressions` the expressions of filters and computations, `items` what stands in the
-//! parentheses of steps and holds no pipeline, and `steps` the pipelines themselves, over the lists of `non_empty`. A list inside a public type is a small
-//! type over `Vec`: made from one, read as a slice, and taken apart again without memory. `copies` copies each tree, and
-//! `expression_texts`, `item_texts` and `step_texts` print them.
+//! parentheses of steps and holds no pipeline, `non_empty` lists that are not empty, and `steps` the pipelines themselves. A
+//! list inside a public type is a small type over `Vec`: made from one, read as a slice, and taken apart again without
+//! memory. `copies` copies each tree, and `expression_texts`, `item_texts` and `step_texts` print them.
 //!
 //! The crate stands on `edm_values` for literals and simple identifiers. Definitions are over the mathematical trees of
 //! `specs/Trees`; `specs/Views` leads from a value of the program to its tree, and two values are the same where their trees

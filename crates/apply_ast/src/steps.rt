@@ -32,7 +32,7 @@ pub struct ClimbStep {
     pub keep: bool,
 }
 
-/// A key of a grouping: a path, the levels of a rollup (with the grand total first where the flag is true), or a recursive
+/// A key of a grouping: a path, the levels of a rollup (with the grand total last where the flag is true), or a recursive
 /// rollup.
 #[derive(Debug, Drop)]
 #[cycle(trees)]

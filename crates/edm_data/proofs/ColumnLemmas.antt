@@ -14,10 +14,10 @@ use Rattle.std.proofs.Math.Seq.{get_or-append_seam}
 use Rattle.std.proofs.lemmas.Option.{slice_get_read, get_or_from_slice_get, slice_get-map, slice_get-get_or, slice_get_past}
 use Rattle.std.proofs.lemmas.Bool.{cases_lt, lt-ltb, le-ltb}
 use Rattle.std.proofs.lemmas.Bool.Decides.{nat_tests}
-use Rattle.edm_values.specs.Lists.{places, first_some}
+use Rattle.edm_values.specs.Lists.{places}
 use Rattle.edm_values.specs.Values.{value_in}
 use Rattle.edm_values.specs.declared.Value.{Value}
-use Rattle.edm_data.proofs.KeyOrderLemmas.{position-push}
+use Rattle.edm_data.proofs.KeyOrderLemmas.{position-push, first_some-None}
 use Rattle.edm_data.specs.Columns.{AreBelow, AreRising, AreKept, kept_at, kept, value_or_null, column_values}
 use Rattle.edm_data.proofs.PlaceLemmas.{length-places, get_or-places, slice_get-push_before, slice_get-push_at}
 
@@ -65,10 +65,6 @@ none-search at k i r rising is search =
     position-absent (nat_eq k) at 0 (λ j within. ⊎_elim (λ below. let e = apart.1 j below in other k (get_or at j 0) e) (λ more. let e = apart.2 j more within in above k (get_or at j 0) e) (cases_lt j i))
 
 -- ---- one place more
-
-first_some-None : {X : Type 0} (o : Option X) → first_some o None ≡ o
-first_some-None None = refl
-first_some-None (Some x) = refl
 
 -- a place past those below a number is none of them
 pub absent : (at : List ℕ) (n k : ℕ) → AreBelow n at → n ≤ k → position (nat_eq k) at ≡ None

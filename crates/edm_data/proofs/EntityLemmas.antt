@@ -47,14 +47,6 @@ pub all_some-map : {X : Type 0} (xs : List X) → all_some (map Some xs) ≡ Som
 all_some-map [] = refl
 all_some-map (x ∷ xs) = rw (all_some-map xs) refl
 
-nat_eq-flip : (a b : ℕ) → nat_eq a b ≡ nat_eq b a
-nat_eq-flip a b = nat_eq_equiv.symm a b
-
--- the name holds the sign of annotations
-pub annotation_is : (name : List ℕ) → list_any (λ b. nat_eq b 64) name ≡ is_annotation name
-annotation_is [] = refl
-annotation_is (b ∷ name) = rw (nat_eq-flip b 64) (ap (λ r. nat_eq 64 b || r) (annotation_is name))
-
 -- ---- the properties of a type, one after another
 
 -- the property at a place of the type's list

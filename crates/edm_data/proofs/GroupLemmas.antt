@@ -33,18 +33,6 @@ filter-none p e (x ∷ xs) = rw (e x) (filter-none p e xs)
 
 -- ---- one group
 
--- by no navigation an entity is related to none
-pub IsGroup-no_navigation : (w : World) (s n k : ℕ) → navigation_at w.model s n ≡ None → IsGroup w s n k []
-IsGroup-no_navigation w s n k none = sym (ap (λ o. unwrap_or (option_map (λ v. if v.many then related_by w (entity_at s k) v else []) o) []) none)
-
--- nor by a single-valued one
-one_related : (w : World) (e : Entity) (o : Option Navigation) → option_map (λ v. v.many) o ≡ Some false → unwrap_or (option_map (λ v. if v.many then related_by w e v else []) o) [] ≡ []
-one_related w e None h = refl
-one_related w e (Some v) h = let one : v.many ≡ false = cc in rw one refl
-
-pub IsGroup-one : (w : World) (s k : ℕ) (n : Part) → IsSet w.model s → n.of ≡ set_type w.model s → option_map (λ v. v.many) (navigation_on w.model n) ≡ Some false → IsGroup w s n.at k []
-IsGroup-one w s k n there of one = sym (one_related w (entity_at s k) (navigation_at w.model s n.at) (rw (← nav_same w.model s n there of) one))
-
 -- by a collection-valued one it is related to those that are linked to it
 many_related : (w : World) (e : Entity) (t : ℕ) (p : Part) (o : Option Navigation) → option_map (λ v. v.many) o ≡ Some true → option_map (λ v. v.target) o ≡ Some t → option_map partner_of o ≡ Some p
     → map (entity_at (unwrap_or (option_map (λ v. set_of_type w.model v.target) o) 0)) (linking (λ k. follow w (entity_at (set_of_type w.model t) k) p.at) e (count w (set_of_type w.model t))) ≡ unwrap_or (option_map (λ v. if v.many then related_by w e v else []) o) []

@@ -43,7 +43,7 @@ position_from-cong p q same i (x ∷ xs) = rw (same x) (ap (cond (q x) (Some i))
 pub position-cong : {X : Type 0} (p q : X → Bool) → ((x : X) → p x ≡ q x) → (xs : List X) → position p xs ≡ position q xs
 position-cong p q same xs = position_from-zero p xs ∙ position_from-cong p q same 0 xs ∙ sym (position_from-zero q xs)
 
-first_some-None : {X : Type 0} (o : Option X) → first_some o None ≡ o
+pub first_some-None : {X : Type 0} (o : Option X) → first_some o None ≡ o
 first_some-None None = refl
 first_some-None (Some x) = refl
 

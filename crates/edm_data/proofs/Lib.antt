@@ -13,6 +13,7 @@ pub mod LoadLemmas
 pub mod PlaceLemmas
 pub mod ReferenceLemmas
 pub mod RelationLemmas
+pub mod RisingLemmas
 pub mod SearchLemmas
 pub mod SeenKeys
 pub mod ShapeLemmas

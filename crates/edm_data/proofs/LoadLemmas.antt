@@ -35,25 +35,10 @@ an_object m (string t) ms h = cc
 an_object m (array ds) ms h = cc
 an_object m (object xs) ms h = let same : xs ≡ ms = cc in ap (λ l. unless_found (find (λ e. not (is_set_member m e)) (member_list l)) (λ e. Set e.0) (rows_reading m (items_of_sets m (object xs)))) same
 
--- the first member that is no array of a set
-pub member_found : (o : Option Member) (n : List ℕ) (next : DataReading) → option_map (λ e. e.0) o ≡ Some n → unless_found o (λ e. Set e.0) next ≡ Set n
-member_found None n next h = cc
-member_found (Some e) n next h = let same : e.0 ≡ n = cc in ap Set same
-
 -- each member is an array of a set
 pub no_member_found : (o : Option Member) (next : DataReading) → option_map {U = List ℕ} (λ e. e.0) o ≡ None → unless_found o (λ e. Set e.0) next ≡ next
 no_member_found None next h = refl
 no_member_found (Some e) next h = cc
-
--- what a refusal says stays true of the later passes
-pub Tells-later : (e : DataRefused) (r : DataReading) (next : World → DataReading) → Tells e r → Tells e (with_world r next)
-Tells-later DataRefused.TooLong r next h = ap (λ x. with_world x next) h
-Tells-later DataRefused.Json r next h = ap (λ x. with_world x next) h
-Tells-later (DataRefused.Set n) r next h = ap (λ x. with_world x next) h
-Tells-later (DataRefused.Shape s k) r next h = ap (λ x. with_world x next) h
-Tells-later (DataRefused.TwiceKey s k) r next h = ap (λ x. with_world x next) h
-Tells-later (DataRefused.Dangling s k) r next h = ap (λ x. with_world x next) h
-Tells-later DataRefused.Memory r next h = tt
 
 -- ---- the bytes
 

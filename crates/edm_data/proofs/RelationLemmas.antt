@@ -19,18 +19,18 @@ use Rattle.edm_data.specs.Links.{reached, misses, KeptRelation, IsRelation, IsFi
 use Rattle.edm_data.proofs.PlaceLemmas.{slice_get-push_before, slice_get-push_at}
 use Rattle.edm_data.proofs.ReferenceLemmas.{nav_at, nav_same}
 
--- ---- one link more
+-- ---- one element more
 
-pub link-before : (old new : LinkList) (o : Option ℕ) (k : ℕ) → new ≡ old ++ o ∷ [] → k < length old → link_in new k ≡ link_in old k
-link-before old new o k grown h = ap (λ x. unwrap_or x None) (ap (λ l. slice_get l k) grown ∙ slice_get-push_before old o k h)
+pub option-before : {X : Type 0} (old new : List (Option X)) (o : Option X) → new ≡ old ++ o ∷ [] → (k : ℕ) → k < length old → unwrap_or (slice_get new k) None ≡ unwrap_or (slice_get old k) None
+option-before old new o grown k h = ap (λ x. unwrap_or x None) (ap (λ l. slice_get l k) grown ∙ slice_get-push_before old o k h)
 
-pub link-last : (old new : LinkList) (o : Option ℕ) (k : ℕ) → new ≡ old ++ o ∷ [] → k ≡ length old → link_in new k ≡ o
-link-last old new o k grown is = ap (λ x. unwrap_or x None) (ap (λ l. slice_get l k) grown ∙ ap (slice_get (old ++ o ∷ [])) is ∙ slice_get-push_at old o)
+pub option-last : {X : Type 0} (old new : List (Option X)) (o : Option X) → new ≡ old ++ o ∷ [] → unwrap_or (slice_get new (length old)) None ≡ o
+option-last old new o grown = ap (λ x. unwrap_or x None) (ap (λ l. slice_get l (length old)) grown ∙ slice_get-push_at old o)
 
 pub links-more : (f : ℕ → Option Entity) (t i : ℕ) (old new : LinkList) (o : Option ℕ) → new ≡ old ++ o ∷ [] → length old ≡ i → option_map (entity_at t) o ≡ f i → ((k : ℕ) → k < i → option_map (entity_at t) (link_in old k) ≡ f k) → (k : ℕ) → k < i + 1 → option_map (entity_at t) (link_in new k) ≡ f k
 links-more f t i old new o grown size here before k h = ⊎_elim
-    (λ less. ap (option_map (entity_at t)) (link-before old new o k grown (omega (arith, less))) ∙ before k less)
-    (λ more. let same : k ≡ i = omega arith in ap (option_map (entity_at t)) (link-last old new o k grown (same ∙ sym size)) ∙ here ∙ ap f (sym same))
+    (λ less. ap (option_map (entity_at t)) (option-before old new o grown k (omega (arith, less))) ∙ before k less)
+    (λ more. let same : k ≡ i = omega arith in ap (λ q. option_map (entity_at t) (link_in new q)) (same ∙ sym size) ∙ ap (option_map (entity_at t)) (option-last old new o grown) ∙ here ∙ ap f (sym same))
     (cases_lt k i)
 
 -- past the end of a set nothing is referred to
@@ -84,17 +84,11 @@ relation_by w s p t os n are pair = inside (relation_in os n) refl pair where
 
 -- ---- one navigation more
 
-pub relations-before : (old new : NavRelations) (o : Option KeptRelation) → new ≡ old ++ o ∷ [] → (m : ℕ) → m < length old → relation_in new m ≡ relation_in old m
-relations-before old new o grown m h = ap (λ x. unwrap_or x None) (ap (λ l. slice_get l m) grown ∙ slice_get-push_before old o m h)
-
-pub relations-last : (old new : NavRelations) (o : Option KeptRelation) → new ≡ old ++ o ∷ [] → relation_in new (length old) ≡ o
-relations-last old new o grown = ap (λ x. unwrap_or x None) (ap (λ l. slice_get l (length old)) grown ∙ slice_get-push_at old o)
-
 pub AreRelations-more : (w : World) (s : ℕ) (old new : NavRelations) (o : Option KeptRelation) → new ≡ old ++ o ∷ [] → AreRelations w s old → ((r : KeptRelation) → o ≡ Some r → IsRelation w s r) → AreRelations w s new
 AreRelations-more w s old new o grown before here n r at = ⊎_elim
-    (λ less. before n r (sym (relations-before old new o grown n less) ∙ at))
+    (λ less. before n r (sym (option-before old new o grown n less) ∙ at))
     (λ more. ⊎_elim
-    (λ last. let is : n ≡ length old = omega (arith, more, last) in here r (sym (relations-last old new o grown) ∙ ap (relation_in new) (sym is) ∙ at))
+    (λ last. let is : n ≡ length old = omega (arith, more, last) in here r (sym (option-last old new o grown) ∙ ap (relation_in new) (sym is) ∙ at))
     (λ past. let size : length new ≡ length old + 1 = ap length grown ∙ length_push old o in let far : length new ≤ n = omega (arith, past) in let none : relation_in new n ≡ None = ap (λ x. unwrap_or x None) (slice_get_past new n far) in absurd (none-some r (sym none ∙ at)))
     (cases_lt n (length old + 1)))
     (cases_lt n (length old))
@@ -120,9 +114,13 @@ or_both a b h k = rw (h, k) refl
 or_left : (a b : Bool) → a ≡ true → (a || b) ≡ true
 or_left a b h = rw h refl
 
-or_right : (a b : Bool) → b ≡ true → (a || b) ≡ true
+pub or_right : (a b : Bool) → b ≡ true → (a || b) ≡ true
 or_right true b h = refl
 or_right false b h = h
+
+pub or_none : (a b : Bool) → b ≡ false → (a || b) ≡ a
+or_none true b h = refl
+or_none false b h = h
 
 first_left : (p q : ℕ → Bool) (n a : ℕ) → IsFirstOf p n a → ((k : ℕ) → k < a → q k ≡ false) → IsFirstOf (λ k. p k || q k) n a
 first_left p q n a first none = record { within = first.within; here = or_left (p a) (q a) first.here; before = λ k less. or_both (p k) (q k) (first.before k less) (none k less) }

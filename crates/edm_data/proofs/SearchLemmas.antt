@@ -54,9 +54,6 @@ pub record IsNarrowed {K : Type 0} (R : K → K → Ordering) (d : K) (keys : Li
   pub left : (i : ℕ) → i < low → R (get_or keys (get_or order i 0) d) v ≡ Less
   pub right : (i : ℕ) → high ≤ i → i < length order → R (get_or keys (get_or order i 0) d) v ≡ Greater
 
-pub IsNarrowed-start : {K : Type 0} (R : K → K → Ordering) (d : K) (keys : List K) (order : List ℕ) (v : K) (high : ℕ) → length order ≤ high → IsNarrowed R d keys order v 0 high
-IsNarrowed-start R d keys order v high h = record { left = λ i low. absurd (omega arith); right = λ i above within. absurd (omega arith) }
-
 flipped : {K : Type 0} {R : K → K → Ordering} (o : IsTotalOrder R) (x y : K) (r : Ordering) → R x y ≡ r → R y x ≡ ordering_reverse r
 flipped o x y r is = o.antisymm y x ∙ ap ordering_reverse is
 

@@ -35,10 +35,6 @@ IsFirstNone-at g f items rows k x within item is none = record {
   before = λ q less. read_before g f items rows k q is (omega arith) less;
 }
 
--- all items are entities
-pub rows-all : {X R G : Type 0} (g : G → R) (f : X → Option R) (items : List X) (rows : List G) (k : ℕ) → length items ≤ k → map (λ r. Some (g r)) rows ≡ map f (take k items) → map (λ r. Some (g r)) rows ≡ map f items
-rows-all g f items rows k all is = is ∙ ap (map f) (take_all k items all)
-
 -- ---- arrays
 
 pub is_array-is : (d : Data) → is_some (as_array d) ≡ is_array d

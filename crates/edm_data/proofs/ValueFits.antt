@@ -1,5 +1,5 @@
 -- The values that are read from JSON are values of their properties.
-use Rattle.std.proofs.Common.{◌≡◌, ℕ, ℤ, pos, ◌^◌, ◌*ℤ◌, ◌==◌, Bool, true, false, ◌&&◌, List, [], ◌∷◌, nat_abs, nat_le, nat_lt, map, refl, subst, arith, Some, None}
+use Rattle.std.proofs.Common.{◌≡◌, ℕ, ℤ, pos, ◌^◌, ◌*ℤ◌, ◌==◌, Bool, true, false, ◌&&◌, List, [], ◌∷◌, nat_abs, nat_le, nat_lt, map, refl, sym, ap, subst, arith, Some, None}
 use Rattle.std.specs.Prelude.{if◌then◌else◌, not, IsTrue}
 use Rattle.std.specs.declared.option.Option.{Option}
 use Rattle.std.specs.Option.{option_map, option_and_then, unwrap_or}
@@ -10,8 +10,8 @@ use Rattle.std.specs.Prelude.{slice_range}
 use Rattle.std.specs.Str.Parse.{digits_value, without_leading_sign}
 use Rattle.edm_values.specs.Lists.{all_some}
 use Rattle.edm_values.specs.Parts.{mantissa_max, scale_max, is_decimal, is_day}
-use Rattle.edm_values.specs.Values.{is_null, is_beyond, fits_integer, where_true, decimal, decimal_of, day_from}
-use Rattle.edm_values.specs.Literals.{Literal, Written, NoLiteral, PastRange, is_digits, is_decimal_text, is_day_text, is_of_kind, integer_in_range, value_or_past, with_sign_of, mantissa_digits, decimal_in_range, integer_literal, decimal_literal, day_in_range, day_literal}
+use Rattle.edm_values.specs.Values.{is_null, is_text, is_beyond, fits_integer, where_true, decimal, decimal_of, day_from}
+use Rattle.edm_values.specs.Literals.{literal, Literal, Written, NoLiteral, PastRange, is_digits, is_decimal_text, is_day_text, is_of_kind, integer_in_range, value_or_past, with_sign_of, mantissa_digits, decimal_in_range, integer_literal, decimal_literal, day_in_range, day_literal}
 use Rattle.edm_values.specs.declared.Dec.{Dec}
 use Rattle.edm_values.specs.declared.Day.{Day}
 use Rattle.edm_values.specs.declared.EdmType.{EdmType}
@@ -140,6 +140,30 @@ json_value-full EdmType.Day null v h = none-full EdmType.Day v h
 json_value-full EdmType.Day (boolean b) v h = none-full EdmType.Day v h
 json_value-full EdmType.Day (array ds) v h = none-full EdmType.Day v h
 json_value-full EdmType.Day (object ms) v h = none-full EdmType.Day v h
+
+-- a value of a type but that of texts is no text
+no_text : (kind : EdmType) (v : Value) → (kind ≡ EdmType.Text → ⊥) → IsFull kind v → is_text v ≡ false
+unfolding IsFull
+no_text kind Value.Null other h = refl
+no_text kind (Value.Bool b) other h = refl
+no_text kind (Value.Int z) other h = refl
+no_text kind (Value.Dec d) other h = refl
+no_text EdmType.Bool (Value.Text t) other h = cc
+no_text EdmType.Int (Value.Text t) other h = cc
+no_text (EdmType.Dec s p) (Value.Text t) other h = cc
+no_text EdmType.Text (Value.Text t) other h = absurd (other refl)
+no_text EdmType.Day (Value.Text t) other h = cc
+no_text kind (Value.Day d) other h = refl
+no_text kind Value.Beyond other h = refl
+
+-- the value of a literal that is read, but for texts and Booleans
+pub text_read : (kind : EdmType) (t : List ℕ) (v : Value) → (kind ≡ EdmType.Bool → ⊥) → (kind ≡ EdmType.Text → ⊥) → literal kind t ≡ Written v → (if is_text v then None else Some v) ≡ json_value kind (string t)
+unfolding IsFullLiteral
+text_read EdmType.Bool t v flag text h = absurd (flag refl)
+text_read EdmType.Int t v flag text h = let is : written (integer_literal t) ≡ Some v = ap written h in rw (no_text EdmType.Int v text (integer_literal-full t v is)) (sym is)
+text_read (EdmType.Dec s p) t v flag text h = let is : written (decimal_literal s p t) ≡ Some v = ap written h in rw (no_text (EdmType.Dec s p) v text (decimal_literal-full s p t v is)) (sym is)
+text_read EdmType.Text t v flag text h = absurd (text refl)
+text_read EdmType.Day t v flag text h = let is : written (day_literal t) ≡ Some v = ap written h in rw (no_text EdmType.Day v text (day_literal-full t v is)) (sym is)
 
 -- ---- values of properties
 

@@ -1,5 +1,5 @@
 //! The values of a property, of which only those that are not null take memory.
-ghost use Rattle.std.specs.Prelude.{◌≡◌, ◌<◌, ◌+◌, ◌^◌, [], ◌∷◌, ◌++◌, length, OnOk};
+ghost use Rattle.std.specs.Prelude.{◌≡◌, ◌<◌, ◌+◌, ◌^◌, [], ◌∷◌, ◌++◌, length, IfOk, OnOk};
 ghost use Rattle.edm_values.specs.Values.{seen_value, value_in};
 
 use crate::places::Places;
@@ -45,6 +45,17 @@ impl Column {
             Some(at) => self.values.get(at),
             None => Seen::Null,
         }
+    }
+
+    /// A copy that takes no more room than it needs.
+    pub(crate) fn packed(&self, alloc: Global) -> Result<Column, AllocError>
+        ensures { IfOk result (λ column. column ≡ self.now) }
+    {
+        Ok(Column {
+            count: self.count,
+            places: self.places.packed()?,
+            values: self.values.packed(alloc)?,
+        })
     }
 
     /// Puts a value at the end. After an `Err` each further value that is not null may be refused.

@@ -3,6 +3,7 @@ ghost use Rattle.std.specs.Prelude.{◌≡◌, ℕ, ◌<◌, ◌^◌, List, map,
 ghost use Rattle.std.specs.List.{list_all};
 ghost use Rattle.serde_json.specs.View.{view, members_view};
 ghost use Rattle.edm_values.specs.Lists.{all_some};
+ghost use Rattle.edm_values.specs.Values.{seen_value};
 ghost use Rattle.edm_model.specs.JsonTrees.{member_list};
 ghost use Rattle.edm_model.specs.LookUps.{IsSet, IsType, IsProperty, property_at, properties_of};
 ghost use Rattle.edm_model.specs.Soundness.{IsSound};
@@ -12,8 +13,8 @@ ghost use Rattle.edm_data.specs.FirstItems.{IsFirstNone, rows_read};
 use crate::columns::Column;
 use crate::json_values::json_value;
 use crate::table::Table;
-use edm_model::{Model, PropId, SetId, TypeId};
-use edm_values::Value;
+use edm_model::{Model, PropId, SetId, TypeId, is_annotation};
+use edm_values::Seen;
 use serde_json::{Map, Value as Json};
 use std::alloc::{AllocError, Global};
 
@@ -24,16 +25,26 @@ pub(crate) enum RowsRefused {
     Memory,
 }
 
+impl From<AllocError> for RowsRefused {
+    ghost use Rattle.edm_data.specs.declared.entities.RowsRefused.TheVariants.{Memory};
+
+    ghost from_gives = { λ _ e. e ≡ Memory };
+
+    fn from(_: AllocError) -> RowsRefused {
+        RowsRefused::Memory
+    }
+}
+
 /// The value that an entity gives a property, where it is one of the property; an absent member counts as null.
-fn property_value(
+fn property_value<'a>(
     alloc: Global,
     model: &Model,
     p: PropId,
-    entity: &Json,
-) -> Result<Option<Value>, AllocError>
+    entity: &'a Json,
+) -> Result<Option<Seen<'a>>, AllocError>
     requires sound { IsSound model.now }
     requires there { IsProperty model.now p }
-    ensures { IfOk result (λ v. option_map (file.property_value (view entity.now)) (property_at model.now p) ≡ Some v) }
+    ensures { IfOk result (λ v. option_map (file.property_value (view entity.now)) (property_at model.now p) ≡ Some (option_map seen_value v)) }
 {
     if let Some(value) = entity.get(model.prop_name(p)) {
         if !value.is_null() {
@@ -41,7 +52,7 @@ fn property_value(
         }
     }
     if model.prop_nullable(p) {
-        return Ok(Some(Value::Null));
+        return Ok(Some(Seen::Null));
     }
     Ok(None)
 }
@@ -51,19 +62,19 @@ fn is_known_member(model: &Model, t: TypeId, name: &String, value: &Json) -> boo
     requires { IsType model.now t }
     ensures { result ≡ file.is_known_member (properties_of model.now t) (string_bytes name.now, view value.now) }
 {
-    name.as_bytes().contains(&b'@') || model.prop_named(t, name.as_str()).is_some()
+    model.prop_named(t, name.as_str()).is_some() || is_annotation(name.as_str())
 }
 
 /// An entity's values in the order of the type's properties, where the JSON is an entity of the type.
-fn entity(
+fn entity<'a>(
     alloc: Global,
     model: &Model,
     t: TypeId,
-    item: &Json,
-) -> Result<Option<Vec<Value>>, AllocError>
+    item: &'a Json,
+) -> Result<Option<Vec<Seen<'a>>>, AllocError>
     requires sound { IsSound model.now }
     requires there { IsType model.now t }
-    ensures { IfOk result (λ v. option_map (λ values. values.items) v ≡ file.entity_of (properties_of model.now t) (view item.now)) }
+    ensures { IfOk result (λ v. option_map (λ values. map seen_value values.items) v ≡ file.entity_of (properties_of model.now t) (view item.now)) }
 {
     let Some(members) = item.as_object() else {
         return Ok(None);
@@ -88,15 +99,15 @@ fn has_known_members(model: &Model, t: TypeId, members: &Map<String, Json>) -> b
 }
 
 /// The values of the type's properties in their order, where each is one of its property.
-fn entity_values(
+fn entity_values<'a>(
     alloc: Global,
     model: &Model,
     t: TypeId,
-    item: &Json,
-) -> Result<Option<Vec<Value>>, AllocError>
+    item: &'a Json,
+) -> Result<Option<Vec<Seen<'a>>>, AllocError>
     requires sound { IsSound model.now }
     requires there { IsType model.now t }
-    ensures { IfOk result (λ v. option_map (λ values. values.items) v ≡ all_some (map (file.property_value (view item.now)) (properties_of model.now t))) }
+    ensures { IfOk result (λ v. option_map (λ values. map seen_value values.items) v ≡ all_some (map (file.property_value (view item.now)) (properties_of model.now t))) }
 {
     let props = model.props(t);
     let mut values = Vec::with_capacity(alloc, props.len())?;
@@ -136,20 +147,12 @@ pub(crate) fn set_rows(
     ensures ok { IfOk result (λ rows. rows_read rows ≡ map (λ x. file.entity_of (properties_of model.now t) (view x)) items.now) }
     ensures shape { (k : ℕ) → result ≡ Err (RowsRefused.Shape k) → IsFirstNone (map (λ x. file.entity_of (properties_of model.now t) (view x)) items.now) k }
 {
-    let Ok(mut rows) = empty_table(alloc, model, t) else {
-        return Err(RowsRefused::Memory);
-    };
+    let mut rows = empty_table(alloc, model, t)?;
     for (k, item) in items.iter().enumerate() {
-        let Ok(found) = entity(alloc, model, t, item) else {
-            return Err(RowsRefused::Memory);
-        };
-        let Some(values) = found else {
+        let Some(values) = entity(alloc, model, t, item)? else {
             return Err(RowsRefused::Shape(k as u32));
         };
-        rows = match rows.push(alloc, values.as_slice()) {
-            Ok(rows) => rows,
-            Err(_) => return Err(RowsRefused::Memory),
-        };
+        rows = rows.push(alloc, values.as_slice())?;
     }
     Ok(rows)
 }

@@ -83,9 +83,8 @@ fn add_place(
 ) -> Result<(), AllocError>
     ensures ok { OnOk result ((t : ℕ) → group_in groups.new t ≡ (if nat_eq target t then group_in groups.old t ++ place ∷ [] else group_in groups.old t)) }
 {
-    let mut places = groups.remove(&target).unwrap_or(Vec::new(alloc));
+    let places = groups.entry(target)?.or_insert(Vec::new(alloc));
     places.push(place)?;
-    groups.insert(target, places)?;
     Ok(())
 }
 

@@ -1,5 +1,5 @@
 //! Places that rise.
-ghost use Rattle.std.specs.Prelude.{◌≡◌, ◌<◌, [], ◌∷◌, ◌++◌, length, nat_eq, position, OnOk, OnErr};
+ghost use Rattle.std.specs.Prelude.{◌≡◌, ◌<◌, [], ◌∷◌, ◌++◌, length, nat_eq, position, IfOk, OnOk, OnErr};
 ghost use Rattle.edm_data.specs.Columns.{AreBelow};
 
 use std::alloc::{AllocError, Global};
@@ -50,6 +50,15 @@ impl Places {
             Ok(found) => Some(found),
             Err(_) => None,
         }
+    }
+
+    /// A copy that takes no more room than it needs.
+    pub(crate) fn packed(&self) -> Result<Places, AllocError>
+        ensures { IfOk result (λ places. places ≡ self.now) }
+    {
+        Ok(Places {
+            list: self.list.clone()?,
+        })
     }
 
     /// Puts a place above all others at the end. After an `Err` the places are as before.

@@ -4,7 +4,7 @@ ghost use Rattle.edm_values.specs.Values.{seen_value, value_in};
 ghost use Rattle.edm_data.specs.Columns.{AreColumns};
 
 use crate::columns::Column;
-use edm_values::{Seen, Value};
+use edm_values::Seen;
 use std::alloc::{AllocError, Global};
 
 /// Rows of values, kept by column.
@@ -52,16 +52,30 @@ impl Table {
         }
     }
 
+    /// A copy that takes no more room than it needs.
+    pub(crate) fn packed(&self, alloc: Global) -> Result<Table, AllocError>
+        ensures { IfOk result (λ table. table ≡ self.now) }
+    {
+        let mut columns = Vec::with_capacity(alloc, self.columns.len())?;
+        for column in &self.columns {
+            columns.push(column.packed(alloc)?)?;
+        }
+        Ok(Table {
+            count: self.count,
+            columns,
+        })
+    }
+
     /// Puts a row at the end.
-    pub(crate) fn push(self, alloc: Global, row: &[Value]) -> Result<Table, AllocError>
+    pub(crate) fn push(self, alloc: Global, row: &[Seen<'_>]) -> Result<Table, AllocError>
         requires width { length row.now ≡ self.width }
         requires few { length self.rows + 1 < 2 ^ 32 }
         ensures width { IfOk result (λ t. t.width ≡ self.width) }
-        ensures rows { IfOk result (λ t. t.rows ≡ self.rows ++ row.now ∷ []) }
+        ensures rows { IfOk result (λ t. t.rows ≡ self.rows ++ map seen_value row.now ∷ []) }
     {
         let Table { count, mut columns } = self;
         for place in 0..columns.len() {
-            columns[place].push(alloc, row[place].seen())?;
+            columns[place].push(alloc, row[place])?;
         }
         Ok(Table {
             count: count + 1,

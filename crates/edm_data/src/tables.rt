@@ -41,6 +41,21 @@ impl Tables {
         Tables { model, sets }
     }
 
+    /// The same tables in no more room than they need, which the JSON tree may have left.
+    pub(crate) fn packed(self, alloc: Global) -> Result<Tables, AllocError>
+        ensures { IfOk result (λ tables. tables ≡ self) }
+    {
+        let Tables { model, sets } = self;
+        let mut packed = Vec::with_capacity(alloc, sets.len())?;
+        for table in &sets {
+            packed.push(table.packed(alloc)?)?;
+        }
+        Ok(Tables {
+            model,
+            sets: packed,
+        })
+    }
+
     /// The model.
     pub(crate) fn model(&self) -> &edm_model::Model
         ensures value { result.now ≡ self.now.model }

@@ -1,5 +1,5 @@
 //! Texts that are kept side by side.
-ghost use Rattle.std.specs.Prelude.{◌≡◌, ◌<◌, [], ◌∷◌, ◌++◌, length, get_or, OnOk, OnErr};
+ghost use Rattle.std.specs.Prelude.{◌≡◌, ◌<◌, [], ◌∷◌, ◌++◌, length, get_or, IfOk, OnOk, OnErr};
 
 use std::alloc::{AllocError, Global};
 
@@ -55,6 +55,16 @@ impl Texts {
         let bytes = &self.bytes[span.begin as usize..span.end as usize];
         // SAFETY: each span is that of a text which was put in.
         unsafe { str::from_utf8_unchecked(bytes) }
+    }
+
+    /// A copy that takes no more room than it needs.
+    pub(crate) fn packed(&self) -> Result<Texts, AllocError>
+        ensures { IfOk result (λ texts. texts ≡ self.now) }
+    {
+        Ok(Texts {
+            bytes: self.bytes.clone()?,
+            spans: self.spans.clone()?,
+        })
     }
 
     /// Puts a text at the end. All texts together have fewer than 2^32 bytes, and more do not fit in memory.

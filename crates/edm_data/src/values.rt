@@ -88,6 +88,21 @@ impl Values {
         Ok(values)
     }
 
+    /// A copy that takes no more room than it needs.
+    pub(crate) fn packed(&self, alloc: Global) -> Result<Values, AllocError>
+        ensures { IfOk result (λ values. values ≡ self.now) }
+    {
+        let kept = match &self.kept {
+            Kept::Bools(list) => Kept::Bools(list.clone()?),
+            Kept::Ints(list) => Kept::Ints(list.clone()?),
+            Kept::Decs(list) => Kept::Decs(list.clone()?),
+            Kept::Texts(list) => Kept::Texts(list.packed()?),
+            Kept::Days(list) => Kept::Days(list.clone()?),
+            Kept::Mixed(_) => Kept::Mixed(self.copied(alloc)?),
+        };
+        Ok(Values { kept })
+    }
+
     /// Puts a value at the end, also one of another kind. After an `Err` the values are as before.
     pub(crate) fn push(&mut self, alloc: Global, value: Seen<'_>) -> Result<(), AllocError>
         ensures ok { OnOk result (self.new ≡ self.old ++ seen_value value.entry ∷ []) }

@@ -15,3 +15,8 @@ pub mod TreeParts
 pub mod NameLaws
 pub mod IdLaws
 pub mod Accepted
+pub mod MemberNames
+pub mod SchemaParts
+pub mod QualifiedNames
+pub mod RuleFacts
+pub mod SetCounts

@@ -1,8 +1,9 @@
 -- Lists that a function made of a list.
-use Rattle.std.proofs.Common.{◌≡◌, ℕ, suc, ◌+◌, Bool, true, false, List, [], ◌∷◌, ◌++◌, refl, ap, map, cond, length, take, drop}
-use Rattle.std.specs.Prelude.{◌&&◌, position}
+use Rattle.std.proofs.Common.{◌≡◌, ℕ, suc, ◌+◌, ◌<◌, Bool, true, false, List, [], ◌∷◌, ◌++◌, refl, sym, ◌∙◌, ap, map, cond, length, get_or, take, drop}
+use Rattle.std.specs.Prelude.{◌&&◌, filter, position}
 use Rattle.std.specs.List.{list_any, prefix_len}
 use Rattle.std.specs.Cmp.Lexicographic.{pointwise}
+use Rattle.std.proofs.lemmas.List.{map-append, take_more}
 use Rattle.std.proofs.lemmas.List.Folds.{list_all-map}
 
 pub list_any-map : {X Y : Type 0} (p : X → Bool) (f : Y → X) (ys : List Y) → list_any p (map f ys) ≡ list_any (λ y. p (f y)) ys
@@ -36,3 +37,18 @@ pointwise-append eq (y ∷ t) (x ∷ a) b = elim (eq y x) as (λ c. (c && pointw
 pub map_mapped : {X Y Z : Type 0} (f : Y → Z) (g : X → Y) (xs : List X) → map f (map g xs) ≡ map (λ x. f (g x)) xs
 map_mapped f g [] = refl
 map_mapped f g (x ∷ xs) = ap (λ ys. f (g x) ∷ ys) (map_mapped f g xs)
+
+-- what is left of what was made
+pub filter_mapped : {X Y : Type 0} (p : X → Bool) (f : Y → X) (ys : List Y) → filter p (map f ys) ≡ map f (filter (λ y. p (f y)) ys)
+filter_mapped p f [] = refl
+filter_mapped p f (y ∷ ys) = elim (p (f y)) as (λ b. cond b (f y ∷ filter p (map f ys)) (filter p (map f ys)) ≡ map f (cond b (y ∷ filter (λ y. p (f y)) ys) (filter (λ y. p (f y)) ys))) [ true ↦ ap (λ xs. f y ∷ xs) (filter_mapped p f ys) | false ↦ filter_mapped p f ys ]
+
+-- what is left of what is left passes both tests
+pub filter_twice : {X : Type 0} (p q : X → Bool) (xs : List X) → filter q (filter p xs) ≡ filter (λ x. p x && q x) xs
+filter_twice p q [] = refl
+filter_twice p q (x ∷ xs) = elim (p x) as (λ b. filter q (cond b (x ∷ filter p xs) (filter p xs)) ≡ cond (b && q x) (x ∷ filter (λ x. p x && q x) xs) (filter (λ x. p x && q x) xs)) [ true ↦ ap (λ ys. cond (q x) (x ∷ ys) ys) (filter_twice p q xs) | false ↦ filter_twice p q xs ]
+
+-- one element more of what a loop makes of a list
+pub made_more : {X Y : Type 0} (f : X → Y) (xs : List X) (i : ℕ) (x : X) (before now : List Y) (y : Y) → i < length xs → x ≡ get_or xs i x → before ≡ map f (take i xs) → now ≡ before ++ y ∷ [] → y ≡ f x → now ≡ map f (take (i + 1) xs)
+made_more f xs i x before now y within is made pushed same =
+    pushed ∙ (ap (λ ys. ys ++ y ∷ []) made ∙ (ap (λ z. map f (take i xs) ++ z ∷ []) (same ∙ ap f is) ∙ sym (ap (map f) (take_more xs i x within) ∙ map-append f (take i xs) (get_or xs i x ∷ []))))

@@ -1,9 +1,11 @@
 -- What a binary search among names in byte order finds.
-use Rattle.std.proofs.Common.{◌≡◌, ℕ, ◌+◌, ◌<◌, ◌≤◌, Bool, true, false, not, cond, List, [], length, map, get_or, Some, None, sym, ◌∙◌, ap, arith, ⊎_elim}
-use Rattle.std.specs.Prelude.{position, nat_lt}
+use Rattle.std.proofs.Common.{◌≡◌, ℕ, ◌+◌, ◌<◌, ◌≤◌, Bool, true, false, not, cond, List, [], ◌∷◌, ◌⊎◌, inl, inr, length, map, get_or, Some, None, Ok, Err, Result, sym, ◌∙◌, ap, subst, arith, ⊎_elim, refl}
+use Rattle.std.specs.Prelude.{position, nat_lt, Option}
 use Rattle.std.specs.List.{prefix_len}
+use Rattle.std.specs.List.Sorted.{IsBinarySearchResult, IsNonDecreasingBy, IsSearchInRange}
 use Rattle.std.specs.Cmp.Lexicographic.{slice_cmp}
-use Rattle.std.specs.Ordering.{nat_cmp, is_eq, ordering_reverse}
+use Rattle.std.specs.Ordering.{nat_cmp, is_eq, ordering_reverse, ordering_index}
+use Rattle.std.specs.Result.{result_ok}
 use Rattle.std.specs.declared.cmp.Ordering.{Ordering}
 use Rattle.std.specs.declared.cmp.Ordering.TheVariants.{Less, Equal, Greater}
 use Rattle.std.proofs.lemmas.Bool.{cases_lt}
@@ -31,17 +33,27 @@ position_nowhere p xs d none =
     let outside : nat_lt (length xs) (length xs) ≡ false = grind (arith, nat_tests) in
     ap (λ n. cond (nat_lt n (length xs)) (Some n) None) first ∙ ap (λ b. cond b (Some (length xs)) None) outside
 
--- the names before `low` are below v, and those from `high` on above it
-pub record IsNarrowed (names : List (List ℕ)) (v : List ℕ) (low high : ℕ) : Type 0 where
-  pub left : (i : ℕ) → i < low → slice_cmp nat_cmp (get_or names i []) v ≡ Less
-  pub right : (i : ℕ) → high ≤ i → i < length names → slice_cmp nat_cmp (get_or names i []) v ≡ Greater
-
-flipped : (x y : List ℕ) (r : Ordering) → slice_cmp nat_cmp x y ≡ r → slice_cmp nat_cmp y x ≡ ordering_reverse r
-flipped x y r is = nat_list_cmp_total.antisymm y x ∙ ap ordering_reverse is
-
 -- names that compare to this are one text, or not
 same_by : (x v : List ℕ) (r : Ordering) → slice_cmp nat_cmp x v ≡ r → same_text x v ≡ is_eq r
 same_by x v r is = sym (is_eq-slice_cmp x v) ∙ ap is_eq is
+
+-- what stands before a name compares to a text no greater than the name does
+below_index : (x y v : List ℕ) → slice_cmp nat_cmp x y ≡ Less → ordering_index (slice_cmp nat_cmp x v) ≤ ordering_index (slice_cmp nat_cmp y v)
+below_index x y v less = by (slice_cmp nat_cmp y v) refl
+  where
+    top : (r : Ordering) → ordering_index r ≤ 2
+    top Less = omega arith
+    top Equal = omega arith
+    top Greater = omega arith
+
+    by : (r : Ordering) → slice_cmp nat_cmp y v ≡ r → ordering_index (slice_cmp nat_cmp x v) ≤ ordering_index r
+    by Less is = subst (λ o. ordering_index o ≤ 0) (sym (nat_list_cmp_total.trans x y v less is)) (omega arith)
+    by Equal is = subst (λ o. ordering_index o ≤ 1) (sym (sym (alike_right nat_list_cmp_total y v x is) ∙ less)) (omega arith)
+    by Greater is = top (slice_cmp nat_cmp x v)
+
+some_item : {X : Type 0} (xs : List X) (i : ℕ) → i < length xs → X
+some_item [] i h = absurd (omega arith)
+some_item (x ∷ xs) i h = x
 
 module _ {X : Type 0} (name : X → List ℕ) (items : List X) (ordered : AreOrdered (map name items)) (v : List ℕ) where
   abbrev named : ℕ → List ℕ
@@ -56,10 +68,6 @@ module _ {X : Type 0} (name : X → List ℕ) (items : List X) (ordered : AreOrd
   pub named_is : (i : ℕ) (d : X) → i < length items → get_or (map name items) i [] ≡ name (get_or items i d)
   named_is i d within = get_or-map name items i d [] within
 
-  -- nothing is narrowed yet
-  pub IsNarrowed-start : (high : ℕ) → length items ≤ high → IsNarrowed (map name items) v 0 high
-  IsNarrowed-start high h = record { left = λ i low. absurd (omega arith); right = λ i above within. absurd (omega (arith, length-map items name)) }
-
   -- the name was met
   pub met : (i : ℕ) (x : List ℕ) → i < length items → named i ≡ x → slice_cmp nat_cmp x v ≡ Equal → position (λ y. same_text (name y) v) items ≡ Some i
   met i x within is equal =
@@ -68,36 +76,31 @@ module _ {X : Type 0} (name : X → List ℕ) (items : List X) (ordered : AreOrd
       ∙ position_at (λ n. same_text n v) (map name items) i [] (within_names i within) (same_by (named i) v Equal here)
       (λ k before. same_by (named k) v Less (sym (alike_right nat_list_cmp_total (named i) v (named k) here) ∙ below k i before within))
 
-  module _ (low high : ℕ) (narrowed : IsNarrowed (map name items) v low high) where
-    -- the name in the middle is below v
-    pub IsNarrowed-right : (middle : ℕ) (x : List ℕ) → middle < length items → named middle ≡ x → slice_cmp nat_cmp x v ≡ Less → IsNarrowed (map name items) v (middle + 1) high
-    IsNarrowed-right middle x within is less =
-        let here : slice_cmp nat_cmp (named middle) v ≡ Less = ap (λ y. slice_cmp nat_cmp y v) is ∙ less in
-        record {
-          left = λ i h. ⊎_elim
-              (λ before. nat_list_cmp_total.trans (named i) (named middle) v (below i middle before within) here)
-              (λ after. let same : middle ≡ i = omega arith in rw same at here)
-              (cases_lt i middle);
-          right = narrowed.right;
-        }
+  -- items in the order of their names compare in that order
+  rising : IsNonDecreasingBy (λ y. ordering_index (slice_cmp nat_cmp (name y) v)) items
+  rising i j d ordered_ij within = ⊎_elim
+      (λ less.
+      let first = subst (λ x. slice_cmp nat_cmp x (named j) ≡ Less) (named_is i d (omega arith)) (below i j less within) in
+      below_index (name (get_or items i d)) (name (get_or items j d)) v (subst (λ y. slice_cmp nat_cmp (name (get_or items i d)) y ≡ Less) (named_is j d within) first))
+      (λ same.
+      let e : i ≡ j = omega arith in
+      let P : ℕ → Type 0 = λ k. ordering_index (slice_cmp nat_cmp (name (get_or items i d)) v) ≤ ordering_index (slice_cmp nat_cmp (name (get_or items k d)) v) in
+      subst P e (omega arith))
+      (cases_lt i j)
 
-    -- the name in the middle is above v
-    pub IsNarrowed-left : (middle : ℕ) (x : List ℕ) → middle < length items → named middle ≡ x → slice_cmp nat_cmp x v ≡ Greater → IsNarrowed (map name items) v low middle
-    IsNarrowed-left middle x within is greater =
-        let here : slice_cmp nat_cmp (named middle) v ≡ Greater = ap (λ y. slice_cmp nat_cmp y v) is ∙ greater in
-        record {
-          left = narrowed.left;
-          right = λ i h inside. ⊎_elim
-              (λ after. flipped v (named i) Less (nat_list_cmp_total.trans v (named middle) (named i) (flipped (named middle) v Greater here) (below middle i after (rw (length-map items name) at inside))))
-              (λ before. let same : middle ≡ i = omega arith in rw same at here)
-              (cases_lt middle i);
-        }
+  none_named : (k : ℕ) (d : X) → k < length items → slice_cmp nat_cmp (name (get_or items k d)) v ≡ Less ⊎ slice_cmp nat_cmp (name (get_or items k d)) v ≡ Greater → same_text (named k) v ≡ false
+  none_named k d within (inl less) = same_by (named k) v Less (ap (λ x. slice_cmp nat_cmp x v) (named_is k d within) ∙ less)
+  none_named k d within (inr greater) = same_by (named k) v Greater (ap (λ x. slice_cmp nat_cmp x v) (named_is k d within) ∙ greater)
 
-    -- no name is left
-    pub IsNarrowed-none : high ≤ low → position (λ y. same_text (name y) v) items ≡ None
-    IsNarrowed-none crossed =
-        sym (position_mapped (λ n. same_text n v) name items)
-        ∙ position_nowhere (λ n. same_text n v) (map name items) [] (λ k within. ⊎_elim
-        (λ before. same_by (named k) v Less (narrowed.left k before))
-        (λ after. same_by (named k) v Greater (narrowed.right k (omega arith) within))
-        (cases_lt k low))
+  -- a binary search by name finds what a search from the front does
+  pub searched : (r : Result ℕ ℕ) → IsSearchInRange r (length items) → IsBinarySearchResult (λ y. slice_cmp nat_cmp (name y) v) items r → result_ok r ≡ position (λ y. same_text (name y) v) items
+  searched (Ok i) within found =
+      let d = some_item items i within in
+      sym (met i (name (get_or items i d)) within (named_is i d within) (found d))
+  searched (Err i) within found =
+      let sides = found rising in
+      sym (sym (position_mapped (λ n. same_text n v) name items)
+      ∙ position_nowhere (λ n. same_text n v) (map name items) [] (λ k there.
+      let here : k < length items = omega (arith, length-map items name) in
+      let d = some_item items k here in
+      none_named k d here (⊎_elim (λ before. inl (sides.0 k d (omega arith) before)) (λ after. inr (sides.1 k d after here)) (cases_lt k i))))

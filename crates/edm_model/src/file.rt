@@ -1,6 +1,5 @@
 //! Model files: which there are, and the model that a file states.
 
-mod accepted;
 mod build;
 mod kinds;
 mod links;

@@ -1,5 +1,7 @@
-//! The search of a list for the item of a name. A model's lists stand in byte order of names, and are searched so.
+//! What is found by its name.
 ghost use Rattle.std.specs.Prelude.{ℕ, ◌≡◌, ◌<◌, List, length, map, position, IfSome};
+ghost use Rattle.std.specs.Cmp.Lexicographic.{slice_cmp};
+ghost use Rattle.std.specs.Ordering.{nat_cmp};
 ghost use Rattle.edm_values.specs.Lists.{same_text};
 ghost use Rattle.edm_model.specs.Soundness.{AreOrdered};
 
@@ -15,29 +17,14 @@ pub(crate) trait Named {
         ensures { result.now ≡ name_of self.now };
 }
 
-/// The place of the item of this name among items in byte order of their names, by binary search.
+/// The place of the item of this name among items in byte order of their names.
 pub(crate) fn find_named<T: Named>(items: &[T], name: &str) -> Option<usize>
     requires { AreOrdered (map T.name_of items.now) }
     ensures value { result ≡ position (λ x. same_text (T.name_of x) name.now) items.now }
     ensures there { IfSome result (λ k. k < length items.now) }
 {
-    let mut low = 0;
-    let mut high = items.len();
-    while low < high {
-        let middle = low + (high - low) / 2;
-        match items[middle].name().cmp(name) {
-            Ordering::Equal => return Some(middle),
-            Ordering::Less => low = middle + 1,
-            Ordering::Greater => high = middle,
-        }
-    }
-    None
-}
-
-/// The place of the item of this name, by a scan: while a file is read, for a list of members that was just made and
-/// whose order is not known.
-pub(crate) fn place_named<T: Named>(items: &[T], name: &str) -> Option<usize>
-    ensures { result ≡ position (λ x. same_text (T.name_of x) name.now) items.now }
-{
-    items.iter().position(|item| item.name() == name)
+    let by_name = |item: &T| -> Ordering
+        ensures { result ≡ slice_cmp nat_cmp (T.name_of item.now) name.entry.now }
+    { item.name().cmp(name) };
+    items.binary_search_by(by_name).ok()
 }

@@ -1,23 +1,21 @@
 //! The parts of the model that an accepted tree states.
-ghost use Rattle.std.specs.Prelude.{◌≡◌, ◌++◌, map, filter_map, codes, option_and_then, unwrap_or, IfOk, OnOk};
+ghost use Rattle.std.specs.Prelude.{ℕ, ◌≡◌, ◌++◌, map, filter_map, codes, option_and_then, unwrap_or, IfOk, OnOk};
 ghost use Rattle.std.specs.Option.{option_to_list};
 ghost use Rattle.serde_json.specs.Data.{null};
 ghost use Rattle.serde_json.specs.Find.{as_str, get};
 ghost use Rattle.serde_json.specs.View.{view};
-ghost use Rattle.edm_model.specs.JsonTrees.{items_in, text_at};
+ghost use Rattle.edm_model.specs.JsonTrees.{items_in};
 ghost use Rattle.edm_model.specs.ModelFile as spec;
-ghost use Rattle.edm_model.specs.MemberLists.{member_seen};
+ghost use Rattle.edm_model.specs.MemberLists.{member_seen, type_seen, root_of, tree_of, IsTypeTree, IsSchema};
 
 use crate::Method;
 use crate::file::kinds::{is_nullable, kind_of};
-use crate::file::links::{type_place, type_tree};
-use crate::file::members::{
-    Member, constraint, is_navigation, is_property, navigation_members, property_members,
-};
-use crate::file::names::{DEFINITION_TERM, HIERARCHY_TERM, is_own, qualifier};
-use crate::file::rules::{key_name, method_at};
+use crate::file::links::type_place;
+use crate::file::members::{Member, constraint};
+use crate::file::rules::method_at;
+use crate::file::schema::{Schema, TypeTree};
 use crate::file::tree::{is_true_at, text_at};
-use crate::named::place_named;
+use crate::named::find_named;
 use crate::parts::{Definition, EntitySet, EntityType, Hierarchy, Navigation, Property, Texts};
 use edm_values::{EdmType, Text};
 use serde_json::Value;
@@ -30,131 +28,98 @@ fn text_of(alloc: Global, text: &str) -> Result<Text, AllocError>
     Text::new(String::from_str(alloc, text)?)
 }
 
-/// The place of the member of this name.
-#[tactic(auto, using(crate::proofs::Mapped::position_mapped))]
-fn member_place(members: &[Member<'_>], name: &str) -> Option<usize>
-    ensures { result ≡ spec.member_place (map member_seen members.now) name.now }
-{
-    place_named(members, name)
-}
-
-/// A property of the model.
-fn property_of(alloc: Global, name: &str, value: &Value) -> Result<Property, AllocError>
-    ensures { IfOk result (λ p. p ≡ spec.property_of (name.now, view value.now)) }
-{
-    let name = text_of(alloc, name)?;
-    Ok(Property {
-        name,
-        kind: kind_of(value).unwrap_or(EdmType::Text),
-        nullable: is_nullable(value),
-    })
-}
-
 /// The properties of an entity type.
-fn properties_of(alloc: Global, entity_type: &Value) -> Result<Vec<Property>, AllocError>
-    ensures { IfOk result (λ v. v.items ≡ map spec.property_of (spec.property_members (view entity_type.now))) }
+fn properties_of(alloc: Global, t: &TypeTree<'_>) -> Result<Vec<Property>, AllocError>
+    requires { IsTypeTree t.now }
+    ensures { IfOk result (λ v. v.items ≡ map spec.property_of (spec.property_members (tree_of t.now))) }
 {
     let mut properties = Vec::new(alloc);
-    let Some(members) = entity_type.as_object() else {
-        return Ok(properties);
-    };
-    for (name, value) in members {
-        if is_own(name) && is_property(value) {
-            properties.push(property_of(alloc, name, value)?)?;
-        }
+    for member in &t.properties {
+        let name = text_of(alloc, member.name)?;
+        properties.push(Property {
+            name,
+            kind: kind_of(member.value).unwrap_or(EdmType::Text),
+            nullable: is_nullable(member.value),
+        })?;
     }
     Ok(properties)
 }
 
-/// The place of the property that refers to the target's key.
-fn dependent_place(
-    alloc: Global,
-    entity_type: &Value,
-    navigation: &Value,
-) -> Result<usize, AllocError>
-    ensures { IfOk result (λ k. k ≡ unwrap_or (option_and_then (λ c. spec.member_place (spec.property_members (view entity_type.now)) c.0) (spec.constraint (view navigation.now))) 0) }
+/// The place of the property of this name, or 0.
+fn property_place(t: &TypeTree<'_>, name: &str) -> usize
+    requires { IsTypeTree t.now }
+    ensures { result ≡ unwrap_or (spec.member_place (spec.property_members (tree_of t.now)) name.now) 0 }
 {
-    match constraint(navigation) {
-        Some(constraint) => {
-            let properties = property_members(alloc, entity_type)?;
-            Ok(member_place(&properties, constraint.name).unwrap_or(0))
-        }
-        None => Ok(0),
-    }
+    find_named(t.properties.as_slice(), name).unwrap_or(0)
 }
 
-/// The place of the navigation property of this name.
-fn navigation_place(alloc: Global, entity_type: &Value, name: &str) -> Result<usize, AllocError>
-    ensures { IfOk result (λ k. k ≡ unwrap_or (spec.member_place (spec.navigation_members (view entity_type.now)) name.now) 0) }
+/// The place of the navigation property of this name, or 0.
+fn navigation_place(t: &TypeTree<'_>, name: &str) -> usize
+    requires { IsTypeTree t.now }
+    ensures { result ≡ unwrap_or (spec.member_place (spec.navigation_members (tree_of t.now)) name.now) 0 }
 {
-    let navigations = navigation_members(alloc, entity_type)?;
-    Ok(member_place(&navigations, name).unwrap_or(0))
+    find_named(t.navigations.as_slice(), name).unwrap_or(0)
+}
+
+/// The place of the property that refers to the target's key.
+fn dependent_place(t: &TypeTree<'_>, navigation: &Value) -> usize
+    requires { IsTypeTree t.now }
+    ensures { result ≡ unwrap_or (option_and_then (λ c. spec.member_place (spec.property_members (tree_of t.now)) c.0) (spec.constraint (view navigation.now))) 0 }
+{
+    match constraint(navigation) {
+        Some(constraint) => property_place(t, constraint.name),
+        None => 0,
+    }
 }
 
 /// The place of the navigation property of the target that leads back, of a collection-valued one; 0 of the others.
-fn partner_place(
-    alloc: Global,
-    root: &Value,
-    types: &[Member<'_>],
-    navigation: &Value,
-) -> Result<usize, AllocError>
-    requires { map member_seen types.now ≡ spec.type_members (view root.now) }
-    ensures { IfOk result (λ k. k ≡ spec.partner_place (view root.now) (view navigation.now)) }
+fn partner_place(schema: &Schema<'_>, navigation: &Value) -> usize
+    requires { IsSchema schema.now }
+    ensures { result ≡ spec.partner_place (root_of schema.now) (view navigation.now) }
 {
     if !is_true_at("$Collection", navigation) {
-        return Ok(0);
+        return 0;
     }
-    match type_place(root, types, navigation) {
-        Some(place) => {
-            let target = type_tree(root, types, place);
-            navigation_place(alloc, target, text_at("$Partner", navigation))
-        }
-        None => Ok(0),
+    match type_place(schema, navigation) {
+        Some(place) => navigation_place(&schema.types[place], text_at("$Partner", navigation)),
+        None => 0,
     }
 }
 
 /// A navigation property of the model.
 fn navigation_of(
     alloc: Global,
-    root: &Value,
-    types: &[Member<'_>],
-    entity_type: &Value,
-    name: &str,
-    value: &Value,
+    schema: &Schema<'_>,
+    t: &TypeTree<'_>,
+    member: Member<'_>,
 ) -> Result<Navigation, AllocError>
-    requires { map member_seen types.now ≡ spec.type_members (view root.now) }
-    ensures { IfOk result (λ n. n ≡ spec.navigation_of (view root.now) (view entity_type.now) (name.now, view value.now)) }
+    requires schema { IsSchema schema.now }
+    requires t { IsTypeTree t.now }
+    ensures { IfOk result (λ n. n ≡ spec.navigation_of (root_of schema.now) (tree_of t.now) (member_seen member.entry)) }
 {
-    let name = text_of(alloc, name)?;
-    let dependent = dependent_place(alloc, entity_type, value)?;
-    let partner = partner_place(alloc, root, types, value)?;
+    let name = text_of(alloc, member.name)?;
     Ok(Navigation {
         name,
-        target: type_place(root, types, value).unwrap_or(0),
-        many: is_true_at("$Collection", value),
-        dependent,
-        partner,
+        target: type_place(schema, member.value).unwrap_or(0),
+        many: is_true_at("$Collection", member.value),
+        dependent: dependent_place(t, member.value),
+        partner: partner_place(schema, member.value),
     })
 }
 
 /// The navigation properties of an entity type.
 fn navigations_of(
     alloc: Global,
-    root: &Value,
-    types: &[Member<'_>],
-    entity_type: &Value,
+    schema: &Schema<'_>,
+    t: &TypeTree<'_>,
 ) -> Result<Vec<Navigation>, AllocError>
-    requires { map member_seen types.now ≡ spec.type_members (view root.now) }
-    ensures { IfOk result (λ v. v.items ≡ map (spec.navigation_of (view root.now) (view entity_type.now)) (spec.navigation_members (view entity_type.now))) }
+    requires schema { IsSchema schema.now }
+    requires t { IsTypeTree t.now }
+    ensures { let d = tree_of t.now in IfOk result (λ v. v.items ≡ map (spec.navigation_of (root_of schema.now) d) (spec.navigation_members d)) }
 {
     let mut navigations = Vec::new(alloc);
-    let Some(members) = entity_type.as_object() else {
-        return Ok(navigations);
-    };
-    for (name, value) in members {
-        if is_own(name) && is_navigation(value) {
-            navigations.push(navigation_of(alloc, root, types, entity_type, name, value)?)?;
-        }
+    for member in &t.navigations {
+        navigations.push(navigation_of(alloc, schema, t, *member)?)?;
     }
     Ok(navigations)
 }
@@ -162,33 +127,26 @@ fn navigations_of(
 /// A recursive hierarchy of the model.
 fn hierarchy_of(
     alloc: Global,
-    entity_type: &Value,
+    t: &TypeTree<'_>,
     qualifier: &str,
     value: &Value,
 ) -> Result<Hierarchy, AllocError>
-    ensures { IfOk result (λ h. h ≡ spec.hierarchy_from (view entity_type.now) qualifier.now (view value.now)) }
+    requires { IsTypeTree t.now }
+    ensures { IfOk result (λ h. h ≡ spec.hierarchy_from (tree_of t.now) qualifier.now (view value.now)) }
 {
     let qualifier = text_of(alloc, qualifier)?;
-    let parent = navigation_place(
-        alloc,
-        entity_type,
-        text_at("ParentNavigationProperty", value),
-    )?;
+    let parent = navigation_place(t, text_at("ParentNavigationProperty", value));
     Ok(Hierarchy { qualifier, parent })
 }
 
 /// The recursive hierarchies of an entity type.
-fn hierarchies_of(alloc: Global, entity_type: &Value) -> Result<Vec<Hierarchy>, AllocError>
-    ensures { IfOk result (λ v. v.items ≡ map (spec.hierarchy_of (view entity_type.now)) (spec.term_members spec.hierarchy_term (view entity_type.now))) }
+fn hierarchies_of(alloc: Global, t: &TypeTree<'_>) -> Result<Vec<Hierarchy>, AllocError>
+    requires { IsTypeTree t.now }
+    ensures { let d = tree_of t.now in IfOk result (λ v. v.items ≡ map (spec.hierarchy_of d) (spec.term_members spec.hierarchy_term d)) }
 {
     let mut hierarchies = Vec::new(alloc);
-    let Some(members) = entity_type.as_object() else {
-        return Ok(hierarchies);
-    };
-    for (name, value) in members {
-        if let Some(after) = qualifier(HIERARCHY_TERM, name) {
-            hierarchies.push(hierarchy_of(alloc, entity_type, after, value)?)?;
-        }
+    for member in &t.hierarchies {
+        hierarchies.push(hierarchy_of(alloc, t, member.name, member.value)?)?;
     }
     Ok(hierarchies)
 }
@@ -197,13 +155,10 @@ fn hierarchies_of(alloc: Global, entity_type: &Value) -> Result<Vec<Hierarchy>, 
 fn push_string(alloc: Global, texts: &mut Vec<Text>, item: &Value) -> Result<(), AllocError>
     ensures { OnOk result (texts.new.items ≡ texts.old.items ++ option_to_list (as_str (view item.now))) }
 {
-    match item.as_str() {
-        Some(text) => {
-            texts.push(text_of(alloc, text)?)?;
-            Ok(())
-        }
-        None => Ok(()),
+    if let Some(text) = item.as_str() {
+        texts.push(text_of(alloc, text)?)?;
     }
+    Ok(())
 }
 
 /// The texts of the strings of an array.
@@ -245,49 +200,32 @@ fn custom_of(alloc: Global, name: &str, value: &Value) -> Result<Definition, All
 }
 
 /// The custom aggregates of an entity type.
-fn customs_of(alloc: Global, entity_type: &Value) -> Result<Vec<Definition>, AllocError>
-    ensures { IfOk result (λ v. v.items ≡ map spec.custom_of (spec.term_members spec.definition_term (view entity_type.now))) }
+fn customs_of(alloc: Global, t: &TypeTree<'_>) -> Result<Vec<Definition>, AllocError>
+    requires { IsTypeTree t.now }
+    ensures { IfOk result (λ v. v.items ≡ map spec.custom_of (spec.term_members spec.definition_term (tree_of t.now))) }
 {
     let mut customs = Vec::new(alloc);
-    let Some(members) = entity_type.as_object() else {
-        return Ok(customs);
-    };
-    for (name, value) in members {
-        if let Some(after) = qualifier(DEFINITION_TERM, name) {
-            customs.push(custom_of(alloc, after, value)?)?;
-        }
+    for member in &t.definitions {
+        customs.push(custom_of(alloc, member.name, member.value)?)?;
     }
     Ok(customs)
 }
 
-/// The place of the key of an entity type.
-fn key_place(alloc: Global, entity_type: &Value) -> Result<usize, AllocError>
-    ensures { IfOk result (λ k. k ≡ unwrap_or (spec.member_place (spec.property_members (view entity_type.now)) (spec.key_name (view entity_type.now))) 0) }
-{
-    let properties = property_members(alloc, entity_type)?;
-    Ok(member_place(&properties, key_name(entity_type)).unwrap_or(0))
-}
-
 /// An entity type of the model.
-fn type_of(
-    alloc: Global,
-    root: &Value,
-    types: &[Member<'_>],
-    member: Member<'_>,
-) -> Result<EntityType, AllocError>
-    requires { map member_seen types.now ≡ spec.type_members (view root.now) }
-    ensures { IfOk result (λ t. t ≡ spec.type_of (view root.now) (member_seen member.entry)) }
+fn type_of(alloc: Global, schema: &Schema<'_>, t: &TypeTree<'_>) -> Result<EntityType, AllocError>
+    requires schema { IsSchema schema.now }
+    requires t { IsTypeTree t.now }
+    ensures { IfOk result (λ e. e ≡ spec.type_of (root_of schema.now) (type_seen t.now)) }
 {
-    let name = text_of(alloc, member.name)?;
-    let properties = properties_of(alloc, member.value)?;
-    let key = key_place(alloc, member.value)?;
-    let navigations = navigations_of(alloc, root, types, member.value)?;
-    let hierarchies = hierarchies_of(alloc, member.value)?;
-    let customs = customs_of(alloc, member.value)?;
+    let name = text_of(alloc, t.name)?;
+    let properties = properties_of(alloc, t)?;
+    let navigations = navigations_of(alloc, schema, t)?;
+    let hierarchies = hierarchies_of(alloc, t)?;
+    let customs = customs_of(alloc, t)?;
     Ok(EntityType {
         name,
         properties,
-        key,
+        key: property_place(t, t.key),
         navigations,
         hierarchies,
         customs,
@@ -295,37 +233,27 @@ fn type_of(
 }
 
 /// The entity types of the model.
-pub(crate) fn types_of(
-    alloc: Global,
-    root: &Value,
-    types: &[Member<'_>],
-) -> Result<Vec<EntityType>, AllocError>
-    requires { map member_seen types.now ≡ spec.type_members (view root.now) }
-    ensures { IfOk result (λ v. v.items ≡ map (spec.type_of (view root.now)) (spec.type_members (view root.now))) }
+pub(crate) fn types_of(alloc: Global, schema: &Schema<'_>) -> Result<Vec<EntityType>, AllocError>
+    requires { IsSchema schema.now }
+    ensures { let d = root_of schema.now in IfOk result (λ v. v.items ≡ map (spec.type_of d) (spec.type_members d)) }
 {
-    let mut built = Vec::new(alloc);
-    for member in types {
-        built.push(type_of(alloc, root, types, *member)?)?;
+    let mut types = Vec::new(alloc);
+    for t in &schema.types {
+        types.push(type_of(alloc, schema, t)?)?;
     }
-    Ok(built)
+    Ok(types)
 }
 
 /// The entity sets of the model.
-pub(crate) fn sets_of(
-    alloc: Global,
-    root: &Value,
-    types: &[Member<'_>],
-    sets: &[Member<'_>],
-) -> Result<Vec<EntitySet>, AllocError>
-    requires types { map member_seen types.now ≡ spec.type_members (view root.now) }
-    requires sets { map member_seen sets.now ≡ spec.set_members (view root.now) }
-    ensures { IfOk result (λ v. v.items ≡ map (spec.set_of (view root.now)) (spec.set_members (view root.now))) }
+pub(crate) fn sets_of(alloc: Global, schema: &Schema<'_>) -> Result<Vec<EntitySet>, AllocError>
+    requires { IsSchema schema.now }
+    ensures { let d = root_of schema.now in IfOk result (λ v. v.items ≡ map (spec.set_of d) (spec.set_members d)) }
 {
-    let mut built = Vec::new(alloc);
-    for member in sets {
+    let mut sets = Vec::new(alloc);
+    for member in &schema.sets {
         let name = text_of(alloc, member.name)?;
-        let of = type_place(root, types, member.value).unwrap_or(0);
-        built.push(EntitySet { name, of })?;
+        let of = type_place(schema, member.value).unwrap_or(0);
+        sets.push(EntitySet { name, of })?;
     }
-    Ok(built)
+    Ok(sets)
 }

@@ -124,13 +124,3 @@ pub(crate) fn has_scale_in_place(property: &Value) -> bool
 {
     is_decimal_property(property) || (lacks("$Scale", property) && lacks("$Precision", property))
 }
-
-/// Whether both are types, and of one kind.
-pub(crate) fn are_of_one_kind(a: Option<EdmType>, b: Option<EdmType>) -> bool
-    ensures { result ≡ spec.are_of_one_kind a b }
-{
-    match (a, b) {
-        (Some(a), Some(b)) => a.same_kind(b),
-        _ => false,
-    }
-}

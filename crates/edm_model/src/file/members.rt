@@ -1,18 +1,20 @@
-//! The members of an entity type: which are properties, navigation properties and terms.
-ghost use Rattle.std.specs.Prelude.{◌≡◌, ℕ, List, map, option_map, IfOk};
+//! The members of objects, in lists.
+ghost use Rattle.std.specs.Prelude.{ℕ, ◌≡◌, not, List, map, filter, option_map, IfOk, codes};
 ghost use Rattle.serde_json.specs.View.{view};
+ghost use Rattle.edm_values.specs.Lists.{same_text};
+ghost use Rattle.edm_model.specs.JsonTrees as tree;
+ghost use Rattle.edm_model.specs.JsonTrees.{members_in};
 ghost use Rattle.edm_model.specs.ModelFile as spec;
 ghost use Rattle.edm_model.specs.MemberLists.{member_seen};
+ghost use Rattle.edm_model.specs.Soundness.{AreOrdered};
 
-use crate::file::kinds::kind_of;
-use crate::file::names::{is_annotation, is_of_term, is_own, is_unread};
+use crate::file::names::{is_annotation, is_own, is_unread, qualifier};
 use crate::file::tree::is_text_at;
-use crate::named::Named;
-use edm_values::EdmType;
+use crate::named::{Named, find_named};
 use serde_json::Value;
 use std::alloc::{AllocError, Global};
 
-/// A member of an object.
+/// A member of an object, or of one term its qualifier and its value.
 #[derive(Clone, Copy, Drop)]
 pub(crate) struct Member<'v> {
     pub(crate) name: &'v str,
@@ -25,6 +27,32 @@ impl Named for Member<'_> {
     fn name(&self) -> &str {
         self.name
     }
+}
+
+/// The members of an object stand in byte order of their names.
+pub(crate) fn stand_in_order(value: &Value)
+    ensures { AreOrdered (map (λ m. m.0) (members_in (view value.now))) }
+{
+    match value.as_object() {
+        Some(members) => {
+            let _ = members.iter();
+        }
+        None => {}
+    }
+}
+
+/// The members of an object; of anything else, none.
+pub(crate) fn members_of<'v>(alloc: Global, value: &'v Value) -> Result<Vec<Member<'v>>, AllocError>
+    ensures { IfOk result (λ v. map member_seen v.items ≡ members_in (view value.now)) }
+{
+    let mut found = Vec::new(alloc);
+    let Some(members) = value.as_object() else {
+        return Ok(found);
+    };
+    for (name, value) in members {
+        found.push(Member { name, value })?;
+    }
+    Ok(found)
 }
 
 /// Whether it is an object of this kind.
@@ -52,141 +80,120 @@ pub(crate) fn is_navigation(value: &Value) -> bool
     is_object_of_kind("NavigationProperty", value)
 }
 
-/// The property of an entity type with this name.
-pub(crate) fn property_tree<'v>(entity_type: &'v Value, wanted: &str) -> Option<&'v Value>
-    ensures { option_map (λ v. view v.now) result ≡ spec.named (spec.property_members (view entity_type.now)) wanted.now }
-{
-    let Some(members) = entity_type.as_object() else {
-        return None;
-    };
-    for (name, value) in members {
-        if is_own(name) && is_property(value) && name.as_str() == wanted {
-            return Some(value);
-        }
-    }
-    None
-}
-
-/// The navigation property of an entity type with this name.
-pub(crate) fn navigation_tree<'v>(entity_type: &'v Value, wanted: &str) -> Option<&'v Value>
-    ensures { option_map (λ v. view v.now) result ≡ spec.named (spec.navigation_members (view entity_type.now)) wanted.now }
-{
-    let Some(members) = entity_type.as_object() else {
-        return None;
-    };
-    for (name, value) in members {
-        if is_own(name) && is_navigation(value) && name.as_str() == wanted {
-            return Some(value);
-        }
-    }
-    None
-}
-
-/// The type of the property of an entity type with this name.
-pub(crate) fn property_kind(entity_type: &Value, name: &str) -> Option<EdmType>
-    ensures { result ≡ spec.property_kind (view entity_type.now) name.now }
-{
-    match property_tree(entity_type, name) {
-        Some(property) => kind_of(property),
-        None => None,
-    }
-}
-
-/// The properties of an entity type.
-pub(crate) fn property_members<'v>(
+/// The properties and navigation properties among the members of an entity type.
+#[tactic(auto, using(crate::proofs::Mapped::filter_mapped))]
+pub(crate) fn own_members<'v>(
     alloc: Global,
-    entity_type: &'v Value,
+    members: &[Member<'v>],
 ) -> Result<Vec<Member<'v>>, AllocError>
-    ensures { IfOk result (λ v. map member_seen v.items ≡ spec.property_members (view entity_type.now)) }
+    ensures { IfOk result (λ v. map member_seen v.items ≡ filter (λ m. spec.is_own m.0) (map member_seen members.now)) }
 {
-    let mut found = Vec::new(alloc);
-    let Some(members) = entity_type.as_object() else {
-        return Ok(found);
-    };
-    for (name, value) in members {
-        if is_own(name) && is_property(value) {
-            found.push(Member { name, value })?;
-        }
-    }
-    Ok(found)
+    members
+        .iter()
+        .copied()
+        .filter(|m| is_own(m.name))
+        .collect(alloc)
 }
 
-/// The navigation properties of an entity type.
-pub(crate) fn navigation_members<'v>(
+/// The properties among these.
+#[tactic(auto, using(crate::proofs::Mapped::filter_mapped))]
+pub(crate) fn properties_among<'v>(
     alloc: Global,
-    entity_type: &'v Value,
+    own: &[Member<'v>],
 ) -> Result<Vec<Member<'v>>, AllocError>
-    ensures { IfOk result (λ v. map member_seen v.items ≡ spec.navigation_members (view entity_type.now)) }
+    ensures { IfOk result (λ v. map member_seen v.items ≡ filter (λ m. spec.is_property m.1) (map member_seen own.now)) }
 {
-    let mut found = Vec::new(alloc);
-    let Some(members) = entity_type.as_object() else {
-        return Ok(found);
-    };
-    for (name, value) in members {
-        if is_own(name) && is_navigation(value) {
-            found.push(Member { name, value })?;
-        }
-    }
-    Ok(found)
+    own.iter()
+        .copied()
+        .filter(|m| is_property(m.value))
+        .collect(alloc)
 }
 
-/// The members of an entity type that are of the term.
-pub(crate) fn term_members<'v>(
+/// The navigation properties among these.
+#[tactic(auto, using(crate::proofs::Mapped::filter_mapped))]
+pub(crate) fn navigations_among<'v>(
+    alloc: Global,
+    own: &[Member<'v>],
+) -> Result<Vec<Member<'v>>, AllocError>
+    ensures { IfOk result (λ v. map member_seen v.items ≡ filter (λ m. spec.is_navigation m.1) (map member_seen own.now)) }
+{
+    own.iter()
+        .copied()
+        .filter(|m| is_navigation(m.value))
+        .collect(alloc)
+}
+
+/// The members that are of the term, by their qualifiers.
+pub(crate) fn qualified_members<'v>(
     alloc: Global,
     term: &str,
-    entity_type: &'v Value,
+    members: &[Member<'v>],
 ) -> Result<Vec<Member<'v>>, AllocError>
-    ensures { IfOk result (λ v. map member_seen v.items ≡ spec.term_members term.now (view entity_type.now)) }
+    ensures { IfOk result (λ v. map member_seen v.items ≡ map (λ m. (spec.qualifier term.now m.0, m.1)) (filter (λ m. spec.is_of_term term.now m.0) (map member_seen members.now))) }
 {
     let mut found = Vec::new(alloc);
-    let Some(members) = entity_type.as_object() else {
-        return Ok(found);
-    };
-    for (name, value) in members {
-        if is_of_term(term, name) {
-            found.push(Member { name, value })?;
-        }
+    for member in members {
+        let Some(name) = qualifier(term, member.name) else {
+            continue;
+        };
+        let value = member.value;
+        found.push(Member { name, value })?;
     }
     Ok(found)
 }
 
-/// The members of an object that are read and are objects of this kind.
-pub(crate) fn members_of_kind<'v>(
+/// The members that are read.
+#[tactic(auto, using(crate::proofs::Mapped::filter_mapped))]
+pub(crate) fn read_members<'v>(
+    alloc: Global,
+    members: &[Member<'v>],
+) -> Result<Vec<Member<'v>>, AllocError>
+    ensures { IfOk result (λ v. map member_seen v.items ≡ filter (λ m. not (spec.is_unread m.0)) (map member_seen members.now)) }
+{
+    members
+        .iter()
+        .copied()
+        .filter(|m| !is_unread(m.name))
+        .collect(alloc)
+}
+
+/// The objects of this kind among these.
+#[tactic(auto, using(crate::proofs::Mapped::filter_mapped))]
+pub(crate) fn objects_among<'v>(
     alloc: Global,
     kind: &str,
-    object: &'v Value,
+    read: &[Member<'v>],
 ) -> Result<Vec<Member<'v>>, AllocError>
-    ensures { IfOk result (λ v. map member_seen v.items ≡ spec.members_of_kind kind.now (view object.now)) }
+    ensures { IfOk result (λ v. map member_seen v.items ≡ filter (λ m. spec.is_object_of_kind kind.now m.1) (map member_seen read.now)) }
 {
-    let mut found = Vec::new(alloc);
-    let Some(members) = object.as_object() else {
-        return Ok(found);
-    };
-    for (name, value) in members {
-        if !is_unread(name) && is_object_of_kind(kind, value) {
-            found.push(Member { name, value })?;
-        }
-    }
-    Ok(found)
+    read.iter()
+        .copied()
+        .filter(|m| is_object_of_kind(kind, m.value))
+        .collect(alloc)
 }
 
-/// The members of an object that are read, besides its kind.
-pub(crate) fn members_besides_kind<'v>(
+/// All of these but the kind.
+#[tactic(auto, using(crate::proofs::Mapped::filter_mapped))]
+pub(crate) fn besides_kind<'v>(
     alloc: Global,
-    object: &'v Value,
+    read: &[Member<'v>],
 ) -> Result<Vec<Member<'v>>, AllocError>
-    ensures { IfOk result (λ v. map member_seen v.items ≡ spec.members_besides_kind (view object.now)) }
+    ensures { IfOk result (λ v. map member_seen v.items ≡ filter (λ m. not (same_text m.0 (codes "$Kind"))) (map member_seen read.now)) }
 {
-    let mut found = Vec::new(alloc);
-    let Some(members) = object.as_object() else {
-        return Ok(found);
-    };
-    for (name, value) in members {
-        if !is_unread(name) && name.as_str() != "$Kind" {
-            found.push(Member { name, value })?;
-        }
+    read.iter()
+        .copied()
+        .filter(|m| m.name != "$Kind")
+        .collect(alloc)
+}
+
+/// The one member of a list of exactly one.
+pub(crate) fn only<'v>(members: &[Member<'v>]) -> Option<Member<'v>>
+    ensures { option_map member_seen result ≡ tree.only (map member_seen members.now) }
+{
+    match members {
+        [member] => Some(*member),
+        _ => None,
     }
-    Ok(found)
 }
 
 /// The one referential constraint of a navigation property.
@@ -209,4 +216,18 @@ pub(crate) fn constraint(navigation: &Value) -> Option<Member<'_>>
         }
     }
     found
+}
+
+/// The value of the member of this name.
+pub(crate) fn named<'v>(members: &[Member<'v>], name: &str) -> Option<&'v Value>
+    requires { AreOrdered (map (λ m. m.name.now) members.now) }
+    ensures { option_map (λ v. view v.now) result ≡ spec.named (map member_seen members.now) name.now }
+{
+    match find_named(members, name) {
+        Some(place) => {
+            let member = &members[place];
+            Some(member.value)
+        }
+        None => None,
+    }
 }

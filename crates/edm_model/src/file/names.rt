@@ -1,5 +1,6 @@
 //! The names of members: which are read, and what each is.
-ghost use Rattle.std.specs.Prelude.{◌≡◌, ◌&&◌, not, map, option_map, if◌then◌else◌, Some, None};
+ghost use Rattle.std.specs.Prelude.{◌≡◌, ◌&&◌, not, map, drop, length, nat_eq, option_map, if◌then◌else◌, Some, None};
+ghost use Rattle.std.specs.List.{starts_with};
 ghost use Rattle.edm_values.specs.Lists as lists;
 ghost use Rattle.edm_model.specs.ModelFile as spec;
 
@@ -19,16 +20,23 @@ pub fn is_annotation(name: &str) -> bool
     name.as_bytes().iter().any(|byte| b'@' == *byte)
 }
 
+/// What follows the front of a text that begins with it.
+pub(crate) fn after<'t>(front: &str, text: &'t str) -> Option<&'t str>
+    ensures { option_map (λ r. r.now) result ≡ (if starts_with nat_eq text.now front.now then Some (drop (length front.now) text.now) else None) }
+{
+    text.strip_prefix(front)
+}
+
 /// The text after the term, if the name is of the term and no annotation of such an annotation.
 pub(crate) fn qualifier<'n>(term: &str, name: &'n str) -> Option<&'n str>
     ensures { option_map (λ q. q.now) result ≡ (if spec.is_of_term term.now name.now then Some (spec.qualifier term.now name.now) else None) }
 {
-    match name.strip_prefix(term) {
-        Some(after) => {
-            if is_annotation(after) {
+    match after(term, name) {
+        Some(qualifier) => {
+            if is_annotation(qualifier) {
                 None
             } else {
-                Some(after)
+                Some(qualifier)
             }
         }
         None => None,

@@ -1,17 +1,13 @@
 //! Reading a model file.
-ghost use Rattle.std.specs.Prelude.{◌≡◌, map, true, if◌then◌else◌, Some, None, IfOk, IsErrOf};
+ghost use Rattle.std.specs.Prelude.{◌≡◌, if◌then◌else◌, Some, None, IfOk, IsErrOf};
 ghost use Rattle.serde_json.specs.View.{view};
-ghost use Rattle.edm_model.specs.JsonTrees.{json_of, members_in};
+ghost use Rattle.edm_model.specs.JsonTrees.{json_of};
 ghost use Rattle.edm_model.specs.ModelFile as spec;
-ghost use Rattle.edm_model.specs.MemberLists.{member_seen};
-ghost use Rattle.edm_model.specs.Soundness.{AreOrdered, InOrder};
 
 use crate::Model;
-use crate::file::accepted::{is_model, stand_in_order, types_stand_in_order};
 use crate::file::build::{sets_of, types_of};
-use crate::file::members::Member;
-use crate::file::schema::{container, schema, set_members, type_members};
-use crate::parts::EntitySet;
+use crate::file::rules::is_model;
+use crate::file::schema::read_schema;
 use serde_json::Value;
 use std::alloc::{AllocError, Global};
 use thiserror::Error;
@@ -36,65 +32,18 @@ pub enum ModelRefused {
     Memory,
 }
 
-/// The members of the schema stand in byte order of their names.
-fn schema_stands_in_order(root: &Value)
-    ensures { AreOrdered (map (λ m. m.0) (members_in (spec.schema (view root.now)))) }
-{
-    match schema(root) {
-        Some(schema) => stand_in_order(schema),
-        None => {}
-    }
-}
-
-/// The members of the entity container stand in byte order of their names.
-fn container_stands_in_order(root: &Value)
-    ensures { AreOrdered (map (λ m. m.0) (members_in (spec.container (view root.now)))) }
-{
-    match container(root) {
-        Some(container) => stand_in_order(container),
-        None => {}
-    }
-}
-
-/// The schema, the container and each entity type have their members in byte order of names.
-fn stands_in_order(root: &Value, types: &[Member<'_>])
-    requires { map member_seen types.now ≡ spec.type_members (view root.now) }
-    ensures { InOrder (view root.now) }
-{
-    schema_stands_in_order(root);
-    container_stands_in_order(root);
-    types_stand_in_order(root, types);
-}
-
-/// The model of a tree that keeps every rule.
-#[tactic(auto, using(crate::proofs::Sound::sound))]
-fn model_of(
-    alloc: Global,
-    root: &Value,
-    types: &[Member<'_>],
-    sets: Vec<EntitySet>,
-) -> Result<Model, AllocError>
-    requires types { map member_seen types.now ≡ spec.type_members (view root.now) }
-    requires sets { sets.items ≡ map (spec.set_of (view root.now)) (spec.set_members (view root.now)) }
-    requires accepted { spec.is_model (view root.now) ≡ true }
-    ensures { IfOk result (λ m. m ≡ spec.model_of (view root.now)) }
-{
-    stands_in_order(root, types);
-    let types = types_of(alloc, root, types)?;
-    Model::from_parts(alloc, types, sets)
-}
-
 /// The model of a tree, if it keeps every rule.
+#[tactic(auto, using(crate::proofs::Sound::sound))]
 fn read_tree(alloc: Global, root: &Value) -> Result<Option<Model>, AllocError>
     ensures { IfOk result (λ o. o ≡ (if spec.is_model (view root.now) then Some (spec.model_of (view root.now)) else None)) }
 {
-    let types = type_members(alloc, root)?;
-    let sets = set_members(alloc, root)?;
-    let built = sets_of(alloc, root, &types, &sets)?;
-    if !is_model(root, &types, &sets, &built) {
+    let schema = read_schema(alloc, root)?;
+    let sets = sets_of(alloc, &schema)?;
+    if !is_model(alloc, &schema, &sets)? {
         return Ok(None);
     }
-    let model = model_of(alloc, root, &types, built)?;
+    let types = types_of(alloc, &schema)?;
+    let model = Model::from_parts(alloc, types, sets)?;
     Ok(Some(model))
 }
 

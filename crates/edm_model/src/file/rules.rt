@@ -1,29 +1,41 @@
 //! The rules of an accepted model file, each a test.
-ghost use Rattle.std.specs.Prelude.{◌≡◌, ◌||◌, ◌&&◌, not, is_some, codes};
+ghost use Rattle.std.specs.Prelude.{ℕ, ◌≡◌, ◌||◌, ◌&&◌, ◌==◌, ◌<◌, not, is_some, codes, map, length, count_by, IfOk};
 ghost use Rattle.std.specs.List.{list_all, list_any, slice_split};
 ghost use Rattle.serde_json.specs.View.{view};
 ghost use Rattle.edm_values.specs.Literals.{is_point};
-ghost use Rattle.edm_values.specs.Lists.{same_text, is_some_and};
+ghost use Rattle.edm_values.specs.Lists.{same_text, is_some_and, places, exactly_one};
 ghost use Rattle.edm_values.specs.Names as names;
 ghost use Rattle.edm_model.specs.JsonTrees.{members_in, passes_at, only_string, is_string};
 ghost use Rattle.edm_model.specs.ModelFile as spec;
+ghost use Rattle.edm_model.specs.MemberLists.{member_seen, type_seen, root_of, tree_of, IsTypeTree, IsSchema};
 
 use crate::file::kinds::{
     has_property_type, has_scale_in_place, is_key_kind, is_nullable, kind_of,
 };
-use crate::file::members::{is_navigation, is_object_of_kind, is_property, property_tree};
+use crate::file::links::{is_entity_set, is_hierarchy, is_navigable};
+use crate::file::members::{Member, is_navigation, is_object_of_kind, is_property, named, only};
 use crate::file::names::{
-    AGGREGATE_TERM, DEFINITION_TERM, HIERARCHY_TERM, is_of_term, is_own, is_unread, qualifier,
+    AGGREGATE_TERM, DEFINITION_TERM, HIERARCHY_TERM, is_own, is_unread, qualifier,
 };
-use crate::file::schema::{container_name, namespace, only_container, schema};
+use crate::file::schema::{Schema, TypeTree, container_name, namespace};
 use crate::file::tree::{
-    is_list_of_strings, is_object_at, is_object_of, is_string_at, lacks, only_string, text_at,
+    is_list_of_strings, is_object_at, is_object_of, is_string_at, lacks, only_string,
 };
+use crate::named::find_named;
+use crate::parts::EntitySet;
 use edm_values::{Method, is_name};
 use serde_json::Value;
+use std::alloc::{AllocError, Global};
+
+/// Whether the parts of a text between its points are simple identifiers.
+fn are_names(text: &str) -> bool
+    ensures { result ≡ list_all names.is_name (slice_split is_point text.now) }
+{
+    text.split('.').all(|part| is_name(part))
+}
 
 /// Whether the root has a version, a container's path, and one schema under the path's namespace.
-pub(crate) fn has_one_schema(root: &Value) -> bool
+fn has_one_schema(root: &Value) -> bool
     ensures { result ≡ spec.has_one_schema (view root.now) }
 {
     let namespace = namespace(root);
@@ -34,52 +46,34 @@ pub(crate) fn has_one_schema(root: &Value) -> bool
         && is_object_at(namespace, root)
 }
 
-/// Whether each member of the schema is an entity type or a container, and there is one container, of the name in the
-/// path.
-pub(crate) fn has_one_container(root: &Value) -> bool
-    ensures { result ≡ spec.has_one_container (view root.now) }
+/// Whether a member of the schema is not read, or an entity type or a container.
+fn is_schema_member(member: Member<'_>) -> bool
+    ensures { let m = member_seen member.entry in result ≡ (spec.is_unread m.0 || spec.is_object_of_kind (codes "EntityType") m.1 || spec.is_object_of_kind (codes "EntityContainer") m.1) }
 {
-    match schema(root) {
-        Some(schema) => {
-            has_types_and_containers(schema)
-                && match only_container(schema) {
-                    Some(container) => container.name == container_name(root),
-                    None => false,
-                }
-        }
-        None => false,
-    }
+    is_unread(member.name)
+        || is_object_of_kind("EntityType", member.value)
+        || is_object_of_kind("EntityContainer", member.value)
 }
 
 /// Whether each member of the schema is an entity type or a container.
-fn has_types_and_containers(schema: &Value) -> bool
-    ensures { result ≡ list_all (λ m. spec.is_unread m.0 || spec.is_object_of_kind (codes "EntityType") m.1 || spec.is_object_of_kind (codes "EntityContainer") m.1) (members_in (view schema.now)) }
+fn has_types_and_containers(schema: &Schema<'_>) -> bool
+    requires { IsSchema schema.now }
+    ensures { result ≡ list_all (λ m. spec.is_unread m.0 || spec.is_object_of_kind (codes "EntityType") m.1 || spec.is_object_of_kind (codes "EntityContainer") m.1) (members_in (spec.schema (root_of schema.now))) }
 {
-    let Some(members) = schema.as_object() else {
-        return true;
-    };
-    for (name, value) in members {
-        if !is_unread(name)
-            && !is_object_of_kind("EntityType", value)
-            && !is_object_of_kind("EntityContainer", value)
-        {
-            return false;
-        }
-    }
-    true
+    schema.members.iter().all(|m| is_schema_member(*m))
 }
 
-/// The one name in `$Key`.
-pub(crate) fn key_name(entity_type: &Value) -> &str
-    ensures { result.now ≡ spec.key_name (view entity_type.now) }
+/// Whether each member of the schema is an entity type or a container, and there is one container, of the name in the
+/// path.
+fn has_one_container(schema: &Schema<'_>) -> bool
+    requires { IsSchema schema.now }
+    ensures { result ≡ spec.has_one_container (root_of schema.now) }
 {
-    match entity_type.get("$Key") {
-        Some(key) => match only_string(key) {
-            Some(name) => name,
-            None => "",
-        },
-        None => "",
-    }
+    has_types_and_containers(schema)
+        && match only(schema.containers.as_slice()) {
+            Some(container) => container.name == container_name(schema.root),
+            None => false,
+        }
 }
 
 /// Whether `$Key` is an array of one string.
@@ -104,116 +98,76 @@ fn is_key_property(property: &Value) -> bool
 }
 
 /// Whether the key is one property of the type that is not nullable, an integer, a text or a day.
-pub(crate) fn has_one_key(entity_type: &Value) -> bool
-    ensures { result ≡ spec.has_one_key (view entity_type.now) }
+fn has_one_key(t: &TypeTree<'_>) -> bool
+    requires { IsTypeTree t.now }
+    ensures { result ≡ spec.has_one_key (tree_of t.now) }
 {
-    has_key_name(entity_type)
-        && match property_tree(entity_type, key_name(entity_type)) {
+    has_key_name(t.value)
+        && match named(t.properties.as_slice(), t.key) {
             Some(property) => is_key_property(property),
             None => false,
         }
 }
 
-/// Whether each member of the type besides its key and terms is a property or a navigation property.
-pub(crate) fn has_known_members(entity_type: &Value) -> bool
-    ensures { result ≡ spec.has_known_members (view entity_type.now) }
+/// Whether a member of a type is its key or a term, or a property or a navigation property.
+fn is_type_member(member: Member<'_>) -> bool
+    ensures { let m = member_seen member.entry in result ≡ (not (spec.is_own m.0) || spec.is_property m.1 || spec.is_navigation m.1) }
 {
-    let Some(members) = entity_type.as_object() else {
-        return true;
-    };
-    for (name, value) in members {
-        if is_own(name) && !is_property(value) && !is_navigation(value) {
-            return false;
-        }
-    }
-    true
+    !is_own(member.name) || is_property(member.value) || is_navigation(member.value)
+}
+
+/// Whether each member of the type besides its key and terms is a property or a navigation property.
+fn has_known_members(t: &TypeTree<'_>) -> bool
+    requires { IsTypeTree t.now }
+    ensures { result ≡ spec.has_known_members (tree_of t.now) }
+{
+    t.members.iter().all(|m| is_type_member(*m))
 }
 
 /// Whether each property has one of the five types.
-pub(crate) fn has_property_types(entity_type: &Value) -> bool
-    ensures { result ≡ list_all (λ m. spec.has_property_type m.1) (spec.property_members (view entity_type.now)) }
+fn has_property_types(t: &TypeTree<'_>) -> bool
+    requires { IsTypeTree t.now }
+    ensures { result ≡ list_all (λ m. spec.has_property_type m.1) (spec.property_members (tree_of t.now)) }
 {
-    let Some(members) = entity_type.as_object() else {
-        return true;
-    };
-    for (name, value) in members {
-        if is_own(name) && is_property(value) && !has_property_type(value) {
-            return false;
-        }
-    }
-    true
+    t.properties.iter().all(|m| has_property_type(m.value))
 }
 
 /// Whether only decimals have a scale or a precision.
-pub(crate) fn has_scales_in_place(entity_type: &Value) -> bool
-    ensures { result ≡ list_all (λ m. spec.has_scale_in_place m.1) (spec.property_members (view entity_type.now)) }
+fn has_scales_in_place(t: &TypeTree<'_>) -> bool
+    requires { IsTypeTree t.now }
+    ensures { result ≡ list_all (λ m. spec.has_scale_in_place m.1) (spec.property_members (tree_of t.now)) }
 {
-    let Some(members) = entity_type.as_object() else {
-        return true;
-    };
-    for (name, value) in members {
-        if is_own(name) && is_property(value) && !has_scale_in_place(value) {
-            return false;
-        }
-    }
-    true
+    t.properties.iter().all(|m| has_scale_in_place(m.value))
+}
+
+/// Whether each navigation property is accepted.
+fn has_navigations(schema: &Schema<'_>, k: usize, t: &TypeTree<'_>) -> bool
+    requires schema { IsSchema schema.now }
+    requires t { IsTypeTree t.now }
+    ensures { let d = tree_of t.now in result ≡ list_all (λ m. spec.is_navigable (root_of schema.now) k d m.1) (spec.navigation_members d) }
+{
+    t.navigations
+        .iter()
+        .all(|m| is_navigable(schema, k, t, m.value))
+}
+
+/// Whether each recursive hierarchy is accepted.
+fn has_hierarchies(schema: &Schema<'_>, k: usize, t: &TypeTree<'_>) -> bool
+    requires schema { IsSchema schema.now }
+    requires t { IsTypeTree t.now }
+    ensures { let d = tree_of t.now in result ≡ list_all (λ m. spec.is_hierarchy (root_of schema.now) k d m.1) (spec.term_members spec.hierarchy_term d) }
+{
+    t.hierarchies
+        .iter()
+        .all(|m| is_hierarchy(schema, k, t, m.value))
 }
 
 /// Whether each custom aggregate's term is a string.
-pub(crate) fn has_aggregate_strings(entity_type: &Value) -> bool
-    ensures { result ≡ list_all (λ m. is_string m.1) (spec.term_members spec.aggregate_term (view entity_type.now)) }
+fn has_aggregate_strings(t: &TypeTree<'_>) -> bool
+    requires { IsTypeTree t.now }
+    ensures { result ≡ list_all (λ m. is_string m.1) (spec.term_members spec.aggregate_term (tree_of t.now)) }
 {
-    let Some(members) = entity_type.as_object() else {
-        return true;
-    };
-    for (name, value) in members {
-        if is_of_term(AGGREGATE_TERM, name) && !value.is_string() {
-            return false;
-        }
-    }
-    true
-}
-
-/// Whether the name is of the term only with a simple identifier as its qualifier.
-fn is_simply_qualified(term: &str, name: &str) -> bool
-    ensures { result ≡ spec.is_simply_qualified term.now name.now }
-{
-    match qualifier(term, name) {
-        Some(after) => is_name(after),
-        None => true,
-    }
-}
-
-/// Whether the members of a type are simple identifiers or have them as qualifiers.
-pub(crate) fn has_simple_parts(entity_type: &Value) -> bool
-    ensures { result ≡ spec.has_simple_parts (view entity_type.now) }
-{
-    let Some(members) = entity_type.as_object() else {
-        return true;
-    };
-    for (name, _) in members {
-        if !has_simple_name(name) {
-            return false;
-        }
-    }
-    true
-}
-
-/// Whether the name of a member of a type is a simple identifier or has one as its qualifier.
-fn has_simple_name(name: &str) -> bool
-    ensures { result ≡ ((not (spec.is_own name.now) || names.is_name name.now) && spec.is_simply_qualified spec.hierarchy_term name.now && spec.is_simply_qualified spec.aggregate_term name.now && spec.is_simply_qualified spec.definition_term name.now) }
-{
-    (!is_own(name) || is_name(name))
-        && is_simply_qualified(HIERARCHY_TERM, name)
-        && is_simply_qualified(AGGREGATE_TERM, name)
-        && is_simply_qualified(DEFINITION_TERM, name)
-}
-
-/// Whether the parts of a text between its points are simple identifiers.
-fn are_names(text: &str) -> bool
-    ensures { result ≡ list_all names.is_name (slice_split is_point text.now) }
-{
-    text.split('.').all(|part| is_name(part))
+    t.aggregates.iter().all(|m| m.value.is_string())
 }
 
 /// The aggregation method of this name.
@@ -270,74 +224,189 @@ fn is_definition(definition: &Value) -> bool
         && has_groups_or_none(definition)
 }
 
-/// Whether a custom aggregate of this name stands in the type.
-fn has_aggregate(entity_type: &Value, wanted: &str) -> bool
-    ensures { result ≡ list_any (λ m. spec.is_of_term spec.aggregate_term m.0 && same_text (spec.qualifier spec.aggregate_term m.0) wanted.now) (members_in (view entity_type.now)) }
-{
-    let Some(members) = entity_type.as_object() else {
-        return false;
-    };
-    for (name, _) in members {
-        if is_qualified(AGGREGATE_TERM, name, wanted) {
-            return true;
-        }
-    }
-    false
-}
-
-/// Whether the name is of the term with this qualifier.
-fn is_qualified(term: &str, name: &str, wanted: &str) -> bool
-    ensures { result ≡ (spec.is_of_term term.now name.now && same_text (spec.qualifier term.now name.now) wanted.now) }
-{
-    match qualifier(term, name) {
-        Some(after) => after == wanted,
-        None => false,
-    }
-}
-
-/// Whether a property or navigation property has this name.
-fn has_own(entity_type: &Value, wanted: &str) -> bool
-    ensures { result ≡ list_any (λ m. spec.is_own m.0 && same_text m.0 wanted.now) (members_in (view entity_type.now)) }
-{
-    let Some(members) = entity_type.as_object() else {
-        return false;
-    };
-    for (name, _) in members {
-        if is_own(name) && name.as_str() == wanted {
-            return true;
-        }
-    }
-    false
-}
-
 /// Whether the custom aggregate of this name stands in the type, and no property or navigation property has the name.
-fn is_custom_name(entity_type: &Value, name: &str) -> bool
-    ensures { result ≡ spec.is_custom_name (view entity_type.now) name.now }
+fn is_custom_name(t: &TypeTree<'_>, name: &str) -> bool
+    requires { IsTypeTree t.now }
+    ensures { result ≡ spec.is_custom_name (tree_of t.now) name.now }
 {
-    has_aggregate(entity_type, name) && !has_own(entity_type, name)
+    find_named(t.aggregates.as_slice(), name).is_some()
+        && find_named(t.own.as_slice(), name).is_none()
 }
 
-/// Whether a member is no definition of a custom aggregate, or an accepted one.
-fn is_definition_member(entity_type: &Value, name: &str, value: &Value) -> bool
-    ensures { result ≡ (not (spec.is_of_term spec.definition_term name.now) || (spec.is_definition (view value.now) && spec.is_custom_name (view entity_type.now) (spec.qualifier spec.definition_term name.now))) }
+/// Whether the definition of a custom aggregate of this name is accepted.
+fn is_accepted_definition(t: &TypeTree<'_>, member: Member<'_>) -> bool
+    requires { IsTypeTree t.now }
+    ensures { let m = member_seen member.entry in result ≡ (spec.is_definition m.1 && spec.is_custom_name (tree_of t.now) m.0) }
 {
-    match qualifier(DEFINITION_TERM, name) {
-        Some(after) => is_definition(value) && is_custom_name(entity_type, after),
-        None => true,
-    }
+    is_definition(member.value) && is_custom_name(t, member.name)
 }
 
 /// Whether each definition of a custom aggregate is accepted.
-pub(crate) fn has_definitions(entity_type: &Value) -> bool
-    ensures { result ≡ list_all (λ m. spec.is_definition m.1 && spec.is_custom_name (view entity_type.now) (spec.qualifier spec.definition_term m.0)) (spec.term_members spec.definition_term (view entity_type.now)) }
+fn has_definitions(t: &TypeTree<'_>) -> bool
+    requires { IsTypeTree t.now }
+    ensures { let d = tree_of t.now in result ≡ list_all (λ m. spec.is_definition m.1 && spec.is_custom_name d (spec.qualifier spec.definition_term m.0)) (spec.term_members spec.definition_term d) }
 {
-    let Some(members) = entity_type.as_object() else {
-        return true;
-    };
-    for (name, value) in members {
-        if !is_definition_member(entity_type, name, value) {
+    t.definitions.iter().all(|m| is_accepted_definition(t, *m))
+}
+
+/// Whether the entity type at this place is accepted.
+fn is_type(schema: &Schema<'_>, k: usize, t: &TypeTree<'_>) -> bool
+    requires schema { IsSchema schema.now }
+    requires t { IsTypeTree t.now }
+    ensures { result ≡ spec.is_type (root_of schema.now) k (tree_of t.now) }
+{
+    has_one_key(t)
+        && has_known_members(t)
+        && has_property_types(t)
+        && has_scales_in_place(t)
+        && has_navigations(schema, k, t)
+        && has_hierarchies(schema, k, t)
+        && has_aggregate_strings(t)
+        && has_definitions(t)
+}
+
+/// Whether every entity type is accepted.
+#[tactic(auto, using(crate::proofs::Counted::counted))]
+fn has_types(schema: &Schema<'_>) -> bool
+    requires { IsSchema schema.now }
+    ensures { let d = root_of schema.now in result ≡ list_all (λ k. spec.is_type d k (spec.type_tree d k)) (places (length (spec.type_members d))) }
+{
+    for k in 0..schema.types.len() {
+        if !is_type(schema, k, &schema.types[k]) {
             return false;
         }
     }
     true
+}
+
+/// Whether the name is of the term only with a simple identifier as its qualifier.
+fn is_simply_qualified(term: &str, name: &str) -> bool
+    ensures { result ≡ spec.is_simply_qualified term.now name.now }
+{
+    match qualifier(term, name) {
+        Some(after) => is_name(after),
+        None => true,
+    }
+}
+
+/// Whether the name of a member of a type is a simple identifier or has one as its qualifier.
+fn has_simple_name(name: &str) -> bool
+    ensures { result ≡ ((not (spec.is_own name.now) || names.is_name name.now) && spec.is_simply_qualified spec.hierarchy_term name.now && spec.is_simply_qualified spec.aggregate_term name.now && spec.is_simply_qualified spec.definition_term name.now) }
+{
+    (!is_own(name) || is_name(name))
+        && is_simply_qualified(HIERARCHY_TERM, name)
+        && is_simply_qualified(AGGREGATE_TERM, name)
+        && is_simply_qualified(DEFINITION_TERM, name)
+}
+
+/// Whether the members of a type are simple identifiers or have them as qualifiers.
+fn has_simple_parts(t: &TypeTree<'_>) -> bool
+    requires { IsTypeTree t.now }
+    ensures { result ≡ spec.has_simple_parts (tree_of t.now) }
+{
+    t.members.iter().all(|m| has_simple_name(m.name))
+}
+
+/// Whether the parts of each entity type have simple identifiers.
+fn have_simple_parts(schema: &Schema<'_>) -> bool
+    requires { IsSchema schema.now }
+    ensures { result ≡ list_all (λ m. spec.has_simple_parts m.1) (spec.type_members (root_of schema.now)) }
+{
+    for t in &schema.types {
+        if !has_simple_parts(t) {
+            return false;
+        }
+    }
+    true
+}
+
+/// Whether the types have simple identifiers.
+fn are_types_named(schema: &Schema<'_>) -> bool
+    requires { IsSchema schema.now }
+    ensures { result ≡ list_all (λ m. names.is_name m.0) (spec.type_members (root_of schema.now)) }
+{
+    schema.types.iter().all(|t| is_name(t.name))
+}
+
+/// Whether the sets have simple identifiers.
+fn are_sets_named(schema: &Schema<'_>) -> bool
+    requires { IsSchema schema.now }
+    ensures { result ≡ list_all (λ m. names.is_name m.0) (spec.set_members (root_of schema.now)) }
+{
+    schema.sets.iter().all(|m| is_name(m.name))
+}
+
+/// Whether types, sets and parts have simple identifiers.
+fn has_names(schema: &Schema<'_>) -> bool
+    requires { IsSchema schema.now }
+    ensures { result ≡ spec.has_names (root_of schema.now) }
+{
+    are_types_named(schema) && are_sets_named(schema) && have_simple_parts(schema)
+}
+
+/// How many of the sets have each of the first n types.
+fn set_counts(alloc: Global, sets: &[EntitySet], n: usize) -> Result<Vec<usize>, AllocError>
+    ensures { IfOk result (λ v. v.items ≡ map (λ k. count_by (λ s. s.of == k) sets.now) (places n)) }
+{
+    let mut counts = Vec::from_elem(alloc, 0, n)?;
+    for set in sets {
+        let of = set.of;
+        if of >= n {
+            continue;
+        }
+        counts[of] += 1;
+    }
+    Ok(counts)
+}
+
+/// Whether each is an entity set of an entity type of the schema.
+fn are_entity_sets(schema: &Schema<'_>) -> bool
+    requires { IsSchema schema.now }
+    ensures { let d = root_of schema.now in result ≡ list_all (λ m. spec.is_entity_set d m.1) (spec.set_members d) }
+{
+    schema.sets.iter().all(|m| is_entity_set(schema, m.value))
+}
+
+/// Whether each is one.
+fn are_ones(counts: &[usize]) -> bool
+    ensures { result ≡ list_all (λ count. count == 1) counts.now }
+{
+    counts.iter().all(|count| *count == 1)
+}
+
+/// Whether each member of the container is an entity set, and each entity type has one of these sets.
+fn has_one_set_each(
+    alloc: Global,
+    schema: &Schema<'_>,
+    sets: &[EntitySet],
+) -> Result<bool, AllocError>
+    requires schema { IsSchema schema.now }
+    requires sets { sets.now ≡ map (spec.set_of (root_of schema.now)) (spec.set_members (root_of schema.now)) }
+    ensures { IfOk result (λ b. b ≡ spec.has_one_set_each (root_of schema.now)) }
+{
+    if !are_entity_sets(schema) {
+        return Ok(false);
+    }
+    let counts = set_counts(alloc, sets, schema.types.len())?;
+    Ok(are_ones(&counts))
+}
+
+/// Whether every rule holds.
+pub(crate) fn is_model(
+    alloc: Global,
+    schema: &Schema<'_>,
+    sets: &[EntitySet],
+) -> Result<bool, AllocError>
+    requires schema { IsSchema schema.now }
+    requires sets { sets.now ≡ map (spec.set_of (root_of schema.now)) (spec.set_members (root_of schema.now)) }
+    ensures { IfOk result (λ b. b ≡ spec.is_model (root_of schema.now)) }
+{
+    let one_set_each = has_one_set_each(alloc, schema, sets)?;
+    Ok(
+        has_one_schema(schema.root)
+            && has_one_container(schema)
+            && has_types(schema)
+            && one_set_each
+            && has_names(schema),
+    )
 }

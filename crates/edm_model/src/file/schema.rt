@@ -1,22 +1,62 @@
-//! The parts of a model file: its namespace, schema, entity types, container and entity sets.
-ghost use Rattle.std.specs.Prelude.{◌≡◌, map, option_map, unwrap_or, codes, IfOk};
-ghost use Rattle.std.specs.List.{before_last, after_last};
+//! The schema of a model file and its entity types, each list of members made once.
+ghost use Rattle.std.specs.Prelude.{ℕ, ◌≡◌, ◌<◌, map, option_map, unwrap_or, length, IfOk};
+ghost use Rattle.std.specs.List.{All, before_last, after_last};
 ghost use Rattle.serde_json.specs.Data.{null};
 ghost use Rattle.serde_json.specs.Find.{get};
 ghost use Rattle.serde_json.specs.View.{view};
 ghost use Rattle.edm_values.specs.Literals.{is_point};
-ghost use Rattle.edm_model.specs.JsonTrees.{only};
+ghost use Rattle.edm_model.specs.JsonTrees as tree;
+ghost use Rattle.edm_model.specs.JsonTrees.{members_in};
 ghost use Rattle.edm_model.specs.ModelFile as spec;
-ghost use Rattle.edm_model.specs.MemberLists.{member_seen};
+ghost use Rattle.edm_model.specs.MemberLists.{member_seen, type_seen, root_of, IsTypeTree, IsSchema};
+ghost use Rattle.edm_model.specs.Soundness.{AreOrdered};
 
-use crate::file::members::{Member, is_object_of_kind, members_besides_kind, members_of_kind};
-use crate::file::names::is_unread;
-use crate::file::tree::text_at;
+use crate::file::members::{
+    Member, besides_kind, members_of, navigations_among, objects_among, only, own_members,
+    properties_among, qualified_members, read_members, stand_in_order,
+};
+use crate::file::names::{AGGREGATE_TERM, DEFINITION_TERM, HIERARCHY_TERM};
+use crate::file::tree::{only_string, text_at};
+use crate::named::Named;
 use serde_json::Value;
 use std::alloc::{AllocError, Global};
 
+/// An entity type, its members by what they are; those of a term by their qualifiers.
+#[derive(Drop)]
+pub(crate) struct TypeTree<'v> {
+    pub(crate) name: &'v str,
+    pub(crate) value: &'v Value,
+    pub(crate) key: &'v str,
+    pub(crate) members: Vec<Member<'v>>,
+    pub(crate) own: Vec<Member<'v>>,
+    pub(crate) properties: Vec<Member<'v>>,
+    pub(crate) navigations: Vec<Member<'v>>,
+    pub(crate) hierarchies: Vec<Member<'v>>,
+    pub(crate) aggregates: Vec<Member<'v>>,
+    pub(crate) definitions: Vec<Member<'v>>,
+}
+
+impl Named for TypeTree<'_> {
+    ghost name_of = { λ t. t.name.now };
+
+    fn name(&self) -> &str {
+        self.name
+    }
+}
+
+/// The schema of a file and its parts.
+#[derive(Drop)]
+pub(crate) struct Schema<'v> {
+    pub(crate) root: &'v Value,
+    pub(crate) namespace: &'v str,
+    pub(crate) members: Vec<Member<'v>>,
+    pub(crate) containers: Vec<Member<'v>>,
+    pub(crate) types: Vec<TypeTree<'v>>,
+    pub(crate) sets: Vec<Member<'v>>,
+}
+
 /// The parts of a text before and after its last point. Without one, all of it is after.
-pub(crate) fn cut_at_last_point(text: &str) -> (&str, &str)
+fn cut_at_last_point(text: &str) -> (&str, &str)
     ensures before { result.0.now ≡ before_last is_point text.now }
     ensures after { result.1.now ≡ after_last is_point text.now }
 {
@@ -26,84 +66,127 @@ pub(crate) fn cut_at_last_point(text: &str) -> (&str, &str)
     }
 }
 
-/// The path of the entity container.
-pub(crate) fn container_path(root: &Value) -> &str
-    ensures { result.now ≡ spec.container_path (view root.now) }
-{
-    text_at("$EntityContainer", root)
-}
-
 /// The namespace of the schema.
 pub(crate) fn namespace(root: &Value) -> &str
     ensures { result.now ≡ spec.namespace (view root.now) }
 {
-    let (before, _) = cut_at_last_point(container_path(root));
+    let (before, _) = cut_at_last_point(text_at("$EntityContainer", root));
     before
-}
-
-/// The schema.
-pub(crate) fn schema(root: &Value) -> Option<&Value>
-    ensures { option_map (λ v. view v.now) result ≡ get (spec.namespace (view root.now)) (view root.now) }
-{
-    root.get(namespace(root))
-}
-
-/// The entity types.
-pub(crate) fn type_members(alloc: Global, root: &Value) -> Result<Vec<Member<'_>>, AllocError>
-    ensures { IfOk result (λ v. map member_seen v.items ≡ spec.type_members (view root.now)) }
-{
-    match schema(root) {
-        Some(schema) => members_of_kind(alloc, "EntityType", schema),
-        None => Ok(Vec::new(alloc)),
-    }
-}
-
-/// The one entity container of a schema.
-pub(crate) fn only_container(schema: &Value) -> Option<Member<'_>>
-    ensures { option_map member_seen result ≡ only (spec.members_of_kind (codes "EntityContainer") (view schema.now)) }
-{
-    let Some(members) = schema.as_object() else {
-        return None;
-    };
-    let mut found: Option<Member<'_>> = None;
-    for (name, value) in members {
-        if !is_unread(name) && is_object_of_kind("EntityContainer", value) {
-            if found.is_some() {
-                return None;
-            }
-            found = Some(Member { name, value });
-        }
-    }
-    found
-}
-
-/// The entity container.
-pub(crate) fn container(root: &Value) -> Option<&Value>
-    ensures { unwrap_or (option_map (λ v. view v.now) result) null ≡ spec.container (view root.now) }
-{
-    match schema(root) {
-        Some(schema) => match only_container(schema) {
-            Some(container) => Some(container.value),
-            None => None,
-        },
-        None => None,
-    }
-}
-
-/// The entity sets.
-pub(crate) fn set_members(alloc: Global, root: &Value) -> Result<Vec<Member<'_>>, AllocError>
-    ensures { IfOk result (λ v. map member_seen v.items ≡ spec.set_members (view root.now)) }
-{
-    match container(root) {
-        Some(container) => members_besides_kind(alloc, container),
-        None => Ok(Vec::new(alloc)),
-    }
 }
 
 /// The name of the entity container.
 pub(crate) fn container_name(root: &Value) -> &str
     ensures { result.now ≡ after_last is_point (spec.container_path (view root.now)) }
 {
-    let (_, after) = cut_at_last_point(container_path(root));
+    let (_, after) = cut_at_last_point(text_at("$EntityContainer", root));
     after
+}
+
+/// The one name in `$Key`.
+fn key_name(entity_type: &Value) -> &str
+    ensures { result.now ≡ spec.key_name (view entity_type.now) }
+{
+    match entity_type.get("$Key") {
+        Some(key) => only_string(key).unwrap_or(""),
+        None => "",
+    }
+}
+
+/// The entity type of a member.
+fn type_tree<'v>(alloc: Global, member: Member<'v>) -> Result<TypeTree<'v>, AllocError>
+    ensures seen { IfOk result (λ t. type_seen t ≡ member_seen member.entry) }
+    ensures parts { IfOk result IsTypeTree }
+    ensures ordered { IfOk result (λ _. AreOrdered (map (λ m. m.0) (members_in (view member.entry.value.now)))) }
+{
+    let Member { name, value } = member;
+    stand_in_order(value);
+    let members = members_of(alloc, value)?;
+    let own = own_members(alloc, &members)?;
+    let properties = properties_among(alloc, &own)?;
+    let navigations = navigations_among(alloc, &own)?;
+    let hierarchies = qualified_members(alloc, HIERARCHY_TERM, &members)?;
+    let aggregates = qualified_members(alloc, AGGREGATE_TERM, &members)?;
+    let definitions = qualified_members(alloc, DEFINITION_TERM, &members)?;
+    Ok(TypeTree {
+        name,
+        value,
+        key: key_name(value),
+        members,
+        own,
+        properties,
+        navigations,
+        hierarchies,
+        aggregates,
+        definitions,
+    })
+}
+
+/// The entity types of these members.
+fn type_trees<'v>(alloc: Global, members: &[Member<'v>]) -> Result<Vec<TypeTree<'v>>, AllocError>
+    ensures seen { IfOk result (λ v. map type_seen v.items ≡ map member_seen members.now) }
+    ensures parts { IfOk result (λ v. All IsTypeTree v.items) }
+    ensures ordered { IfOk result (λ _. All (λ m. AreOrdered (map (λ n. n.0) (members_in (view m.value.now)))) members.now) }
+{
+    let mut types = Vec::new(alloc);
+    for member in members {
+        let entity_type = type_tree(alloc, *member)?;
+        types.push(entity_type)?;
+    }
+    Ok(types)
+}
+
+/// The members of the schema.
+fn schema_members<'v>(
+    alloc: Global,
+    root: &'v Value,
+    namespace: &str,
+) -> Result<Vec<Member<'v>>, AllocError>
+    ensures members { IfOk result (λ v. map member_seen v.items ≡ members_in (unwrap_or (get namespace.now (view root.now)) null)) }
+    ensures ordered { IfOk result (λ v. AreOrdered (map (λ m. m.0) (map member_seen v.items))) }
+{
+    match root.get(namespace) {
+        Some(schema) => {
+            stand_in_order(schema);
+            members_of(alloc, schema)
+        }
+        None => Ok(Vec::new(alloc)),
+    }
+}
+
+/// The entity sets of the one container among these.
+fn set_members<'v>(alloc: Global, containers: &[Member<'v>]) -> Result<Vec<Member<'v>>, AllocError>
+    ensures members { IfOk result (λ v. map member_seen v.items ≡ spec.members_besides_kind (unwrap_or (option_map (λ m. m.1) (tree.only (map member_seen containers.now))) null)) }
+    ensures ordered { IfOk result (λ _. AreOrdered (map (λ m. m.0) (members_in (unwrap_or (option_map (λ m. m.1) (tree.only (map member_seen containers.now))) null)))) }
+{
+    match only(containers) {
+        Some(container) => {
+            stand_in_order(container.value);
+            let members = members_of(alloc, container.value)?;
+            let read = read_members(alloc, &members)?;
+            besides_kind(alloc, &read)
+        }
+        None => Ok(Vec::new(alloc)),
+    }
+}
+
+/// The schema of a file.
+pub(crate) fn read_schema<'v>(alloc: Global, root: &'v Value) -> Result<Schema<'v>, AllocError>
+    ensures root { IfOk result (λ s. root_of s ≡ view root.now) }
+    ensures parts { IfOk result IsSchema }
+{
+    let namespace = namespace(root);
+    let members = schema_members(alloc, root, namespace)?;
+    let read = read_members(alloc, &members)?;
+    let containers = objects_among(alloc, "EntityContainer", &read)?;
+    let typed = objects_among(alloc, "EntityType", &read)?;
+    let types = type_trees(alloc, &typed)?;
+    let sets = set_members(alloc, &containers)?;
+    Ok(Schema {
+        root,
+        namespace,
+        members,
+        containers,
+        types,
+        sets,
+    })
 }

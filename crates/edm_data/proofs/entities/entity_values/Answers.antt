@@ -1,6 +1,8 @@
-use Rattle.std.proofs.Common.{◌≤◌, length, sym, ap, ◌∙◌, arith}
+use Rattle.std.proofs.Common.{◌≤◌, ◌∷◌, [], length, map, sym, ap, ◌∙◌, arith}
 use Rattle.std.specs.Option.{option_map}
+use Rattle.std.proofs.lemmas.List.{map-append}
 use Rattle.serde_json.specs.View.{view}
+use Rattle.edm_values.specs.Values.{seen_value}
 use Rattle.edm_model.specs.LookUps.{properties_of}
 use Rattle.edm_data.specs.DataFile.{property_value}
 use Rattle.edm_data.proofs.ReferenceLemmas.{part_number}
@@ -22,10 +24,10 @@ pub loop-p-preserved : goal.loop-p-preserved
 loop-p-preserved c =
     let here = prop_item c.args.model.now c.args.t c.props-props.result.now c.loop-p.p-index c.p-item.result c.requires.there c.props-props.ensures c.loop-p-test.true c.p-item.is in
     let f = property_value (view c.args.item.now) in
-    values-more f (properties_of c.args.model.now c.args.t) c.loop-p.p-index c.loop-p.values.items c.push.new.self.items c.in-Some.value c.in_ok-push-in-Some.ensures.items (ap (option_map f) (sym here.found) ∙ (rw c.in-Some.is at c.in_ok-value.ensures)) c.loop-p.invariant
+    values-more f (properties_of c.args.model.now c.args.t) c.loop-p.p-index (map seen_value c.loop-p.values.items) (map seen_value c.push.new.self.items) (seen_value c.in-Some.value) (ap (map seen_value) c.in_ok-push-in-Some.ensures.items ∙ map-append seen_value c.loop-p.values.items (c.in-Some.value ∷ [])) (ap (option_map f) (sym here.found) ∙ (rw c.in-Some.is at c.in_ok-value.ensures)) c.loop-p.invariant
 
 pub returns : goal.returns
 returns c =
     let number = part_number c.props-props.result.now c.args.t (length (properties_of c.args.model.now c.args.t)) c.props-props.ensures in
     let over : length c.props-props.result.now ≤ c.loop-p.p-index = omega arith in
-    values-all (property_value (view c.args.item.now)) (properties_of c.args.model.now c.args.t) c.loop-p.p-index c.loop-p.values.items (rw number at over) c.loop-p.invariant
+    values-all (property_value (view c.args.item.now)) (properties_of c.args.model.now c.args.t) c.loop-p.p-index (map seen_value c.loop-p.values.items) (rw number at over) c.loop-p.invariant

@@ -4,21 +4,21 @@ use Rattle.edm_model.specs.Models.{Model, Navigation}
 use Rattle.edm_model.specs.LookUps.{navigation_on, dependent_of, set_of_type}
 use Rattle.edm_data.specs.Links.{KeptRelation, IsFirstOf, IsLeast, misses, nav_dangles, pair_in, pair_of, relation_in}
 use Rattle.edm_data.specs.References.{count}
-use Rattle.edm_data.proofs.RelationLemmas.{AreRelations-more, IsRelation-from, least-none, least-same, least-some, pair-many, pair-one, relation_by, relations-before, relations-last, subst-some}
+use Rattle.edm_data.proofs.RelationLemmas.{AreRelations-more, IsRelation-from, least-none, least-same, least-some, pair-many, pair-one, relation_by, option-before, option-last, subst-some}
 use Rattle.edm_data.proofs.references.add_relation.Goals as goal
 
 pub returns-then-nav_many-clause-kept : goal.returns-then-nav_many-clause-kept
 returns-then-nav_many-clause-kept c = AreRelations-more c.args.keyed.now c.args.s c.args.relations.now c.push_none.new.self None c.in_ok-push_none.ensures c.requires.kept (λ r h. cc)
 
 pub returns-then-nav_many-clause-before : goal.returns-then-nav_many-clause-before
-returns-then-nav_many-clause-before c = relations-before c.args.relations.now c.push_none.new.self None c.in_ok-push_none.ensures
+returns-then-nav_many-clause-before c = option-before c.args.relations.now c.push_none.new.self None c.in_ok-push_none.ensures
 
 pub returns-then-nav_many-clause-last : goal.returns-then-nav_many-clause-last
 returns-then-nav_many-clause-last c =
     let w = c.args.keyed.now in
     let same : c.model-model.result.now ≡ w.model = c.model-model.ensures.value ∙ ap (λ x. x.model) c.tables.ensures.value in
     let many : option_map (λ v. v.many) (navigation_on w.model c.args.n) ≡ Some true = sym (ap (λ (m : Model). option_map (λ v. v.many) (navigation_on m c.args.n)) same) ∙ c.nav_many.ensures ∙ ap Some c.if-nav_many.true in
-    ap pair_in (relations-last c.args.relations.now c.push_none.new.self None c.in_ok-push_none.ensures) ∙ sym ((pair-many w c.args.s c.args.n c.requires.set c.requires.of many).0)
+    ap pair_in (option-last c.args.relations.now c.push_none.new.self None c.in_ok-push_none.ensures) ∙ sym ((pair-many w c.args.s c.args.n c.requires.set c.requires.of many).0)
 
 pub returns-in-Some-clause-kept : goal.returns-in-Some-clause-kept
 returns-in-Some-clause-kept c =
@@ -26,7 +26,7 @@ returns-in-Some-clause-kept c =
     AreRelations-more c.args.keyed.now c.args.s old c.push_shared.new.self (relation_in old c.in-Some.same) c.in_ok-push_shared.ensures c.requires.kept (λ r h. c.requires.kept c.in-Some.same r h)
 
 pub returns-in-Some-clause-before : goal.returns-in-Some-clause-before
-returns-in-Some-clause-before c = relations-before c.args.relations.now c.push_shared.new.self (relation_in c.args.relations.now c.in-Some.same) c.in_ok-push_shared.ensures
+returns-in-Some-clause-before c = option-before c.args.relations.now c.push_shared.new.self (relation_in c.args.relations.now c.in-Some.same) c.in_ok-push_shared.ensures
 
 pub returns-in-Some-clause-first : goal.returns-in-Some-clause-first
 returns-in-Some-clause-first c =
@@ -57,7 +57,7 @@ returns-in-Some-clause-last c =
     let old = c.args.relations.now in
     let found : pair_in (relation_in old c.in-Some.same) ≡ Some (p, c.type_set-target.result) = c.in-Some.ensures.there in
     let pair : Some (p, c.type_set-target.result) ≡ Some (p, set_of_type w.model c.nav_target.result) = ap (λ (t : ℕ). Some (p, t)) set in
-    ap pair_in (relations-last old c.push_shared.new.self (relation_in old c.in-Some.same) c.in_ok-push_shared.ensures) ∙ found ∙ pair ∙ sym one.0
+    ap pair_in (option-last old c.push_shared.new.self (relation_in old c.in-Some.same) c.in_ok-push_shared.ensures) ∙ found ∙ pair ∙ sym one.0
 
 pub returns-in_ok-push-in-Ok-clause-kept : goal.returns-in_ok-push-in-Ok-clause-kept
 returns-in_ok-push-in-Ok-clause-kept c =
@@ -67,7 +67,7 @@ returns-in_ok-push-in-Ok-clause-kept c =
     AreRelations-more w s c.args.relations.now c.push.new.self (Some r) c.in_ok-push-in-Ok.ensures c.requires.kept (λ x h. subst-some w s r x h (IsRelation-from w s c.place-property.result c.type_set-target.result c.in-Ok.links r c.in_ok-new-in-Ok.ensures.property c.in_ok-new-in-Ok.ensures.target c.in_ok-new-in-Ok.ensures.links c.in-Ok.ensures.counted c.in-Ok.ensures.links c.in-Ok.ensures.sound))
 
 pub returns-in_ok-push-in-Ok-clause-before : goal.returns-in_ok-push-in-Ok-clause-before
-returns-in_ok-push-in-Ok-clause-before c = relations-before c.args.relations.now c.push.new.self (Some c.in_ok-new-in-Ok.field-0) c.in_ok-push-in-Ok.ensures
+returns-in_ok-push-in-Ok-clause-before c = option-before c.args.relations.now c.push.new.self (Some c.in_ok-new-in-Ok.field-0) c.in_ok-push-in-Ok.ensures
 
 pub returns-in_ok-push-in-Ok-clause-last : goal.returns-in_ok-push-in-Ok-clause-last
 returns-in_ok-push-in-Ok-clause-last c =
@@ -84,7 +84,7 @@ returns-in_ok-push-in-Ok-clause-last c =
     let r = c.in_ok-new-in-Ok.field-0 in
     let by : pair_in (Some r) ≡ Some (p, r.target) = ap (λ (q : ℕ). Some (q, r.target)) c.in_ok-new-in-Ok.ensures.property in
     let to : Some (p, r.target) ≡ Some (p, set_of_type w.model c.nav_target.result) = ap (λ (t : ℕ). Some (p, t)) (c.in_ok-new-in-Ok.ensures.target ∙ set) in
-    ap pair_in (relations-last c.args.relations.now c.push.new.self (Some r) c.in_ok-push-in-Ok.ensures) ∙ by ∙ to ∙ sym one.0
+    ap pair_in (option-last c.args.relations.now c.push.new.self (Some r) c.in_ok-push-in-Ok.ensures) ∙ by ∙ to ∙ sym one.0
 
 pub returns-in-Err-Dangling-clause-first : goal.returns-in-Err-Dangling-clause-first
 returns-in-Err-Dangling-clause-first c =

@@ -5,5 +5,4 @@ use Rattle.serde_json.specs.View.{view}
 use Rattle.edm_model.proofs.file.build.strings_of.Given as goal
 
 abbrev pub invariant-loop-item : goal.invariant-loop-item
-invariant-loop-item l =
-    l.texts.items ≡ filter_map (λ x. as_str (view x)) (take l.item-index l.items)
+invariant-loop-item l = l.texts.items ≡ filter_map (λ x. as_str (view x)) (take l.item-index l.items)

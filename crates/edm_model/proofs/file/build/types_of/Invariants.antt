@@ -1,9 +1,8 @@
 use Rattle.std.proofs.Common.{◌≡◌, map, take}
-use Rattle.serde_json.specs.View.{view}
-use Rattle.edm_model.specs.MemberLists.{member_seen}
 use Rattle.edm_model.specs.ModelFile.{type_of}
+use Rattle.edm_model.specs.MemberLists.{root_of, type_seen}
+use Rattle.edm_model.specs.declared.file.schema.TypeTree.{TypeTree}
 use Rattle.edm_model.proofs.file.build.types_of.Given as goal
 
-abbrev pub invariant-loop-member : goal.invariant-loop-member
-invariant-loop-member l =
-    l.built.items ≡ map (λ m. type_of (view l.root) (member_seen m)) (take l.member-index l.types)
+abbrev pub invariant-loop-t : goal.invariant-loop-t
+invariant-loop-t l = l.types.items ≡ map (λ (t : TypeTree). type_of (root_of l.schema) (type_seen t)) (take l.t-index l.schema.types.items)

@@ -1,0 +1,29 @@
+use Rattle.std.proofs.Common.{◌≡◌, ◌==◌, true, false, length, map, refl, sym, ◌∙◌, ap, arith, rules}
+use Rattle.std.specs.Prelude.{count_by}
+use Rattle.std.specs.List.{list_all}
+use Rattle.std.proofs.lemmas.List.Folds.{list_all-map}
+use Rattle.edm_values.specs.Lists.{places, exactly_one}
+use Rattle.edm_model.specs.JsonTrees.{Member}
+use Rattle.edm_model.specs.ModelFile.{is_entity_set, set_members, set_of, type_members}
+use Rattle.edm_model.specs.MemberLists.{root_of, type_seen}
+use Rattle.edm_model.proofs.Mapped.{length-mapped}
+use Rattle.edm_model.proofs.SetEach.{set_each_same}
+use Rattle.edm_model.proofs.file.rules.has_one_set_each.Goals as goal
+
+pub returns-then-not-are_entity_sets : goal.returns-then-not-are_entity_sets
+returns-then-not-are_entity_sets c =
+    let d = root_of c.args.schema.now in
+    let fails : c.are_entity_sets.result ≡ false = search rules in
+    let all : list_all (λ m. is_entity_set d m.1) (set_members d) ≡ false = sym c.are_entity_sets.ensures ∙ fails in
+    rw all refl
+
+pub returns : goal.returns
+returns c =
+    let d = root_of c.args.schema.now in
+    let holds : c.are_entity_sets.result ≡ true = search rules in
+    let all : list_all (λ m. is_entity_set d m.1) (set_members d) ≡ true = sym c.are_entity_sets.ensures ∙ holds in
+    let n = length (type_members d) in
+    let size : c.len.result ≡ n = omega (arith, c.len.ensures, c.args.schema.now.types.ok.0, length-mapped type_seen c.args.schema.now.types.items, ap length c.requires.schema.types) in
+    let counts = rw c.deref.ensures.value at c.are_ones.ensures in
+    rw all (counts ∙ (ap (list_all (λ count. count == 1)) (c.in_ok-counts.ensures ∙ (ap (λ k. map (λ t. count_by (λ s. s.of == t) c.args.sets.now) (places k)) size ∙ ap (λ ss. map (λ t. count_by (λ s. s.of == t) ss) (places n)) c.requires.sets))
+    ∙ (list_all-map (λ count. count == 1) (λ t. count_by (λ s. s.of == t) (map (set_of d) (set_members d))) (places n) ∙ sym (set_each_same d n (set_members d) all))))
