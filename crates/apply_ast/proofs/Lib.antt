@@ -1,7 +1,7 @@
 pub mod Appended
-pub mod DecimalTexts
 mod GrammarRows
 pub mod Joining
+pub mod PlainTexts
 mod PrintedNumbers
 pub mod PrintedTexts
 pub mod PrintingEquations

@@ -1,14 +1,14 @@
 //! The printed texts of expressions. Each function appends one to a text.
-ghost use Rattle.std.specs.Prelude.{◌≡◌, ◌+◌, ◌<◌, ◌≤◌, ◌++◌, suc, OnOk, string_bytes, length, nat_abs, decimal, codes, if◌then◌else◌};
-ghost use Rattle.std.specs.Fmt.{sign_text, signed_decimal};
-ghost use Rattle.edm_values.specs.Literals.{padded_decimal, with_point, decimal_text, day_text};
+ghost use Rattle.std.specs.Prelude.{◌≡◌, ◌++◌, IsFalse, OnOk, string_bytes, decimal};
+ghost use Rattle.edm_values.specs.Literals.{plain_text};
+ghost use Rattle.edm_values.specs.Values.{is_beyond, is_null, is_text, seen_value};
 ghost use Rattle.apply_ast.specs.Views.{expr_of};
 ghost use Rattle.apply_ast.specs.Printing as spec;
 ghost use Rattle.apply_ast.specs.Printing.{byte_before, print_path, print_expr, doubled, quoted, enclosed_if, sign_word};
 
 use crate::expressions::{Expr, UnOp};
 use crate::names::Path;
-use edm_values::{Day, Dec};
+use edm_values::{Seen, print_value};
 use std::alloc::AllocError;
 
 /// Appends the text.
@@ -25,11 +25,19 @@ pub(crate) fn put_number(out: &mut String, n: u64) -> Result<(), AllocError>
     write!(out, "{n}")
 }
 
-/// Appends the integer in decimal digits, with a minus below zero.
-pub(crate) fn put_integer(out: &mut String, n: i64) -> Result<(), AllocError>
-    ensures { OnOk result (string_bytes out.new ≡ string_bytes out.old ++ signed_decimal n) }
+/// Appends the plain text of a Boolean, a number or a day.
+pub(crate) fn put_value(out: &mut String, v: Seen<'_>) -> Result<(), AllocError>
+    requires null { IsFalse (is_null (seen_value v)) }
+    requires beyond { IsFalse (is_beyond (seen_value v)) }
+    requires text { IsFalse (is_text (seen_value v)) }
+    ensures { OnOk result (string_bytes out.new ≡ string_bytes out.old ++ plain_text (seen_value v.entry)) }
 {
-    write!(out, "{n}")
+    let mut bytes = Vec::new(*out.allocator());
+    print_value(v, &mut bytes)?;
+    match str::from_utf8(&bytes) {
+        Ok(text) => put(out, text),
+        Err(_) => unreachable!(),
+    }
 }
 
 /// Appends the slash before the text at this place of a list.
@@ -55,57 +63,6 @@ pub(crate) fn put_path(out: &mut String, path: &Path) -> Result<(), AllocError>
         put(out, name.text())?;
     }
     Ok(())
-}
-
-/// Appends the number in decimal digits, with zeros in front up to the width.
-fn put_padded(out: &mut String, width: usize, n: u64) -> Result<(), AllocError>
-    ensures { OnOk result (string_bytes out.new ≡ string_bytes out.old ++ padded_decimal width n) }
-{
-    write!(out, "{n:0width$}")
-}
-
-/// Appends `n / 10^scale` with exactly as many digits behind the point as the scale says.
-fn put_unsigned(out: &mut String, n: u64, scale: u8) -> Result<(), AllocError>
-    requires { scale ≤ 9 }
-    ensures { OnOk result (string_bytes out.new ≡ string_bytes out.old ++ with_point scale (padded_decimal (suc scale) n)) }
-{
-    if scale == 0 {
-        return put_number(out, n);
-    }
-    let unit = 10u64.pow(u32::from(scale));
-    put_number(out, n / unit)?;
-    put(out, ".")?;
-    put_padded(out, usize::from(scale), n % unit)
-}
-
-fn put_minus(out: &mut String, negative: bool) -> Result<(), AllocError>
-    ensures { OnOk result (string_bytes out.new ≡ string_bytes out.old ++ sign_text negative) }
-{
-    if negative { put(out, "-") } else { Ok(()) }
-}
-
-/// Appends the decimal with exactly as many digits behind the point as its scale says.
-pub(crate) fn put_decimal(out: &mut String, d: Dec) -> Result<(), AllocError>
-    ensures { OnOk result (string_bytes out.new ≡ string_bytes out.old ++ decimal_text d.mantissa d.scale) }
-{
-    put_minus(out, d.mantissa() < 0)?;
-    put_unsigned(out, d.mantissa().unsigned_abs(), d.scale())
-}
-
-fn put_day(out: &mut String, d: Day) -> Result<(), AllocError>
-    ensures { OnOk result (string_bytes out.new ≡ string_bytes out.old ++ day_text d.year d.month d.day) }
-{
-    put_year(out, d.year())?;
-    put(out, "-")?;
-    put_padded(out, 2, u64::from(d.month()))?;
-    put(out, "-")?;
-    put_padded(out, 2, u64::from(d.day()))
-}
-
-fn put_year(out: &mut String, year: i32) -> Result<(), AllocError>
-    ensures { OnOk result (string_bytes out.new ≡ string_bytes out.old ++ padded_decimal 4 (nat_abs year)) }
-{
-    put_padded(out, 4, u64::from(year.unsigned_abs()))
 }
 
 /// Appends the text with each quote doubled.
@@ -138,16 +95,6 @@ fn put_sign(out: &mut String, op: UnOp) -> Result<(), AllocError>
     }
 }
 
-fn put_flag(out: &mut String, b: bool) -> Result<(), AllocError>
-    ensures { OnOk result (string_bytes out.new ≡ string_bytes out.old ++ (if b then codes "true" else codes "false")) }
-{
-    if b {
-        put(out, "true")
-    } else {
-        put(out, "false")
-    }
-}
-
 /// How tightly the expression binds, from 1, the loosest, to 8.
 fn level(e: &Expr) -> u8
     ensures { result ≡ spec.level (expr_of e.now) }
@@ -166,11 +113,11 @@ pub(crate) fn put_expr(out: &mut String, e: &Expr) -> Result<(), AllocError>
 {
     match e {
         Expr::Null => put(out, "null"),
-        Expr::Bool(b) => put_flag(out, *b),
-        Expr::Int(n) => put_integer(out, *n),
-        Expr::Dec(d) => put_decimal(out, *d),
+        Expr::Bool(b) => put_value(out, Seen::Bool(*b)),
+        Expr::Int(n) => put_value(out, Seen::Int(*n)),
+        Expr::Dec(d) => put_value(out, Seen::Dec(*d)),
         Expr::Text(t) => put_quoted(out, t.as_str()),
-        Expr::Day(d) => put_day(out, *d),
+        Expr::Day(d) => put_value(out, Seen::Day(*d)),
         Expr::Path(p) => put_path(out, p),
         Expr::Unary(op, a) => {
             put_sign(out, *op)?;

@@ -5,12 +5,10 @@ ghost use Rattle.apply_ast.specs.Views.{expr_of, named_of, item_of, agg_of, hier
 ghost use Rattle.apply_ast.specs.Printing as spec;
 ghost use Rattle.apply_ast.specs.Printing.{each_behind_byte, print_path, print_named, print_direction, print_item, own_name, print_agg, print_hier, print_literal, print_limit};
 
-use crate::expression_texts::{
-    put, put_comma, put_decimal, put_expr, put_integer, put_number, put_path,
-};
+use crate::expression_texts::{put, put_comma, put_expr, put_number, put_path, put_value};
 use crate::items::{AggItem, HierName, Limit, Named, Number, OrderItem};
 use crate::names::{Name, Path};
-use edm_values::Method;
+use edm_values::{Method, Seen};
 use std::alloc::AllocError;
 
 /// Appends the name that a result gets.
@@ -143,8 +141,8 @@ fn put_literal(out: &mut String, number: &Number) -> Result<(), AllocError>
     ensures { OnOk result (string_bytes out.new ≡ string_bytes out.old ++ print_literal (number_literal_of number.now)) }
 {
     match number {
-        Number::Int(n) => put_integer(out, *n),
-        Number::Dec(d) => put_decimal(out, *d),
+        Number::Int(n) => put_value(out, Seen::Int(*n)),
+        Number::Dec(d) => put_value(out, Seen::Dec(*d)),
     }
 }
 

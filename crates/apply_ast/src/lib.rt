@@ -5,9 +5,10 @@
 //! list inside a public type is a small type over `Vec`: made from one, read as a slice, and taken apart again without
 //! memory. `copies` copies each tree, and `expression_texts`, `item_texts` and `step_texts` print them.
 //!
-//! The crate stands on `edm_values` for literals and simple identifiers. Definitions are over the mathematical trees of
-//! `specs/Trees`; `specs/Views` leads from a value of the program to its tree, and two values are the same where their trees
-//! are. `specs/Grammar` says which texts a tree has, and `specs/Printing` which of them is printed.
+//! The crate stands on `edm_values` for literals, their plain texts and simple identifiers. Definitions are over the
+//! mathematical trees of `specs/Trees`; `specs/Views` leads from a value of the program to its tree, and two values are
+//! the same where their trees are. `specs/Grammar` says which texts a tree has, and `specs/Printing` which of them is
+//! printed.
 //!
 //! It promises: a tree is what it was made from; a pipeline has at least one step; a copy has the tree of its original, and a
 //! copy of a copied path takes no memory; `Name::new` accepts exactly the names; `print` gives exactly the printed text,
