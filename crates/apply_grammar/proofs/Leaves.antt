@@ -40,10 +40,6 @@ pub or_left : (a b : Bool) → a ≡ true → (a || b) ≡ true
 or_left true b h = refl
 or_left false b h = absurd (false_true h)
 
-pub or_right : (a b : Bool) → b ≡ true → (a || b) ≡ true
-or_right true b h = refl
-or_right false b h = h
-
 -- ---- what may follow an atom: the end, a blank, a comma or a closing parenthesis
 
 abbrev pub ends : List ℕ → Bool

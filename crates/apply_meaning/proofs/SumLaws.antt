@@ -44,9 +44,6 @@ pub record IsSumOf (vs : List Value) (k : ℕ) (sum : ℤ) (found : Bool) : Type
 abbrev pub column : ℕ → List (List Value) → List Value
 column p rows = map (λ vs. value_in vs p) rows
 
-pub IsSumOf-none : (vs : List Value) → IsSumOf vs 0 (pos 0) false
-IsSumOf-none vs = record { sum_is = refl; found_is = refl }
-
 pub IsSumOf-more : (rows : List (List Value)) (p k : ℕ) (sum : ℤ) (found : Bool) (v : Value) → IsSumOf (column p rows) k sum found → k < length rows → v ≡ value_in (unwrap_or (slice_get rows k) []) p → IsSumOf (column p rows) (k + 1) (sum +ℤ amount v) (found || is_number v)
 IsSumOf-more rows p k sum found v h within is =
     let there : k < length (column p rows) = rw length-map within in

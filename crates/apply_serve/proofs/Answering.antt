@@ -1,7 +1,6 @@
 -- The replies to lines, one after another.
-use Rattle.std.proofs.Common.{◌≡◌, ℕ, ◌+◌, ◌-◌, ◌<◌, ◌≤◌, List, [], ◌∷◌, ◌++◌, length, take, drop, None, Some, refl, sym, ap, subst, ◌∙◌, true, arith, append_assoc, Bool, false, Ok, Err, OnOk, OnErr, IfOk, Vec, Global}
+use Rattle.std.proofs.Common.{◌≡◌, ℕ, ◌+◌, ◌-◌, ◌<◌, ◌≤◌, List, [], ◌∷◌, ◌++◌, length, take, drop, None, Some, refl, sym, ap, subst, ◌∙◌, true, arith, append_assoc, Bool, false, Ok, Err, OnErr, IfOk, Vec, Global}
 use Rattle.std.specs.declared.result.Result.{Result}
-use Rattle.std.proofs.lemmas.Result.{on_ok_weaker, on_err_weaker}
 use Rattle.std.specs.Prelude.{position, nat_lt, ◌↔◌, IsErrOf}
 use Rattle.std.specs.declared.option.Option.{Option}
 use Rattle.std.specs.Str.Lines.{strip_carriage_return}
@@ -136,18 +135,6 @@ module _ (w : World) where
 pub OnErr-always : {T E : Type 0} (result : Result T E) {P : Type 0} → P → OnErr result P
 OnErr-always (Ok x) h = tt
 OnErr-always (Err e) h = h
-
--- all of a reply was written
-pub ok-reply : {T E : Type 0} (result : Result T E) (w : World) (line : List ℕ) (old new : Option (List ℕ)) (r bytes : List ℕ) → 0 < length line → IsReply w line r → bytes ≡ r → OnOk result (Appends old new bytes) → OnOk result (Responds w (shown line) old new)
-ok-reply result w line old new r bytes some reply e h =
-    let P : List ℕ → Type 0 = λ t. IsReply w line t in
-    on_ok_weaker result (Responds-line w old new line bytes some (subst P (sym e) reply)) h
-
--- a front of a reply was written
-pub err-reply : {T E : Type 0} (result : Result T E) (w : World) (line : List ℕ) (old new : Option (List ℕ)) (r bytes : List ℕ) → 0 < length line → IsReply w line r → bytes ≡ r → OnErr result (WritesFront bytes old new) → OnErr result (RespondsInPart w (shown line) old new)
-err-reply result w line old new r bytes some reply e h =
-    let P : List ℕ → Type 0 = λ t. IsReply w line t in
-    on_err_weaker result (RespondsInPart-line w old new line bytes some (subst P (sym e) reply)) h
 
 -- ---- the reasons of replies
 

@@ -1,9 +1,9 @@
 -- From the bytes that were read to what the files make.
-use Rattle.std.proofs.Common.{◌≡◌, ℕ, ◌+◌, ◌<◌, ◌≤◌, Bool, true, false, List, length, take, nat_lt, None, Some, IsSome, refl, sym, ap, subst, ◌∙◌, arith}
+use Rattle.std.proofs.Common.{◌≡◌, ℕ, ◌+◌, ◌<◌, ◌≤◌, Bool, true, false, List, length, take, nat_lt, Some, refl, sym, ap, ◌∙◌, arith}
 use Rattle.std.specs.declared.option.Option.{Option}
 use Rattle.std.proofs.lemmas.List.{take_all, length-take}
 use Rattle.std.proofs.lemmas.Bool.Decides.{nat_tests}
-use Rattle.apply_io.specs.Files.{Files, content, told_content, KeepsFiles}
+use Rattle.apply_io.specs.Files.{Files, content, KeepsFiles}
 use Rattle.edm_model.specs.Models.{Model}
 use Rattle.edm_model.specs.ModelFile.{ModelReading, model_limit, model_reading}
 use Rattle.edm_data.specs.Worlds.{World}
@@ -69,22 +69,6 @@ module _ (limit : ℕ) where
         let f = h.whole files t in
         (f.0, f.1, ap (judged_data m) (same_data m (nat_lt limit (length f.0)) bytes f.0 is refl f.2 ∙ e) ∙ judged);
   }
-
--- ---- a steady folder whose read failed lacks the file
-
-there : (told : Option Files) (name file : List ℕ) (files : Files) → told ≡ Some files → content files name ≡ Some file → IsSome (told_content told name)
-there None name file files t e = absurd cc
-there (Some other) name file files t e =
-    let same : other ≡ files = cc in
-    let P : Files → Type 0 = λ f. IsSome (content f name) in
-    subst P (sym same) (rw e refl)
-
-lacks_by : (found : Option (List ℕ)) (told : Option Files) (name : List ℕ) (files : Files) → told ≡ Some files → content files name ≡ found → ¬ IsSome (told_content told name) → content files name ≡ None
-lacks_by None told name files t e missing = e
-lacks_by (Some file) told name files t e missing = absurd (missing (there told name file files t e))
-
-pub Lacks-from : (told : Option Files) (name : List ℕ) → ¬ IsSome (told_content told name) → Lacks told name
-Lacks-from told name missing = record { lacks = λ files t. lacks_by (content files name) told name files t refl missing }
 
 -- ---- both files
 

@@ -59,13 +59,6 @@ number_found m set name p kind h k =
     let P : EdmType → Type 0 = λ j. number_named m set name ≡ (if is_number_kind j then Some (p.at, j) else None) in
     subst P same (first ∙ ap (λ n. if is_number_kind (f.0.1).kind then Some (n, (f.0.1).kind) else None) (sym f.2))
 
-pub no_number : (m : Model) (set : ℕ) (name : List ℕ) → None ≡ found_part (set_type m set) (property_named m (set_type m set) name) → number_named m set name ≡ None
-no_number m set name h = none (property_named m (set_type m set) name) h
-  where
-    none : (o : Option (ℕ × Property)) → None ≡ found_part (set_type m set) o → option_and_then {U = ℕ × EdmType} (λ (p : ℕ × Property). if is_number_kind (p.1).kind then Some (p.0, (p.1).kind) else None) o ≡ None
-    none None e = refl
-    none (Some y) e = absurd cc
-
 -- a property that was found, and is a number
 pub number_of : (m : Model) (set : ℕ) (p : Part) (kind : EdmType) (o : Option (ℕ × Property)) → Some p ≡ found_part (set_type m set) o → IsProperty m p → option_map (λ (q : Property). q.kind) (property_at m p) ≡ Some kind → is_number_kind kind ≡ true → IsNumberOf m set p
 number_of m set p kind o h there k is =
