@@ -112,9 +112,6 @@ kept_there at xs n k below = ⊎_elim
     (λ more. ap (λ o. unwrap_or o None) (slice_get_past (kept at xs n) k (rw (length-kept at xs n) more)) ∙ sym (ap (option_and_then (slice_get xs)) (absent at n k below more)))
     (cases_lt k n)
 
-pub AreBelow-more : (at : List ℕ) (n : ℕ) → AreBelow n at → AreBelow (n + 1) at
-AreBelow-more at n below i within = let e = below i within in omega (arith, e)
-
 pub AreBelow-push : (at : List ℕ) (n : ℕ) → AreBelow n at → AreBelow (n + 1) (at ++ n ∷ [])
 AreBelow-push at n below i within = ⊎_elim
     (λ less. let e = below i less in rw (get_or_append_left at (n ∷ []) 0 i less) (omega (arith, e)))
