@@ -7,7 +7,7 @@ use Rattle.apply_ast.specs.Trees.{Pipe}
 use Rattle.apply_grammar.specs.Limits.{most_open, most_steps, served}
 use Rattle.apply_grammar.specs.Reading.{◌>>=◌, branch, after, blanks_at, word_behind, name_at}
 use Rattle.apply_grammar.specs.PipeReading.{pipeline_at}
-pub use Rattle.apply_grammar.specs.Requests.{Asked}
+use Rattle.apply_grammar.specs.Requests.{Asked}
 
 -- whether `explain` and blanks stand in front, and what follows them
 unfoldable pub explain_at : List ℕ → Bool × List ℕ

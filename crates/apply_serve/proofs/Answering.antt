@@ -10,8 +10,7 @@ use Rattle.std.proofs.lemmas.List.{append-nil, take_rest}
 use Rattle.std.proofs.lemmas.Bool.Decides.{nat_tests}
 use Rattle.edm_data.specs.Worlds.{World}
 use Rattle.apply_grammar.specs.Frames.{line_limit}
-use Rattle.apply_grammar.specs.FrameReading.{Asked}
-use Rattle.apply_grammar.specs.Requests.{IsRequest, IsNoRequest, asked_of}
+use Rattle.apply_grammar.specs.Requests.{Asked, IsRequest, IsNoRequest, asked_of}
 use Rattle.apply_grammar.specs.declared.refusals.GrammarRefused.{GrammarRefused}
 use Rattle.apply_grammar.specs.declared.refusals.GrammarRefused.TheVariants as grammar
 use Rattle.apply_ast.specs.declared.steps.Request.{Request}

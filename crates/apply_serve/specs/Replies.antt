@@ -6,8 +6,7 @@ use Rattle.edm_model.specs.LookUps.{set_named}
 use Rattle.edm_data.specs.Worlds.{World}
 use Rattle.apply_meaning.specs.Sums.{sum_of}
 use Rattle.apply_grammar.specs.Frames.{line_limit}
-use Rattle.apply_grammar.specs.FrameReading.{Asked}
-use Rattle.apply_grammar.specs.Requests.{IsRequest, IsNoRequest}
+use Rattle.apply_grammar.specs.Requests.{Asked, IsRequest, IsNoRequest}
 use Rattle.apply_serve.specs.Built.{sum_asked}
 use Rattle.apply_serve.specs.Responses.{TooLong, Syntax, NotFound, NotBuilt, Type', Memory, refused}
 use Rattle.apply_serve.specs.SumResponses.{number_named, sum_response}

@@ -90,27 +90,6 @@ fn words(alloc: Global) -> Result<Vec<String>, Fail> {
     Ok(words)
 }
 
-/// Runs the service over a source, and says how it ended.
-fn status_over<R: Threads + Sync, S: Source>(
-    rt: &R,
-    alloc: Global,
-    input: &mut S,
-) -> Result<Status, Fail> {
-    let words = words(alloc)?;
-    let mut folder = MemFolder::new(files(alloc, &PLAIN)?, Vec::new(alloc));
-    let mut output = MemSink::new(alloc, 4096, 4096, Vec::new(alloc))?;
-    let ended = run::<_, _, _, _, Brand>(
-        rt,
-        alloc,
-        words.as_slice(),
-        &mut folder,
-        input,
-        &mut output,
-        Blank::new(1),
-    );
-    Ok(ended.status)
-}
-
 /// The two files of a case.
 fn files(alloc: Global, case: &Case) -> Result<Vec<(String, Vec<u8>)>, Fail> {
     let mut files = Vec::new(alloc);
@@ -125,6 +104,32 @@ fn files(alloc: Global, case: &Case) -> Result<Vec<(String, Vec<u8>)>, Fail> {
     Ok(files)
 }
 
+/// Runs the service over a source.
+fn outcome_over<R: Threads + Sync, S: Source>(
+    rt: &R,
+    alloc: Global,
+    case: &Case,
+    words: &[String],
+    input: &mut S,
+) -> Result<RunResult, Fail> {
+    let mut folder = MemFolder::new(files(alloc, case)?, only(alloc, case.folder_fails)?);
+    let most = case.most.max(1);
+    let mut output = MemSink::new(alloc, 4096, most, only(alloc, case.output_fails)?)?;
+    let ended = run::<_, _, _, _, Brand>(
+        rt,
+        alloc,
+        words,
+        &mut folder,
+        input,
+        &mut output,
+        Blank::new(1),
+    );
+    Ok(RunResult {
+        status: ended.status,
+        output: output.bytes().to_vec(alloc)?,
+    })
+}
+
 /// Runs the service over bytes of the input.
 fn outcome_of<R: Threads + Sync>(
     rt: &R,
@@ -133,24 +138,8 @@ fn outcome_of<R: Threads + Sync>(
     words: &[String],
     input: Vec<u8>,
 ) -> Result<RunResult, Fail> {
-    let mut folder = MemFolder::new(files(alloc, case)?, only(alloc, case.folder_fails)?);
-    let most = case.most.max(1);
-    let mut input = MemSource::new(input, most, only(alloc, case.input_fails)?);
-    let mut output = MemSink::new(alloc, 4096, most, only(alloc, case.output_fails)?)?;
-    let blank = Blank::new(1);
-    let ended = run::<_, _, _, _, Brand>(
-        rt,
-        alloc,
-        words,
-        &mut folder,
-        &mut input,
-        &mut output,
-        blank,
-    );
-    Ok(RunResult {
-        status: ended.status,
-        output: output.bytes().to_vec(alloc)?,
-    })
+    let mut input = MemSource::new(input, case.most.max(1), only(alloc, case.input_fails)?);
+    outcome_over(rt, alloc, case, words, &mut input)
 }
 
 /// Runs the service over the case's input.
@@ -547,6 +536,7 @@ impl Source for OfferedSource {
 fn a_read_of_the_input_offers_no_more_than_the_buffer_and_the_limit(
     rt: HostRuntime,
 ) -> Result<(), Fail> {
+    let words = words(rt.alloc())?;
     for (length, status, reads, least) in [
         (10_000usize, Status::Served, 4u64, 4096usize),
         (1_048_576, Status::Served, 257, 1),
@@ -558,7 +548,8 @@ fn a_read_of_the_input_offers_no_more_than_the_buffer_and_the_limit(
             least: usize::MAX,
             most: 0,
         };
-        assert_eq!(rt; status_over(&rt, rt.alloc(), &mut input)?, status);
+        let ran = outcome_over(&rt, rt.alloc(), &PLAIN, words.as_slice(), &mut input)?;
+        assert_eq!(rt; ran.status, status);
         assert_eq!(rt; input.reads, reads);
         assert_eq!(rt; input.least, least);
         assert_eq!(rt; input.most, 4096);
