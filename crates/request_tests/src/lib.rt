@@ -1,7 +1,7 @@
 //! Tests of requests: their trees and printed texts (`apply_ast`), and how they are read (`apply_grammar`).
 //!
-//! `trees` makes trees by hand and compares what is printed; `reading` reads texts and compares what they are read as, and
-//! where a line stops being a request.
+//! `reading` reads texts, copies what they are read as and compares what is printed of it, and where a line stops being a
+//! request; `trees` makes trees by hand and compares what is printed.
 #![tactic(auto)]
 
 #[cfg(test)]

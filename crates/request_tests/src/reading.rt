@@ -1,13 +1,20 @@
-//! Texts, what they are read as, and where a line stops being a request.
-use apply_ast::{BinOp, Expr, print};
+//! Texts, what they are read as, and where a line stops being a request. What is read is copied and printed, so copies and
+//! printed texts are tried too.
+use apply_ast::{BinOp, Expr, Request, print};
 use apply_grammar::{
     ExprRefused, GrammarRefused, one_expression, one_pipeline, read_expr, read_path, read_request,
 };
 use std::test::*;
 
+/// A copy of what the line asks for, or `None` where it is no request.
+fn copied(rt: &HostRuntime, line: &str) -> Option<Request> {
+    let request = read_request(rt.alloc(), line.as_bytes()).ok()?;
+    request.copy(rt.alloc()).ok()
+}
+
 /// The printed text of what the line asks for, or `None` where it is no request.
 fn printed(rt: &HostRuntime, line: &str) -> Option<String> {
-    let request = read_request(rt.alloc(), line.as_bytes()).ok()?;
+    let request = copied(rt, line)?;
     print(rt.alloc(), &request.pipe).ok()
 }
 
@@ -44,8 +51,56 @@ fn requests(rt: HostRuntime) {
     ] {
         assert!(rt; prints(&rt, line, text), "{line}");
     }
+    assert!(rt;
+        matches!(
+            copied(&rt, "explain Sales?$apply=identity"),
+            Some(r) if r.explain && r.set.text() == "Sales" && r.pipe.steps().len() == 1
+        )
+    );
     one_pipeline();
     one_expression();
+}
+
+#[test]
+fn texts_that_are_printed_as_they_were_read(rt: HostRuntime) -> Result<(), Fail> {
+    for text in [
+        "filter(null)",
+        "filter(false)",
+        "filter(9223372036854775807)",
+        "filter(0001-01-01)",
+        "filter('O''Neil''s é (/,')",
+        "filter(12.50)",
+        "filter(0.000000005)",
+        "filter(99999999999999999.9)",
+        "filter(not (ID eq 1))",
+        "filter(not ID eq 1)",
+        "filter(-2 mul -3)",
+        "filter(1 sub 2 sub 3)",
+        "filter(1 sub (2 sub 3))",
+        "filter(contains(Name,'A'))",
+        "filter(year(Day))",
+        "compute(ID eq 1 as X)",
+        "orderby(ID desc)",
+        "aggregate($count as N)",
+        "aggregate(Amount with sum as Total)",
+        "aggregate(Best)",
+        "aggregate(Best as B)",
+        "groupby((rollup($all,Year,Month)))",
+        "groupby((rollup(Year,Month)))",
+        "groupby((rolluprecursive($root/Orgs,OrgTree,OrgID,filter(ID eq 1))))",
+        "groupby((Year),filter(ID eq 1))",
+        "concat(identity,top(1)/skip(2))",
+        "outerjoin(Sales as S,filter(ID eq 1))",
+        "descendants($root/Orgs,OrgTree,OrgID,filter(ID eq 1),2,keep start)",
+        "traverse($root/Orgs,OrgTree,ID,postorder,ID)",
+        "topcount(2,Amount)",
+        "bottompercent(100,Amount)",
+        "topsum(10,Amount)",
+    ] {
+        let line = repeated(&rt, "S?$apply=", 1, text)?;
+        assert!(rt; prints(&rt, line.as_str(), text), "{text}");
+    }
+    Ok(())
 }
 
 /// The number of the step where the line stops being a request, -1 where it is one, -2 where it is too long, and -3
