@@ -1,5 +1,5 @@
 -- Lists of which only the elements that are something are kept.
-use Rattle.std.proofs.Common.{◌≡◌, ℕ, zero, suc, ◌+◌, ◌<◌, ◌≤◌, Bool, true, false, cond, List, [], ◌∷◌, ◌++◌, length, get_or, map, nat_eq, refl, sym, ◌∙◌, ap, subst, arith, ⊎_elim, Some, None, Ok, Err, add-one, length-append}
+use Rattle.std.proofs.Common.{◌≡◌, ℕ, zero, suc, ◌+◌, ◌<◌, ◌≤◌, Bool, true, false, List, [], ◌∷◌, ◌++◌, length, get_or, map, nat_eq, refl, sym, ◌∙◌, ap, arith, ⊎_elim, Some, None, Ok, Err, add-one, length-append}
 use Rattle.std.specs.declared.option.Option.{Option}
 use Rattle.std.specs.Prelude.{Result, MatchResult}
 use Rattle.std.specs.Ordering.{nat_cmp}
@@ -18,7 +18,7 @@ use Rattle.edm_values.specs.Lists.{places}
 use Rattle.edm_values.specs.Values.{value_in}
 use Rattle.edm_values.specs.declared.Value.{Value}
 use Rattle.edm_data.proofs.KeyOrderLemmas.{position-push, first_some-None}
-use Rattle.edm_data.specs.Columns.{AreBelow, AreRising, AreKept, kept_at, kept, value_or_null, column_values}
+use Rattle.edm_data.specs.Columns.{AreBelow, AreRising, kept_at, kept, value_or_null, column_values}
 use Rattle.edm_data.proofs.PlaceLemmas.{length-places, get_or-places, slice_get-push_before, slice_get-push_at}
 
 -- ---- the first place at which a test passes
@@ -111,9 +111,6 @@ kept_there at xs n k below = ⊎_elim
     ap (λ o. unwrap_or o None) (slice_get-map (kept_at at xs) (places n) k ∙ ap (option_map (kept_at at xs)) (slice_get-get_or (places n) k 0 first ∙ ap Some (get_or-places n k 0 less))))
     (λ more. ap (λ o. unwrap_or o None) (slice_get_past (kept at xs n) k (rw (length-kept at xs n) more)) ∙ sym (ap (option_and_then (slice_get xs)) (absent at n k below more)))
     (cases_lt k n)
-
-pub AreBelow-more : (at : List ℕ) (n : ℕ) → AreBelow n at → AreBelow (n + 1) at
-AreBelow-more at n below i within = let e = below i within in omega (arith, e)
 
 pub AreBelow-push : (at : List ℕ) (n : ℕ) → AreBelow n at → AreBelow (n + 1) (at ++ n ∷ [])
 AreBelow-push at n below i within = ⊎_elim

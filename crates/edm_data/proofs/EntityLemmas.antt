@@ -1,9 +1,7 @@
 -- Entities read from JSON, property by property and member by member.
-use Rattle.std.proofs.Common.{◌≡◌, ℕ, zero, suc, ◌+◌, ◌<◌, ◌≤◌, ◌||◌, List, [], ◌∷◌, ◌++◌, length, take, map, get_or, refl, sym, ◌∙◌, ap, Some, None, IsTrue, add-one, nat_eq}
-use Rattle.std.specs.Cmp.{nat_eq_equiv}
+use Rattle.std.proofs.Common.{◌≡◌, ℕ, zero, suc, ◌+◌, ◌<◌, ◌≤◌, List, [], ◌∷◌, ◌++◌, length, take, map, get_or, refl, sym, ◌∙◌, ap, Some, None, IsTrue, add-one}
 use Rattle.std.proofs.lemmas.List.{map-append, take_all}
 use Rattle.std.proofs.lemmas.Option.{slice_get-map}
-use Rattle.edm_model.specs.ModelFile.{is_annotation}
 use Rattle.std.specs.declared.option.Option.{Option}
 use Rattle.std.specs.Option.{option_map, is_some}
 use Rattle.std.specs.List.{list_any, slice_get, position}
@@ -78,10 +76,6 @@ pub values-none : {P V : Type 0} (f : P → Option V) (ps : List P) (i : ℕ) �
 values-none f ps i here = sym (all_some-none (map f ps) i (slice_get-map f ps i ∙ here))
 
 -- ---- the items of a set, one after another
-
--- the items that were read, where each is an entity
-pub record AreRows {X R : Type 0} (f : X → Option (List R)) (items : List X) (n : ℕ) (rows : List (List R)) : Type 0 where
-  pub read : map Some rows ≡ map f (take n items)
 
 -- each of the rows is what its item is
 pub row_read : {X R : Type 0} (f : X → Option (List R)) (items : List X) (rows : List (List R)) → map Some rows ≡ map f items → (k : ℕ) (r : List R) → slice_get rows k ≡ Some r → option_map f (slice_get items k) ≡ Some (Some r)

@@ -1,15 +1,14 @@
 -- Rows that are kept by column.
-use Rattle.std.proofs.Common.{◌≡◌, ℕ, zero, suc, ◌+◌, ◌<◌, ◌≤◌, List, [], ◌∷◌, ◌++◌, length, get_or, set, map, refl, sym, ◌∙◌, ap, arith, ⊎_elim, Some, None, add-one, length-append}
-use Rattle.std.specs.declared.option.Option.{Option}
+use Rattle.std.proofs.Common.{◌≡◌, ℕ, zero, suc, ◌+◌, ◌<◌, ◌≤◌, List, [], ◌∷◌, ◌++◌, length, get_or, set, map, refl, sym, ◌∙◌, ap, arith, ⊎_elim, Some, add-one, length-append}
 use Rattle.std.specs.Option.{option_map, unwrap_or}
-use Rattle.std.specs.List.{slice_get, AllByRecursion}
-use Rattle.std.proofs.lemmas.List.{map-append, length-map}
+use Rattle.std.specs.List.{slice_get}
+use Rattle.std.proofs.lemmas.List.{length-map}
 use Rattle.std.proofs.lemmas.Option.{slice_get-map, slice_get-get_or, slice_get_past, slice_get_read}
 use Rattle.std.proofs.lemmas.Bool.{cases_lt}
 use Rattle.edm_values.specs.Lists.{places}
 use Rattle.edm_values.specs.Values.{value_in}
 use Rattle.edm_values.specs.declared.Value.{Value}
-use Rattle.edm_data.specs.Columns.{ValueList, Grid, grid_of, row_at, AreColumns}
+use Rattle.edm_data.specs.Columns.{ValueList, grid_of, row_at, AreColumns}
 use Rattle.edm_data.proofs.PlaceLemmas.{length-places, get_or-places, slice_get-push_before, slice_get-push_at}
 use Rattle.edm_data.proofs.ColumnLemmas.{map_places, map_places_more}
 

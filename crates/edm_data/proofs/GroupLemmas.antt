@@ -1,16 +1,16 @@
 -- Kept groups, and what they say of the world.
-use Rattle.std.proofs.Common.{◌≡◌, ℕ, ◌+◌, ◌<◌, ◌≤◌, Bool, true, false, cond, List, [], ◌∷◌, ◌++◌, length, map, filter, nat_eq, refl, sym, ◌∙◌, ap, subst, arith, ⊎_elim, Some, None, Result, Ok, Err, IfOk}
+use Rattle.std.proofs.Common.{◌≡◌, ℕ, ◌+◌, ◌<◌, ◌≤◌, Bool, true, false, cond, List, [], ◌∷◌, ◌++◌, length, map, filter, nat_eq, refl, sym, ◌∙◌, ap, subst, arith, ⊎_elim, Some, None}
 use Rattle.std.specs.declared.option.Option.{Option}
-use Rattle.std.specs.Option.{option_map, option_and_then, unwrap_or}
+use Rattle.std.specs.Option.{option_map, unwrap_or}
 use Rattle.std.specs.Prelude.{◌==◌, ◌&&◌, if◌then◌else◌}
-use Rattle.std.specs.List.{slice_get, position}
+use Rattle.std.specs.List.{slice_get}
 use Rattle.std.proofs.lemmas.Bool.{cases_lt}
 use Rattle.std.proofs.lemmas.Option.{slice_get_past}
 use Rattle.edm_values.specs.Lists.{places, is_some_and}
 use Rattle.edm_model.specs.Models.{Navigation, Part}
 use Rattle.edm_model.specs.LookUps.{navigation_at, navigation_on, partner_of, set_of_type, set_type, IsSet}
 use Rattle.edm_data.specs.Worlds.{World, Entity, entity_at}
-use Rattle.edm_data.specs.References.{count, entities_in, follow, keys_of, property, referred, refers_to, related_by}
+use Rattle.edm_data.specs.References.{count, follow, refers_to, related_by}
 use Rattle.edm_data.specs.LinkLists.{LinkList, link_in, linking_before, linking_to}
 use Rattle.edm_data.specs.Links.{IsGroup, is_link_to, linking, KeptRelation, NavRelations, HasReferences, followed, kept_relation}
 use Rattle.edm_data.proofs.RelationLemmas.{follow_is}

@@ -1,11 +1,6 @@
 -- The references of every set, and what they say of the world.
-use Rattle.std.proofs.Common.{◌≡◌, ℕ, ◌+◌, ◌<◌, ◌≤◌, false, [], ◌∷◌, ◌++◌, length, refl, sym, ◌∙◌, ap, subst, arith, ⊎_elim, Some, None, Vec}
-use Rattle.std.specs.declared.alloc.Global.{Global}
-use Rattle.std.specs.Option.{option_map, option_and_then, unwrap_or}
-use Rattle.std.specs.Prelude.{if◌then◌else◌}
-use Rattle.std.specs.List.{slice_get, find}
-use Rattle.std.proofs.lemmas.Bool.{cases_lt}
-use Rattle.std.proofs.lemmas.Option.{slice_get_past}
+use Rattle.std.proofs.Common.{◌≡◌, ℕ, ◌<◌, ◌≤◌, false, length, refl, sym, ap, subst, arith, Some, None}
+use Rattle.std.specs.List.{find}
 use Rattle.edm_data.specs.Worlds.{World, entity_at, all_places}
 use Rattle.edm_data.specs.References.{count}
 use Rattle.edm_data.specs.Fitting.{FitsModel}
@@ -14,7 +9,6 @@ use Rattle.edm_data.specs.DataFile.{World', Dangling, unless_found, is_dangling,
 use Rattle.edm_data.specs.Refusals.{Tells}
 use Rattle.edm_data.specs.declared.DataRefused.{DataRefused}
 use Rattle.edm_data.specs.declared.references.LinksRefused.{LinksRefused}
-use Rattle.edm_data.proofs.PlaceLemmas.{slice_get-push_before, slice_get-push_at}
 use Rattle.edm_data.proofs.FirstPlaces.{find-all_places_none, find-all_places_first}
 use Rattle.edm_data.proofs.KeyedLemmas.{set_within}
 

@@ -1,30 +1,18 @@
 -- What the passes over a file say of it.
-use Rattle.std.proofs.Common.{◌≡◌, ℕ, ◌<◌, ◌≤◌, true, false, List, length, refl, ◌∙◌, ap, Some, None, Result, Ok, Err, IfErr}
+use Rattle.std.proofs.Common.{◌≡◌, ℕ, ◌≤◌, true, false, List, length, refl, ◌∙◌, ap, Some, None, Result, Ok, Err, IfErr}
 use Rattle.std.specs.Prelude.{not, if◌then◌else◌}
 use Rattle.std.specs.declared.option.Option.{Option}
 use Rattle.std.specs.Option.{option_map, unwrap_or}
 use Rattle.std.specs.List.{find}
 use Rattle.std.specs.Str.{is_utf8, IsUtf8}
 use Rattle.std.proofs.lemmas.Str.{IsUtf8-from_is_utf8, is_utf8-from_IsUtf8}
-use Rattle.std.proofs.lemmas.Bool.{le-ltb, lt-ltb}
+use Rattle.std.proofs.lemmas.Bool.{le-ltb}
 use Rattle.serde_json.specs.Data.{Data, null, boolean, number, string, array, object, Members}
 use Rattle.serde_json.specs.Find.{as_object}
 use Rattle.serde_json.specs.Read.{read}
 use Rattle.edm_model.specs.Models.{Model}
 use Rattle.edm_model.specs.JsonTrees.{Member, json_of, member_list}
-use Rattle.edm_data.specs.DataFile.{DataReading, TooLong, NoJson, Set, unless_found, with_world, is_set_member, items_of_sets, rows_reading, entities_in_tree, entities_reading, data_limit}
-use Rattle.edm_data.specs.Worlds.{World}
-use Rattle.edm_data.specs.Refusals.{Tells}
-use Rattle.edm_data.specs.declared.DataRefused.{DataRefused}
-
--- a tree that is no object
-pub no_object : (m : Model) (d : Data) → as_object d ≡ None → entities_in_tree m d ≡ NoJson
-no_object m null h = refl
-no_object m (boolean b) h = refl
-no_object m (number n) h = refl
-no_object m (string t) h = refl
-no_object m (array ds) h = refl
-no_object m (object ms) h = cc
+use Rattle.edm_data.specs.DataFile.{DataReading, TooLong, NoJson, Set, unless_found, is_set_member, items_of_sets, rows_reading, entities_in_tree, entities_reading, data_limit}
 
 -- a tree that is an object with these members
 pub an_object : (m : Model) (d : Data) (ms : Members) → as_object d ≡ Some ms → entities_in_tree m d ≡ unless_found (find (λ e. not (is_set_member m e)) (member_list ms)) (λ e. Set e.0) (rows_reading m (items_of_sets m d))
@@ -41,10 +29,6 @@ no_member_found None next h = refl
 no_member_found (Some e) next h = cc
 
 -- ---- the bytes
-
--- a file that is too long
-pub too_long : (m : Model) (file : List ℕ) → data_limit < length file → entities_reading m file ≡ TooLong
-too_long m file h = ap (λ b. if b then TooLong else unwrap_or (option_map (entities_in_tree m) (json_of file)) NoJson) (lt-ltb data_limit (length file) h)
 
 -- a file that keeps its limit and has a tree
 pub with_tree : (m : Model) (file : List ℕ) (d : Data) → length file ≤ data_limit → IsUtf8 file → read file ≡ Some d → entities_reading m file ≡ entities_in_tree m d

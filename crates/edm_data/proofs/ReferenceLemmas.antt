@@ -1,21 +1,14 @@
 -- What an entity refers to, by what the model says of a navigation.
-use Rattle.std.proofs.Common.{◌≡◌, ℕ, zero, suc, ◌+◌, ◌<◌, ◌≤◌, Bool, true, false, ◌||◌, List, [], ◌∷◌, ◌++◌, length, take, get_or, refl, sym, ◌∙◌, ap, arith, add-one, ⊎_elim, Some, None}
-use Rattle.std.proofs.lemmas.Bool.{false≢true, cases_lt}
+use Rattle.std.proofs.Common.{◌≡◌, ℕ, zero, suc, ◌<◌, List, [], ◌∷◌, length, get_or, refl, sym, ◌∙◌, ap, arith, Some, None}
 use Rattle.std.proofs.lemmas.List.{length-map, get_or-map}
-use Rattle.std.proofs.lemmas.Option.{slice_get_past}
 use Rattle.edm_values.specs.Lists.{places}
-use Rattle.edm_data.proofs.PlaceLemmas.{length-places, get_or-places, slice_get-push_before, slice_get-push_at}
+use Rattle.edm_data.proofs.PlaceLemmas.{length-places, get_or-places}
 use Rattle.std.specs.declared.option.Option.{Option}
-use Rattle.std.specs.Option.{option_map, option_and_then, unwrap_or, is_none}
-use Rattle.std.specs.Prelude.{if◌then◌else◌}
-use Rattle.std.specs.List.{slice_get, list_any}
-use Rattle.edm_values.specs.Lists.{is_some_and}
-use Rattle.edm_values.specs.Values.{is_null}
-use Rattle.edm_model.specs.Models.{Model, Navigation, EntitySet, EntityType, Part}
-use Rattle.edm_model.specs.LookUps.{type_at, type_of_set, set_type, set_of_type, navigation_at, navigation_on, navigations_of, dependent_of, parts, IsSet, IsType, IsNavigation}
-use Rattle.edm_data.specs.Worlds.{World, Entity}
-use Rattle.edm_data.specs.References.{property, by_key, referred, follow, navigations_in}
-use Rattle.edm_data.specs.DataFile.{dangles}
+use Rattle.std.specs.Option.{option_map, option_and_then, unwrap_or}
+use Rattle.std.specs.List.{slice_get}
+use Rattle.edm_model.specs.Models.{Model, EntitySet, EntityType, Part}
+use Rattle.edm_model.specs.LookUps.{type_at, type_of_set, set_type, navigation_at, navigation_on, navigations_of, parts, IsSet, IsType, IsNavigation}
+use Rattle.edm_data.specs.References.{navigations_in}
 
 -- the type of a set, by its place among the types
 pub type_same : (m : Model) (s : ℕ) → IsSet m s → type_at m (set_type m s) ≡ type_of_set m s

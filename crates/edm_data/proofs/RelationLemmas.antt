@@ -1,21 +1,20 @@
 -- Relations of navigations, and what they say of the world.
 use Rattle.std.proofs.Common.{◌≡◌, ℕ, zero, suc, ◌+◌, ◌<◌, ◌≤◌, Bool, true, false, ◌||◌, List, [], ◌∷◌, ◌++◌, length, take, refl, sym, ◌∙◌, ap, subst, arith, add-one, ⊎_elim, Some, None}
-use Rattle.std.specs.Prelude.{◌&&◌, IfNone, not, if◌then◌else◌, min}
+use Rattle.std.specs.Prelude.{IfNone, if◌then◌else◌, min}
 use Rattle.std.specs.declared.option.Option.{Option}
-use Rattle.std.specs.Option.{option_map, option_and_then, unwrap_or, is_none}
+use Rattle.std.specs.Option.{option_map, option_and_then, unwrap_or}
 use Rattle.std.specs.List.{slice_get, list_any}
 use Rattle.std.proofs.lemmas.Bool.{cases_lt}
 use Rattle.std.proofs.lemmas.List.{take_all, length_push}
 use Rattle.std.proofs.lemmas.Option.{slice_get_past, none-some}
 use Rattle.edm_values.specs.Lists.{is_some_and}
-use Rattle.edm_values.specs.Values.{is_null}
-use Rattle.edm_model.specs.Models.{Model, Navigation, Part}
+use Rattle.edm_model.specs.Models.{Navigation, Part}
 use Rattle.edm_model.specs.LookUps.{navigation_at, navigation_on, dependent_of, set_of_type, set_type, IsSet}
 use Rattle.edm_data.specs.Worlds.{World, Entity, entity_at}
 use Rattle.edm_data.specs.References.{count, entities_of, property, referred, follow, navigations_in}
 use Rattle.edm_data.specs.DataFile.{dangles, is_dangling}
 use Rattle.edm_data.specs.LinkLists.{LinkList, link_in}
-use Rattle.edm_data.specs.Links.{reached, misses, KeptRelation, IsRelation, IsFirstOf, IsLeast, IsFirstDangling, earlier, nav_dangles, NavRelations, relation_in, pair_in, pair_of, AreRelations, IsOfNav, HasRelations, followed}
+use Rattle.edm_data.specs.Links.{reached, misses, KeptRelation, IsRelation, IsFirstOf, IsLeast, earlier, nav_dangles, NavRelations, relation_in, pair_in, pair_of, AreRelations, IsOfNav, HasRelations, followed}
 use Rattle.edm_data.proofs.PlaceLemmas.{slice_get-push_before, slice_get-push_at}
 use Rattle.edm_data.proofs.ReferenceLemmas.{nav_at, nav_same}
 

@@ -1,5 +1,5 @@
 -- Keys that rise are in the order of their places.
-use Rattle.std.proofs.Common.{◌≡◌, ℕ, zero, suc, ◌+◌, ◌-◌, ◌<◌, ◌≤◌, Bool, true, false, cond, ◌||◌, List, [], ◌∷◌, ◌++◌, length, take, map, get_or, length-take, refl, sym, ◌∙◌, ap, arith, ⊎_elim, Some, None}
+use Rattle.std.proofs.Common.{◌≡◌, ℕ, zero, suc, ◌+◌, ◌-◌, ◌<◌, ◌≤◌, Bool, true, false, cond, List, [], ◌∷◌, ◌++◌, length, take, map, get_or, length-take, refl, sym, ◌∙◌, ap, arith, Some, None}
 use Rattle.std.specs.declared.option.Option.{Option}
 use Rattle.std.specs.declared.cmp.Ordering.{Ordering}
 use Rattle.std.specs.declared.cmp.Ordering.TheVariants.{Less, Equal, Greater}
@@ -12,7 +12,7 @@ use Rattle.std.proofs.lemmas.List.{map-append, take_more, take_all, get_or-take}
 use Rattle.std.proofs.lemmas.Map.Keys.{Less-from_sorted}
 use Rattle.std.proofs.lemmas.Option.{slice_get_within, get_or_from_slice_get}
 use Rattle.edm_values.specs.Lists.{places, first_some, is_some_and}
-use Rattle.edm_data.specs.KeyOrders.{is_twice, AreDistinct, IsKeyOrder, keyed}
+use Rattle.edm_data.specs.KeyOrders.{AreDistinct, IsKeyOrder, keyed}
 use Rattle.edm_data.proofs.KeyOrderLemmas.{position-push}
 use Rattle.edm_data.proofs.TextLemmas.{all_push}
 

@@ -1,24 +1,14 @@
 -- The items of a set, one after another, and the first that is no entity.
-use Rattle.std.proofs.Common.{◌≡◌, ℕ, zero, suc, ◌+◌, ◌<◌, ◌≤◌, false, List, [], ◌∷◌, ◌++◌, length, take, map, get_or, refl, ◌∙◌, ap, arith, Some, None, add-one}
+use Rattle.std.proofs.Common.{◌≡◌, ℕ, zero, suc, ◌<◌, ◌≤◌, false, List, [], ◌∷◌, length, take, map, get_or, refl, ◌∙◌, ap, arith, Some, None}
 use Rattle.std.specs.declared.option.Option.{Option}
 use Rattle.std.specs.Option.{option_map, unwrap_or, is_some, is_none}
 use Rattle.std.specs.List.{slice_get}
-use Rattle.std.proofs.lemmas.List.{map-append, take_all}
 use Rattle.std.proofs.lemmas.Option.{slice_get-map, slice_get_read}
 use Rattle.serde_json.specs.Data.{Data, null, boolean, number, string, array, object}
 use Rattle.serde_json.specs.Find.{as_array}
 use Rattle.serde_json.specs.View.{items_of}
 use Rattle.edm_model.specs.JsonTrees.{is_array, items_in, item_list}
 use Rattle.edm_data.specs.FirstItems.{IsFirstNone}
-
--- the rows of one item more
-pub rows-more : {X R G : Type 0} (g : G → R) (f : X → Option R) (items : List X) (k : ℕ) (old new : List G) (row : G) (x : X) → k < length items → x ≡ get_or items k x → new ≡ old ++ row ∷ [] → f x ≡ Some (g row) → map (λ r. Some (g r)) old ≡ map f (take k items) → map (λ r. Some (g r)) new ≡ map f (take (k + 1) items)
-rows-more g f items k old new row x within item grown here before =
-    rw (grown, map-append (λ r. Some (g r)) old (row ∷ []), before, add-one) (front f items k x (g row) (slice_get_read items (length items) k x refl within item) here) where
-      front : {X R : Type 0} (f : X → Option R) (items : List X) (k : ℕ) (x : X) (r : R) → slice_get items k ≡ Some x → f x ≡ Some r → map f (take k items) ++ Some r ∷ [] ≡ map f (take (suc k) items)
-      front f [] k x r at here = cc
-      front f (y ∷ items) zero x r at here = let same : y ≡ x = cc in rw (same, here) refl
-      front f (y ∷ items) (suc k) x r at here = ap (λ l. f y ∷ l) (front f items k x r at here)
 
 -- an item before the first that is none
 read_before : {X R G : Type 0} (g : G → R) (f : X → Option R) (items : List X) (rows : List G) (k q : ℕ) → map (λ r. Some (g r)) rows ≡ map f (take k items) → k ≤ length items → q < k → is_none (unwrap_or (slice_get (map f items) q) None) ≡ false

@@ -1,12 +1,12 @@
 -- Relations that several navigations share.
-use Rattle.std.proofs.Common.{◌≡◌, ℕ, ◌+◌, ◌<◌, List, [], ◌∷◌, ◌++◌, length, get_or, map, refl, sym, ◌∙◌, ap, arith, Some, None, length-append}
+use Rattle.std.proofs.Common.{◌≡◌, ℕ, ◌+◌, ◌<◌, List, [], ◌∷◌, ◌++◌, length, get_or, refl, sym, ◌∙◌, ap, arith, Some, None, length-append}
 use Rattle.std.specs.Prelude.{IfSome}
 use Rattle.std.specs.declared.option.Option.{Option}
 use Rattle.std.specs.Option.{option_map, option_and_then, unwrap_or}
-use Rattle.std.specs.List.{slice_get, AllByRecursion}
+use Rattle.std.specs.List.{slice_get}
 use Rattle.std.proofs.lemmas.List.{map-append}
 use Rattle.std.proofs.lemmas.Option.{slice_get-map, slice_get_read}
-use Rattle.edm_data.specs.Links.{KeptRelation, NavRelations, relation_in}
+use Rattle.edm_data.specs.Links.{KeptRelation, relation_in}
 use Rattle.edm_data.specs.SharedRelations.{relations_of, AreWithin}
 use Rattle.edm_data.proofs.PlaceLemmas.{slice_get-push_before, slice_get-push_at}
 use Rattle.edm_data.proofs.TextLemmas.{all_push}

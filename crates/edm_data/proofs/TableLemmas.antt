@@ -1,18 +1,14 @@
 -- Entities that are kept in vectors, and the lists of their world.
-use Rattle.std.proofs.Common.{◌≡◌, ℕ, zero, suc, ◌<◌, ◌^◌, Bool, true, false, ◌&&◌, List, [], ◌∷◌, ◌++◌, map, take, length, get_or, ◌+◌, ◌≤◌, refl, ap, sym, ◌∙◌, arith, Some, None}
+use Rattle.std.proofs.Common.{◌≡◌, ℕ, zero, suc, ◌<◌, Bool, true, false, ◌&&◌, List, [], ◌∷◌, map, length, get_or, refl, ap, sym, ◌∙◌, arith, Some, None}
 use Rattle.std.specs.declared.option.Option.{Option}
 use Rattle.std.specs.Option.{option_map, option_and_then, unwrap_or}
 use Rattle.std.specs.List.{slice_get}
-use Rattle.std.proofs.lemmas.Option.{slice_get-map, slice_get_read, unwrap_or-slice_get}
-use Rattle.std.proofs.lemmas.List.{map-append, length-map, take_more, take_all}
-use Rattle.std.proofs.lemmas.Simd.{map-map}
+use Rattle.std.proofs.lemmas.Option.{slice_get-map, unwrap_or-slice_get}
 use Rattle.edm_values.specs.declared.Value.{Value}
 use Rattle.edm_values.specs.Values.{value_in}
-use Rattle.edm_model.specs.Models.{Property, EntitySet, Model, Part}
-use Rattle.edm_model.specs.LookUps.{set_type, properties_of, key_of, key_at, type_at, IsSet, IsProperty}
-use Rattle.edm_data.specs.Worlds.{World}
-use Rattle.edm_data.specs.References.{entities_of, keys_of, count}
-use Rattle.edm_data.specs.Fitting.{FitsModel, are_values_of, is_value_of}
+use Rattle.edm_model.specs.Models.{Property, EntitySet, Model}
+use Rattle.edm_model.specs.LookUps.{set_type, key_of, key_at, type_at, IsSet}
+use Rattle.edm_data.specs.Fitting.{are_values_of, is_value_of}
 use Rattle.std.proofs.lemmas.Bool.{false≢true}
 
 and_second : (a b : Bool) → (a && b) ≡ true → b ≡ true

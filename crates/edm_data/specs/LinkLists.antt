@@ -1,5 +1,5 @@
 -- What each entity of a set refers to, as places of another set, and what refers to each.
-use Rattle.std.specs.Prelude.{ℕ, Bool, List, [], length, filter, slice_get, nat_eq, Vec, Option, None, option_map, unwrap_or}
+use Rattle.std.specs.Prelude.{ℕ, List, [], length, filter, slice_get, nat_eq, Vec, Option, None, option_map, unwrap_or}
 use Rattle.std.specs.declared.alloc.Global.{Global}
 use Rattle.std.specs.Ordering.{nat_cmp}
 use Rattle.std.specs.BTreeMap.{BTreeMap, get}

@@ -5,7 +5,7 @@ use Rattle.edm_values.specs.Values.{is_null}
 use Rattle.edm_data.specs.Worlds.{World, Entity, entity_at}
 use Rattle.edm_model.specs.Models.{Model}
 use Rattle.edm_model.specs.LookUps.{navigation_at, set_of_type}
-use Rattle.edm_data.specs.References.{same_entity, property, by_key, follow, count, related}
+use Rattle.edm_data.specs.References.{same_entity, property, by_key, count, related}
 use Rattle.edm_data.specs.DataFile.{World', dangles, is_dangling, references_reading}
 use Rattle.edm_data.specs.LinkLists.{LinkList, link_in}
 

@@ -6,6 +6,7 @@ use edm_data::{Data, DataRefused, EntityRef, read_data};
 use edm_model::{Model, NavId, SetId, read_model};
 use edm_values::Seen;
 use std::alloc::Global;
+use std::process::Abort;
 use std::test::Fail;
 
 /// Organisations, each with a parent.
@@ -19,17 +20,6 @@ const SALES_MODEL: &str =
 /// Six sales, the fifth without an organisation; the last customer has none, and two organisations have no parent.
 const SALES: &str =
     "{\"Customers\":[{\"ID\":\"C1\"},{\"ID\":\"C2\"},{\"ID\":\"C3\"},{\"ID\":\"C4\"}],\"Orgs\":[{\"ID\":\"Corp\"},{\"ID\":\"EMEA\",\"ParentID\":\"Corp\"},{\"ID\":\"US\",\"ParentID\":\"Corp\"},{\"ID\":\"West\",\"ParentID\":\"US\"},{\"ID\":\"East\",\"ParentID\":\"US\"},{\"ID\":\"Lab\"}],\"Sales\":[{\"ID\":1,\"CustomerID\":\"C1\",\"OrgID\":\"West\"},{\"ID\":\"2\",\"CustomerID\":\"C1\",\"OrgID\":\"East\"},{\"ID\":\"3\",\"CustomerID\":\"C2\",\"OrgID\":\"EMEA\"},{\"ID\":\"4\",\"CustomerID\":\"C3\",\"OrgID\":\"West\"},{\"ID\":\"5\",\"CustomerID\":\"C2\"},{\"ID\":\"6\",\"CustomerID\":\"C1\",\"OrgID\":\"US\"}]}";
-
-/// The six sales.
-fn sales(alloc: Global) -> Option<Data> {
-    let Ok(model) = read_model(alloc, SALES_MODEL.as_bytes()) else {
-        return None;
-    };
-    match read_data(alloc, model, SALES.as_bytes()) {
-        Ok(data) => Some(data),
-        Err(_) => None,
-    }
-}
 
 /// The navigation at this place of a set's type, in byte order of names.
 fn nav_at(model: &Model, s: SetId, n: usize) -> Option<NavId>
@@ -71,12 +61,8 @@ fn related(store: &Data, set: &str, k: u32, n: usize) -> Option<Vec<EntityRef>> 
     }
 }
 
-#[test]
-fn finds_entities_by_key(rt: HostRuntime) -> Result<(), Fail> {
-    let Some(store) = sales(rt.alloc()) else {
-        assert_eq!(rt; "no world", "a world");
-        return Ok(());
-    };
+/// Finds entities by their keys.
+fn expect_found(rt: &impl Abort, store: &Data) {
     let rows = [
         ("Sales", Seen::Int(1), Some(0)),
         ("Sales", Seen::Int(5), Some(4)),
@@ -89,20 +75,15 @@ fn finds_entities_by_key(rt: HostRuntime) -> Result<(), Fail> {
     ];
     for (set, key, place) in rows {
         assert_eq!(rt;
-            place_of(&store, set, key),
+            place_of(store, set, key),
             place,
             "the key {key:?} in {set}"
         );
     }
-    Ok(())
 }
 
-#[test]
-fn follows_references(rt: HostRuntime) -> Result<(), Fail> {
-    let Some(store) = sales(rt.alloc()) else {
-        assert_eq!(rt; "no world", "a world");
-        return Ok(());
-    };
+/// Follows references.
+fn expect_followed(rt: &impl Abort, store: &Data) {
     let rows = [
         ("Sales", 0, 0, Some(0)),
         ("Sales", 3, 0, Some(2)),
@@ -115,20 +96,15 @@ fn follows_references(rt: HostRuntime) -> Result<(), Fail> {
     ];
     for (set, k, n, place) in rows {
         assert_eq!(rt;
-            followed(&store, set, k, n),
+            followed(store, set, k, n),
             place,
             "from {k} of {set} by {n}"
         );
     }
-    Ok(())
 }
 
-#[test]
-fn gives_related_entities_in_data_order(rt: HostRuntime) -> Result<(), Fail> {
-    let Some(store) = sales(rt.alloc()) else {
-        assert_eq!(rt; "no world", "a world");
-        return Ok(());
-    };
+/// Finds related entities, in data order.
+fn expect_related(rt: &impl Abort, store: &Data) {
     let sales = store.model().set_named("Sales");
     let rows: [(&str, u32, &[u32]); 6] = [
         ("Customers", 0, &[0, 1, 5]),
@@ -139,9 +115,8 @@ fn gives_related_entities_in_data_order(rt: HostRuntime) -> Result<(), Fail> {
         ("Sales", 0, &[]),
     ];
     for (set, k, places) in rows {
-        let Some(found) = related(&store, set, k, 0) else {
-            assert_eq!(rt; "nothing", "a list");
-            return Ok(());
+        let Some(found) = related(store, set, k, 0) else {
+            panic!(rt; "no list from {k} of {set}");
         };
         assert_eq!(rt; found.len(), places.len(), "from {k} of {set}");
         for (entity, place) in found.iter().zip(places.iter()) {
@@ -149,7 +124,19 @@ fn gives_related_entities_in_data_order(rt: HostRuntime) -> Result<(), Fail> {
             assert_eq!(rt; entity.at, *place, "from {k} of {set}");
         }
     }
-    Ok(())
+}
+
+#[test]
+fn entities_are_found_by_key_by_reference_and_by_relation(rt: HostRuntime) {
+    let Ok(model) = read_model(rt.alloc(), SALES_MODEL.as_bytes()) else {
+        panic!(rt; "no model");
+    };
+    let Ok(store) = read_data(rt.alloc(), model, SALES.as_bytes()) else {
+        panic!(rt; "no world");
+    };
+    expect_found(&rt, &store);
+    expect_followed(&rt, &store);
+    expect_related(&rt, &store);
 }
 
 /// The name of what a file is, and the place of the entity that is told.

@@ -12,9 +12,9 @@ use std::test::Fail;
 const SAMPLE: &str =
     "{\"$Version\":\"4.01\",\"$EntityContainer\":\"W.C\",\"W\":{\"Sale\":{\"$Kind\":\"EntityType\",\"$Key\":[\"ID\"],\"ID\":{\"$Type\":\"Edm.Int64\"},\"Amount\":{\"$Type\":\"Edm.Decimal\",\"$Precision\":16,\"$Scale\":2,\"$Nullable\":true},\"CustomerID\":{},\"OrgID\":{\"$Nullable\":true},\"Customer\":{\"$Kind\":\"NavigationProperty\",\"$Type\":\"W.Customer\",\"$Partner\":\"Sales\",\"$ReferentialConstraint\":{\"CustomerID\":\"ID\"}},\"Org\":{\"$Kind\":\"NavigationProperty\",\"$Type\":\"W.Org\",\"$Nullable\":true,\"$ReferentialConstraint\":{\"OrgID\":\"ID\"}},\"@Org.OData.Aggregation.V1.CustomAggregate#Best\":\"Edm.Decimal\",\"@Local.Apply.V1.Definition#Best\":{\"Of\":\"Amount\",\"With\":\"sum\",\"Per\":[\"CustomerID\"],\"Then\":\"max\"}},\"Customer\":{\"$Kind\":\"EntityType\",\"$Key\":[\"ID\"],\"ID\":{},\"Name\":{},\"Country\":{},\"Since\":{\"$Type\":\"Edm.Date\",\"$Nullable\":true},\"Sales\":{\"$Kind\":\"NavigationProperty\",\"$Collection\":true,\"$Type\":\"W.Sale\",\"$Partner\":\"Customer\"}},\"Org\":{\"$Kind\":\"EntityType\",\"$Key\":[\"ID\"],\"ID\":{},\"ParentID\":{\"$Nullable\":true},\"Superordinate\":{\"$Kind\":\"NavigationProperty\",\"$Type\":\"W.Org\",\"$Nullable\":true,\"$ReferentialConstraint\":{\"ParentID\":\"ID\"}},\"@Org.OData.Aggregation.V1.RecursiveHierarchy#OrgTree\":{\"NodeProperty\":\"ID\",\"ParentNavigationProperty\":\"Superordinate\"}},\"C\":{\"$Kind\":\"EntityContainer\",\"Sales\":{\"$Collection\":true,\"$Type\":\"W.Sale\"},\"Customers\":{\"$Collection\":true,\"$Type\":\"W.Customer\"},\"Orgs\":{\"$Collection\":true,\"$Type\":\"W.Org\"}}}}";
 
-/// What a text is as a model file.
-fn reading(alloc: Global, text: &str) -> &'static str {
-    match read_model(alloc, text.as_bytes()) {
+/// What bytes are as a model file.
+fn reading(alloc: Global, file: &[u8]) -> &'static str {
+    match read_model(alloc, file) {
         Ok(_) => "model",
         Err(ModelRefused::TooLong) => "too long",
         Err(ModelRefused::Json) => "no JSON",
@@ -144,10 +144,10 @@ fn each_rule_broken_once(rt: HostRuntime) -> Result<(), Fail> {
         ("{\"$Version\"", "[\"$Version\"", "no JSON"),
     ];
     let alloc = rt.alloc();
-    assert_eq!(rt; reading(alloc, SAMPLE), "model");
+    assert_eq!(rt; reading(alloc, SAMPLE.as_bytes()), "model");
     for (from, to, wanted) in rows {
         let text = SAMPLE.replace(alloc, from, to)?;
-        assert_eq!(rt; reading(alloc, text.as_str()), wanted, "{from} to {to}");
+        assert_eq!(rt; reading(alloc, text.as_bytes()), wanted, "{from} to {to}");
     }
     Ok(())
 }
@@ -155,16 +155,19 @@ fn each_rule_broken_once(rt: HostRuntime) -> Result<(), Fail> {
 #[test]
 fn texts_that_are_no_objects(rt: HostRuntime) -> Result<(), Fail> {
     let alloc = rt.alloc();
-    assert_eq!(rt; reading(alloc, ""), "no JSON");
-    assert_eq!(rt; reading(alloc, "{"), "no JSON");
-    assert_eq!(rt; reading(alloc, "[]"), "no JSON");
-    assert_eq!(rt; reading(alloc, "{}"), "no model");
+    for (file, wanted) in [
+        (b"".as_slice(), "no JSON"),
+        (b"{".as_slice(), "no JSON"),
+        (b"[]".as_slice(), "no JSON"),
+        (b"{}".as_slice(), "no model"),
+        (b"\xff{}".as_slice(), "no JSON"),
+    ] {
+        assert_eq!(rt; reading(alloc, file), wanted, "{file:?}");
+    }
     let nested = "[".repeat(alloc, 128)?;
-    assert_eq!(rt; reading(alloc, nested.as_str()), "no JSON");
+    assert_eq!(rt; reading(alloc, nested.as_bytes()), "no JSON");
     let long = " ".repeat(alloc, 1_048_577)?;
-    assert_eq!(rt; reading(alloc, long.as_str()), "too long");
-    let bytes = [0xffu8, 0x7b, 0x7d];
-    assert!(rt; matches!(read_model(alloc, &bytes), Err(ModelRefused::Json)));
+    assert_eq!(rt; reading(alloc, long.as_bytes()), "too long");
     Ok(())
 }
 
@@ -250,14 +253,12 @@ fn expect_navigation(
     }
 }
 
-#[test]
-fn sets_are_found_by_name(rt: HostRuntime) -> Result<(), Fail> {
-    let alloc = rt.alloc();
-    let model = read_model(alloc, SAMPLE.as_bytes())?;
+/// Finds the sets by their names, and nothing by other names.
+fn expect_sets(rt: &impl Abort, model: &Model) {
     assert_eq!(rt; model.sets().len(), 3);
-    expect_set(&rt, &model, "Customers", "Customer", "ID", (4, 1));
-    expect_set(&rt, &model, "Orgs", "Org", "ID", (2, 1));
-    expect_set(&rt, &model, "Sales", "Sale", "ID", (4, 2));
+    expect_set(rt, model, "Customers", "Customer", "ID", (4, 1));
+    expect_set(rt, model, "Orgs", "Org", "ID", (2, 1));
+    expect_set(rt, model, "Sales", "Sale", "ID", (4, 2));
     for absent in [
         "",
         "Customer",
@@ -270,59 +271,42 @@ fn sets_are_found_by_name(rt: HostRuntime) -> Result<(), Fail> {
     ] {
         assert!(rt; model.set_named(absent).is_none(), "the set {absent}");
     }
-    Ok(())
 }
 
-#[test]
-fn properties_are_found_by_name(rt: HostRuntime) -> Result<(), Fail> {
-    let alloc = rt.alloc();
-    let model = read_model(alloc, SAMPLE.as_bytes())?;
+/// Finds properties by their names.
+fn expect_properties(rt: &impl Abort, model: &Model) {
     let amount = EdmType::Dec {
         scale: 2,
         precision: 16,
     };
-    expect_property(&rt, &model, "Customers", "Country", EdmType::Text, false);
-    expect_property(&rt, &model, "Customers", "Since", EdmType::Day, true);
-    expect_property(&rt, &model, "Orgs", "ParentID", EdmType::Text, true);
-    expect_property(&rt, &model, "Sales", "Amount", amount, true);
-    expect_property(&rt, &model, "Sales", "CustomerID", EdmType::Text, false);
-    expect_property(&rt, &model, "Sales", "ID", EdmType::Int, false);
-    expect_property(&rt, &model, "Sales", "OrgID", EdmType::Text, true);
-    Ok(())
+    for (set, name, kind, nullable) in [
+        ("Customers", "Country", EdmType::Text, false),
+        ("Customers", "Since", EdmType::Day, true),
+        ("Orgs", "ParentID", EdmType::Text, true),
+        ("Sales", "Amount", amount, true),
+        ("Sales", "CustomerID", EdmType::Text, false),
+        ("Sales", "ID", EdmType::Int, false),
+        ("Sales", "OrgID", EdmType::Text, true),
+    ] {
+        expect_property(rt, model, set, name, kind, nullable);
+    }
 }
 
-#[test]
-fn navigations_are_found_by_name(rt: HostRuntime) -> Result<(), Fail> {
-    let alloc = rt.alloc();
-    let model = read_model(alloc, SAMPLE.as_bytes())?;
-    expect_navigation(&rt, &model, "Customers", "Sales", "Sale", true, "Customer");
-    expect_navigation(
-        &rt,
-        &model,
-        "Orgs",
-        "Superordinate",
-        "Org",
-        false,
-        "ParentID",
-    );
-    expect_navigation(
-        &rt,
-        &model,
-        "Sales",
-        "Customer",
-        "Customer",
-        false,
-        "CustomerID",
-    );
-    expect_navigation(&rt, &model, "Sales", "Org", "Org", false, "OrgID");
-    Ok(())
+/// Finds navigation properties by their names.
+fn expect_navigations(rt: &impl Abort, model: &Model) {
+    for (set, name, target, many, back) in [
+        ("Customers", "Sales", "Sale", true, "Customer"),
+        ("Orgs", "Superordinate", "Org", false, "ParentID"),
+        ("Sales", "Customer", "Customer", false, "CustomerID"),
+        ("Sales", "Org", "Org", false, "OrgID"),
+    ] {
+        expect_navigation(rt, model, set, name, target, many, back);
+    }
 }
 
-#[test]
-fn hierarchies_and_custom_aggregates_are_found_by_name(rt: HostRuntime) -> Result<(), Fail> {
-    let alloc = rt.alloc();
-    let model = read_model(alloc, SAMPLE.as_bytes())?;
-    let orgs = found_set(&rt, &model, "Orgs");
+/// Finds the hierarchy by its qualifier.
+fn expect_hierarchy(rt: &impl Abort, model: &Model) {
+    let orgs = found_set(rt, model, "Orgs");
     let Some(tree) = model.hier_named(orgs, "OrgTree") else {
         panic!(rt; "no hierarchy");
     };
@@ -331,7 +315,11 @@ fn hierarchies_and_custom_aggregates_are_found_by_name(rt: HostRuntime) -> Resul
     assert_eq!(rt; model.hier_set(tree), orgs);
     assert_eq!(rt; model.nav_name(model.hier_parent(tree)), "Superordinate");
     assert!(rt; model.hier_named(orgs, "Best").is_none());
-    let sale = model.set_type(found_set(&rt, &model, "Sales"));
+}
+
+/// Finds the custom aggregate by its name.
+fn expect_custom(rt: &impl Abort, model: &Model) {
+    let sale = model.set_type(found_set(rt, model, "Sales"));
     let best = model.custom_named(sale, "Best");
     assert_eq!(rt; model.customs().len(), 1);
     let custom = &model.customs()[0];
@@ -344,5 +332,15 @@ fn hierarchies_and_custom_aggregates_are_found_by_name(rt: HostRuntime) -> Resul
     let groups = custom.per.as_slice();
     assert_eq!(rt; groups.len(), 1);
     assert_eq!(rt; groups[0].as_str(), "CustomerID");
+}
+
+#[test]
+fn parts_of_a_model_are_found_by_name(rt: HostRuntime) -> Result<(), Fail> {
+    let model = read_model(rt.alloc(), SAMPLE.as_bytes())?;
+    expect_sets(&rt, &model);
+    expect_properties(&rt, &model);
+    expect_navigations(&rt, &model);
+    expect_hierarchy(&rt, &model);
+    expect_custom(&rt, &model);
     Ok(())
 }

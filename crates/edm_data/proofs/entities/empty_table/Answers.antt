@@ -1,4 +1,4 @@
-use Rattle.std.proofs.Common.{◌≡◌, ◌≤◌, length, sym, ap, ◌∙◌, arith}
+use Rattle.std.proofs.Common.{◌≡◌, length, ◌∙◌, arith}
 use Rattle.edm_model.specs.LookUps.{properties_of}
 use Rattle.edm_data.proofs.ReferenceLemmas.{part_number}
 use Rattle.edm_data.proofs.EntityLemmas.{prop_item}

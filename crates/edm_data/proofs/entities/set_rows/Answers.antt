@@ -6,7 +6,7 @@ use Rattle.serde_json.specs.View.{view}
 use Rattle.edm_model.specs.LookUps.{properties_of}
 use Rattle.edm_data.specs.DataFile.{entity_of}
 use Rattle.edm_data.specs.FirstItems.{IsFirstNone}
-use Rattle.edm_data.proofs.ShapeLemmas.{IsFirstNone-at, rows-more}
+use Rattle.edm_data.proofs.ShapeLemmas.{IsFirstNone-at}
 use Rattle.edm_data.proofs.TableLemmas.{length-are_values_of}
 use Rattle.edm_data.proofs.TreeLemmas.{entity_fits}
 use Rattle.edm_data.proofs.entities.set_rows.Goals as goal

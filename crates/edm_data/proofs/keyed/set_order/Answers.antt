@@ -1,4 +1,3 @@
-use Rattle.std.proofs.Common.{refl}
 use Rattle.edm_values.specs.Values.{seen_value, value_cmp}
 use Rattle.edm_data.specs.Keys.{key_cmp}
 use Rattle.edm_data.specs.References.{keys_of}

@@ -1,8 +1,8 @@
-use Rattle.std.proofs.Common.{◌≡◌, ℕ, ◌<◌, true, false, Some, None, Err, sym, ap, subst, ◌∙◌}
+use Rattle.std.proofs.Common.{◌≡◌, ℕ, true, false, Some, None, Err, sym, ap, subst, ◌∙◌}
 use Rattle.std.specs.Option.{option_map}
-use Rattle.edm_model.specs.Models.{Model, Navigation}
+use Rattle.edm_model.specs.Models.{Model}
 use Rattle.edm_model.specs.LookUps.{navigation_on, dependent_of, set_of_type}
-use Rattle.edm_data.specs.Links.{KeptRelation, IsFirstOf, IsLeast, misses, nav_dangles, pair_in, pair_of, relation_in}
+use Rattle.edm_data.specs.Links.{IsFirstOf, IsLeast, misses, nav_dangles, pair_in, relation_in}
 use Rattle.edm_data.specs.References.{count}
 use Rattle.edm_data.proofs.RelationLemmas.{AreRelations-more, IsRelation-from, least-none, least-same, least-some, pair-many, pair-one, relation_by, option-before, option-last, subst-some}
 use Rattle.edm_data.proofs.references.add_relation.Goals as goal

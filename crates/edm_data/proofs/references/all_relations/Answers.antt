@@ -1,4 +1,4 @@
-use Rattle.std.proofs.Common.{◌≡◌, ℕ, ◌+◌, ◌≤◌, [], length, Err, ap, subst, ◌∙◌, arith, below_more}
+use Rattle.std.proofs.Common.{◌≡◌, ◌+◌, ◌≤◌, [], length, Err, ap, subst, ◌∙◌, arith, below_more}
 use Rattle.std.specs.Option.{unwrap_or}
 use Rattle.edm_values.specs.Lists.{places}
 use Rattle.edm_data.specs.Fitting.{FitsModel}

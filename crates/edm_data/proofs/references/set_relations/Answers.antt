@@ -1,5 +1,5 @@
-use Rattle.std.proofs.Common.{◌≡◌, ℕ, ◌+◌, ◌<◌, ◌≤◌, ◌||◌, false, [], length, None, Some, refl, sym, ap, subst, ◌∙◌, arith}
-use Rattle.edm_data.specs.Links.{AreRelations, IsFirstOf, IsLeast, IsOfNav, NavRelations, nav_dangles, relation_in}
+use Rattle.std.proofs.Common.{◌≡◌, ◌+◌, ◌≤◌, ◌||◌, [], length, refl, sym, ap, subst, ◌∙◌, arith}
+use Rattle.edm_data.specs.Links.{AreRelations, IsFirstOf, IsLeast, IsOfNav, nav_dangles, relation_in}
 use Rattle.edm_data.specs.DataFile.{is_dangling}
 use Rattle.edm_data.specs.References.{count, navigations_in}
 use Rattle.edm_data.specs.Worlds.{entity_at}

@@ -1,7 +1,7 @@
 use Rattle.std.proofs.Common.{◌≡◌, ◌+◌, ◌∷◌, [], ◌++◌, length, sym, ap, ◌∙◌, arith, length-append}
 use Rattle.edm_values.specs.declared.Value.{Value}
 use Rattle.edm_values.specs.Values.{seen_value}
-use Rattle.edm_data.proofs.ColumnLemmas.{AreBelow-more, AreBelow-push, column-more, column-null, length-column}
+use Rattle.edm_data.proofs.ColumnLemmas.{AreBelow-push, column-more, column-null, length-column}
 use Rattle.edm_data.proofs.columns.Column.push.Goals as goal
 
 pub overflow_add-self : goal.overflow_add-self

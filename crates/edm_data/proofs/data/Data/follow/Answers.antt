@@ -3,7 +3,7 @@ use Rattle.std.specs.List.{slice_get}
 use Rattle.std.specs.Option.{option_map, unwrap_or}
 use Rattle.edm_data.specs.Worlds.{World, Entity}
 use Rattle.edm_data.specs.References.{follow}
-use Rattle.edm_data.specs.Links.{KeptRelation, followed, kept_relation}
+use Rattle.edm_data.specs.Links.{followed, kept_relation}
 use Rattle.edm_data.proofs.RelationLemmas.{follow_is}
 use Rattle.edm_data.proofs.data.Data.follow.Goals as goal
 

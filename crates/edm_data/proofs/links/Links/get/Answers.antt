@@ -1,4 +1,4 @@
-use Rattle.std.proofs.Common.{◌≡◌, ℕ, ◌<◌, length, nat_eq, sym, ap, ◌∙◌, arith, Some, None}
+use Rattle.std.proofs.Common.{◌≡◌, ◌<◌, length, nat_eq, sym, ap, ◌∙◌, arith, Some, None}
 use Rattle.std.specs.List.{position, slice_get}
 use Rattle.std.specs.Option.{unwrap_or}
 use Rattle.edm_data.specs.LinkLists.{LinkList}

@@ -1,4 +1,4 @@
-use Rattle.std.proofs.Common.{◌≡◌, ◌<◌, length, get_or, sym, ◌∙◌, arith}
+use Rattle.std.proofs.Common.{◌≡◌, ◌<◌, length, get_or, sym, arith}
 use Rattle.edm_data.proofs.ColumnLemmas.{found-rising, found-search, none-search, read_at}
 use Rattle.edm_data.proofs.places.Places.find.Goals as goal
 

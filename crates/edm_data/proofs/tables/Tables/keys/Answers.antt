@@ -1,10 +1,10 @@
-use Rattle.std.proofs.Common.{◌≡◌, ◌+◌, ◌<◌, ◌∷◌, [], ◌++◌, length, map, take, get_or, sym, ap, ◌∙◌, arith}
+use Rattle.std.proofs.Common.{◌≡◌, ◌<◌, ◌∷◌, [], length, get_or, sym, ap, ◌∙◌, arith}
 use Rattle.std.proofs.lemmas.List.{map-append, take_more}
 use Rattle.edm_values.specs.declared.Value.{Value}
 use Rattle.edm_values.specs.Values.{seen_value}
 use Rattle.edm_model.specs.LookUps.{key_at}
 use Rattle.edm_data.specs.Worlds.{entity_at}
-use Rattle.edm_data.specs.References.{count, entities_of, keys_of, property}
+use Rattle.edm_data.specs.References.{entities_of, keys_of, property}
 use Rattle.edm_data.specs.declared.keys.Key.{Key}
 use Rattle.edm_data.proofs.KeyedLemmas.{key_number}
 use Rattle.edm_data.proofs.TableLemmas.{key_there}

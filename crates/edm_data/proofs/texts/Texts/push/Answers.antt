@@ -1,5 +1,4 @@
 use Rattle.std.proofs.Common.{◌≡◌, ◌+◌, ◌++◌, ◌∷◌, [], length, sym, ap, ◌∙◌, arith}
-use Rattle.std.specs.Str.{IsUtf8}
 use Rattle.edm_data.specs.TextSpans.{texts_in}
 use Rattle.edm_data.proofs.TextLemmas.{AreTexts-grown, AreTexts-push, texts_in-push, texts_grown, OnErr-from}
 use Rattle.edm_data.proofs.texts.Texts.push.Goals as goal
