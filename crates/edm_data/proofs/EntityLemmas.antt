@@ -3,7 +3,7 @@ use Rattle.std.proofs.Common.{◌≡◌, ℕ, zero, suc, ◌+◌, ◌<◌, ◌�
 use Rattle.std.specs.Cmp.{nat_eq_equiv}
 use Rattle.std.proofs.lemmas.List.{map-append, take_all}
 use Rattle.std.proofs.lemmas.Option.{slice_get-map}
-use Rattle.edm_model.specs.ModelFile.{is_annotation}
+use Rattle.edm_model.specs.ModelTrees.{is_annotation}
 use Rattle.std.specs.declared.option.Option.{Option}
 use Rattle.std.specs.Option.{option_map, is_some}
 use Rattle.std.specs.List.{list_any, slice_get, position}
