@@ -11,7 +11,7 @@ use Rattle.edm_schema.specs.ModelTrees.{is_model, is_type, type_tree, type_membe
 use Rattle.edm_model.specs.ModelFile.{model_of, type_of}
 use Rattle.edm_schema.proofs.Counted.{all_places_at}
 use Rattle.edm_schema.proofs.Mapped.{length-mapped}
-use Rattle.edm_schema.proofs.SetEach.{and_left, and_right}
+use Rattle.edm_schema.proofs.Passing.{and_left, and_right}
 
 -- the second of two, where the first is denied
 pub or_second : (a b : Bool) → (not a || b) ≡ true → a ≡ true → b ≡ true

@@ -8,5 +8,6 @@ pub mod IdLaws
 pub mod ModelRows
 pub mod NameLaws
 pub mod Places
+pub mod SetEach
 pub mod Sound
 pub mod TreeParts

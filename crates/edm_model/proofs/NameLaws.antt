@@ -25,9 +25,8 @@ use Rattle.edm_model.proofs.Accepted.{or_second, tree_passes, in_types, type_pas
 use Rattle.edm_model.proofs.FoundByName.{item_place}
 use Rattle.edm_schema.proofs.Mapped.{map_mapped}
 use Rattle.edm_schema.proofs.Ordered.{none_ordered, made_ordered, qualified_ordered}
-use Rattle.edm_schema.proofs.Passing.{all_get, filter_get}
+use Rattle.edm_schema.proofs.Passing.{and_left, and_right, all_get, filter_get}
 use Rattle.edm_model.proofs.Places.{within_types}
-use Rattle.edm_schema.proofs.SetEach.{and_left, and_right}
 use Rattle.edm_model.proofs.TreeParts.{properties_is, navigations_is, hierarchies_is, customs_is, property_here, navigation_here, hierarchy_here, custom_here, type_here, set_here}
 
 -- ---- names are simple identifiers

@@ -27,9 +27,9 @@ use Rattle.edm_schema.proofs.Ordered.{none_ordered, made_ordered, qualified_orde
 use Rattle.edm_model.proofs.Accepted.{places_pass, in_types, of_types, type_passes}
 use Rattle.edm_model.proofs.IdLaws.{places_within, parts_there, all_parts_there, all_customs_there}
 use Rattle.edm_model.proofs.NameLaws.{set_names, type_names, property_names, navigation_names, qualifiers, custom_names, properties_are_no_navigations, customs_are_no_properties, customs_are_no_navigations, sets_in_order, types_in_order, properties_in_order, navigations_in_order, hierarchies_in_order, customs_in_order, found_place_of, found_named}
-use Rattle.edm_schema.proofs.Passing.{some_map, some_bind, some_passes, some_there, all_get, filter_get, find_place, one_place, only_place}
+use Rattle.edm_schema.proofs.Passing.{and_left, and_right, some_map, some_bind, some_passes, some_there, all_get, filter_get, find_place, one_place, only_place}
 use Rattle.edm_model.proofs.Places.{within_types}
-use Rattle.edm_schema.proofs.SetEach.{and_left, and_right, set_each_same}
+use Rattle.edm_model.proofs.SetEach.{set_each_same}
 use Rattle.edm_model.proofs.TreeParts.{properties_is, navigations_is, hierarchies_is, customs_is, key_is, property_here, property_there, is_property_at, navigation_here, navigation_there, hierarchy_here}
 
 -- the member of a name, with its place
@@ -237,7 +237,7 @@ module _ (d : Data) (h : is_model d ≡ true) where
   each_set = and_left _ _ (and_right _ _ (and_left _ _ h))
 
   one_each : (t : ℕ) → t < length (type_members d) → exactly_one (λ s. s.of == t) (map (set_of d) (set_members d)) ≡ true
-  one_each t below = places_pass (λ k. exactly_one (λ s. s.of == k) (map (set_of d) (set_members d))) (length (type_members d)) t (sym (set_each_same (set_of d) (λ s. s.of) d (λ m. refl) (length (type_members d)) (set_members d) each_set) ∙ and_right _ _ (and_right _ _ (and_left _ _ h))) below
+  one_each t below = places_pass (λ k. exactly_one (λ s. s.of == k) (map (set_of d) (set_members d))) (length (type_members d)) t (sym (set_each_same d (length (type_members d)) (set_members d) each_set) ∙ and_right _ _ (and_right _ _ (and_left _ _ h))) below
 
   -- the set at a place and its type
   set_there : (s : ℕ) → IsSet (model_of d) s → (e : EntitySet) × (slice_get (map (set_of d) (set_members d)) s ≡ Some e) × (e.of < length (type_members d))

@@ -8,6 +8,7 @@ pub mod Passing
 pub mod Points
 pub mod QualifiedNames
 pub mod RuleFacts
+pub mod RuleRows
+pub mod SampleTree
 pub mod SchemaParts
 pub mod SetCounts
-pub mod SetEach

@@ -14,7 +14,7 @@ use Rattle.std.proofs.lemmas.Bool.{false≢true}
 use Rattle.std.proofs.lemmas.Bool.Decides.{nat_tests}
 use Rattle.edm_schema.specs.ModelTrees.{is_of_term, is_annotation, qualifier}
 use Rattle.edm_schema.specs.NameOrders.{AreOrdered}
-use Rattle.edm_schema.proofs.SetEach.{and_left, and_right}
+use Rattle.edm_schema.proofs.Passing.{and_left, and_right}
 
 -- no names are in order
 pub none_ordered : AreOrdered []

@@ -1,6 +1,6 @@
 -- Options and lists whose elements pass a test.
 use Rattle.std.proofs.Common.{◌≡◌, ℕ, zero, suc, ◌+◌, ◌==◌, Bool, true, false, List, [], ◌∷◌, cond, Some, None, refl, sym, ◌∙◌, ap, subst, arith}
-use Rattle.std.specs.Prelude.{Option, option_map, option_and_then, is_some, slice_get, filter, find, position, count_by}
+use Rattle.std.specs.Prelude.{◌&&◌, Option, option_map, option_and_then, is_some, slice_get, filter, find, position, count_by}
 use Rattle.std.specs.List.{list_all, position_from}
 use Rattle.std.proofs.lemmas.Bool.{false≢true}
 use Rattle.std.proofs.lemmas.Bool.Decides.{nat_tests}
@@ -8,7 +8,15 @@ use Rattle.std.proofs.lemmas.Iterator.Adapters.{position_from-zero}
 use Rattle.std.proofs.lemmas.List.Sums.{sum_by-cons}
 use Rattle.std.proofs.lemmas.Option.{none-some, same_Some}
 use Rattle.edm_values.specs.Lists.{is_some_and}
-use Rattle.edm_schema.proofs.SetEach.{and_left, and_right}
+
+-- the two parts of a conjunction
+pub and_left : (a b : Bool) → (a && b) ≡ true → a ≡ true
+and_left true b h = refl
+and_left false b h = h
+
+pub and_right : (a b : Bool) → (a && b) ≡ true → b ≡ true
+and_right true b h = h
+and_right false b h = cc
 
 -- ---- options
 

@@ -42,54 +42,54 @@ remove path name d = changed (names_of path) (without name) d
 -- the entity sets
 abbrev container_tree : Data
 container_tree = object_of (
-  (codes "$Kind", string (codes "EntityContainer")) ∷
-  (codes "Customers", object_of ((codes "$Collection", boolean true) ∷ (codes "$Type", string (codes "W.Customer")) ∷ [])) ∷
-  (codes "Orgs", object_of ((codes "$Collection", boolean true) ∷ (codes "$Type", string (codes "W.Org")) ∷ [])) ∷
-  (codes "Sales", object_of ((codes "$Collection", boolean true) ∷ (codes "$Type", string (codes "W.Sale")) ∷ [])) ∷
-  [])
+    (codes "$Kind", string (codes "EntityContainer")) ∷
+    (codes "Customers", object_of ((codes "$Collection", boolean true) ∷ (codes "$Type", string (codes "W.Customer")) ∷ [])) ∷
+    (codes "Orgs", object_of ((codes "$Collection", boolean true) ∷ (codes "$Type", string (codes "W.Org")) ∷ [])) ∷
+    (codes "Sales", object_of ((codes "$Collection", boolean true) ∷ (codes "$Type", string (codes "W.Sale")) ∷ [])) ∷
+    [])
 
 -- a customer, with its sales
 abbrev customer_tree : Data
 customer_tree = object_of (
-  (codes "$Key", array_of (string (codes "ID") ∷ [])) ∷
-  (codes "$Kind", string (codes "EntityType")) ∷
-  (codes "Country", object_of []) ∷
-  (codes "ID", object_of []) ∷
-  (codes "Name", object_of []) ∷
-  (codes "Sales", object_of ((codes "$Collection", boolean true) ∷ (codes "$Kind", string (codes "NavigationProperty")) ∷ (codes "$Partner", string (codes "Customer")) ∷ (codes "$Type", string (codes "W.Sale")) ∷ [])) ∷
-  (codes "Since", object_of ((codes "$Nullable", boolean true) ∷ (codes "$Type", string (codes "Edm.Date")) ∷ [])) ∷
-  [])
+    (codes "$Key", array_of (string (codes "ID") ∷ [])) ∷
+    (codes "$Kind", string (codes "EntityType")) ∷
+    (codes "Country", object_of []) ∷
+    (codes "ID", object_of []) ∷
+    (codes "Name", object_of []) ∷
+    (codes "Sales", object_of ((codes "$Collection", boolean true) ∷ (codes "$Kind", string (codes "NavigationProperty")) ∷ (codes "$Partner", string (codes "Customer")) ∷ (codes "$Type", string (codes "W.Sale")) ∷ [])) ∷
+    (codes "Since", object_of ((codes "$Nullable", boolean true) ∷ (codes "$Type", string (codes "Edm.Date")) ∷ [])) ∷
+    [])
 
 -- an organisation, with the one above it
 abbrev org_tree : Data
 org_tree = object_of (
-  (codes "$Key", array_of (string (codes "ID") ∷ [])) ∷
-  (codes "$Kind", string (codes "EntityType")) ∷
-  (codes "@Org.OData.Aggregation.V1.RecursiveHierarchy#OrgTree", object_of ((codes "NodeProperty", string (codes "ID")) ∷ (codes "ParentNavigationProperty", string (codes "Superordinate")) ∷ [])) ∷
-  (codes "ID", object_of []) ∷
-  (codes "ParentID", object_of ((codes "$Nullable", boolean true) ∷ [])) ∷
-  (codes "Superordinate", object_of ((codes "$Kind", string (codes "NavigationProperty")) ∷ (codes "$Nullable", boolean true) ∷ (codes "$ReferentialConstraint", object_of ((codes "ParentID", string (codes "ID")) ∷ [])) ∷ (codes "$Type", string (codes "W.Org")) ∷ [])) ∷
-  [])
+    (codes "$Key", array_of (string (codes "ID") ∷ [])) ∷
+    (codes "$Kind", string (codes "EntityType")) ∷
+    (codes "@Org.OData.Aggregation.V1.RecursiveHierarchy#OrgTree", object_of ((codes "NodeProperty", string (codes "ID")) ∷ (codes "ParentNavigationProperty", string (codes "Superordinate")) ∷ [])) ∷
+    (codes "ID", object_of []) ∷
+    (codes "ParentID", object_of ((codes "$Nullable", boolean true) ∷ [])) ∷
+    (codes "Superordinate", object_of ((codes "$Kind", string (codes "NavigationProperty")) ∷ (codes "$Nullable", boolean true) ∷ (codes "$ReferentialConstraint", object_of ((codes "ParentID", string (codes "ID")) ∷ [])) ∷ (codes "$Type", string (codes "W.Org")) ∷ [])) ∷
+    [])
 
 -- a sale, with its customer and its organisation
 abbrev sale_tree : Data
 sale_tree = object_of (
-  (codes "$Key", array_of (string (codes "ID") ∷ [])) ∷
-  (codes "$Kind", string (codes "EntityType")) ∷
-  (codes "@Local.Apply.V1.Definition#Best", object_of ((codes "Of", string (codes "Amount")) ∷ (codes "Per", array_of (string (codes "CustomerID") ∷ [])) ∷ (codes "Then", string (codes "max")) ∷ (codes "With", string (codes "sum")) ∷ [])) ∷
-  (codes "@Org.OData.Aggregation.V1.CustomAggregate#Best", string (codes "Edm.Decimal")) ∷
-  (codes "Amount", object_of ((codes "$Nullable", boolean true) ∷ (codes "$Precision", number (unsigned 16)) ∷ (codes "$Scale", number (unsigned 2)) ∷ (codes "$Type", string (codes "Edm.Decimal")) ∷ [])) ∷
-  (codes "Customer", object_of ((codes "$Kind", string (codes "NavigationProperty")) ∷ (codes "$Partner", string (codes "Sales")) ∷ (codes "$ReferentialConstraint", object_of ((codes "CustomerID", string (codes "ID")) ∷ [])) ∷ (codes "$Type", string (codes "W.Customer")) ∷ [])) ∷
-  (codes "CustomerID", object_of []) ∷
-  (codes "ID", object_of ((codes "$Type", string (codes "Edm.Int64")) ∷ [])) ∷
-  (codes "Org", object_of ((codes "$Kind", string (codes "NavigationProperty")) ∷ (codes "$Nullable", boolean true) ∷ (codes "$ReferentialConstraint", object_of ((codes "OrgID", string (codes "ID")) ∷ [])) ∷ (codes "$Type", string (codes "W.Org")) ∷ [])) ∷
-  (codes "OrgID", object_of ((codes "$Nullable", boolean true) ∷ [])) ∷
-  [])
+    (codes "$Key", array_of (string (codes "ID") ∷ [])) ∷
+    (codes "$Kind", string (codes "EntityType")) ∷
+    (codes "@Local.Apply.V1.Definition#Best", object_of ((codes "Of", string (codes "Amount")) ∷ (codes "Per", array_of (string (codes "CustomerID") ∷ [])) ∷ (codes "Then", string (codes "max")) ∷ (codes "With", string (codes "sum")) ∷ [])) ∷
+    (codes "@Org.OData.Aggregation.V1.CustomAggregate#Best", string (codes "Edm.Decimal")) ∷
+    (codes "Amount", object_of ((codes "$Nullable", boolean true) ∷ (codes "$Precision", number (unsigned 16)) ∷ (codes "$Scale", number (unsigned 2)) ∷ (codes "$Type", string (codes "Edm.Decimal")) ∷ [])) ∷
+    (codes "Customer", object_of ((codes "$Kind", string (codes "NavigationProperty")) ∷ (codes "$Partner", string (codes "Sales")) ∷ (codes "$ReferentialConstraint", object_of ((codes "CustomerID", string (codes "ID")) ∷ [])) ∷ (codes "$Type", string (codes "W.Customer")) ∷ [])) ∷
+    (codes "CustomerID", object_of []) ∷
+    (codes "ID", object_of ((codes "$Type", string (codes "Edm.Int64")) ∷ [])) ∷
+    (codes "Org", object_of ((codes "$Kind", string (codes "NavigationProperty")) ∷ (codes "$Nullable", boolean true) ∷ (codes "$ReferentialConstraint", object_of ((codes "OrgID", string (codes "ID")) ∷ [])) ∷ (codes "$Type", string (codes "W.Org")) ∷ [])) ∷
+    (codes "OrgID", object_of ((codes "$Nullable", boolean true) ∷ [])) ∷
+    [])
 
 -- the three types and their sets
 abbrev pub sample_tree : Data
 sample_tree = object_of (
-  (codes "$EntityContainer", string (codes "W.C")) ∷
-  (codes "$Version", string (codes "4.01")) ∷
-  (codes "W", object_of ((codes "C", container_tree) ∷ (codes "Customer", customer_tree) ∷ (codes "Org", org_tree) ∷ (codes "Sale", sale_tree) ∷ [])) ∷
-  [])
+    (codes "$EntityContainer", string (codes "W.C")) ∷
+    (codes "$Version", string (codes "4.01")) ∷
+    (codes "W", object_of ((codes "C", container_tree) ∷ (codes "Customer", customer_tree) ∷ (codes "Org", org_tree) ∷ (codes "Sale", sale_tree) ∷ [])) ∷
+    [])

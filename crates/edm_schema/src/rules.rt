@@ -1,9 +1,8 @@
 //! The rules of an accepted model file, each a test.
-ghost use Rattle.std.specs.Prelude.{ℕ, ◌≡◌, ◌||◌, ◌&&◌, ◌==◌, ◌<◌, not, is_some, codes, map, length, count_by, unwrap_or, IfOk};
+ghost use Rattle.std.specs.Prelude.{ℕ, ◌≡◌, ◌||◌, ◌&&◌, ◌==◌, ◌<◌, not, is_some, codes, map, length, count_by, IfOk};
 ghost use Rattle.std.specs.List.{list_all, list_any, slice_split};
 ghost use Rattle.serde_json.specs.View.{view};
 ghost use Rattle.edm_values.specs.Literals.{is_point};
-ghost use Rattle.edm_values.specs.Lists as lists;
 ghost use Rattle.edm_values.specs.Lists.{is_some_and, places};
 ghost use Rattle.edm_values.specs.Names as names;
 ghost use Rattle.edm_schema.specs.JsonTrees.{members_in, passes_at, only_string, is_string};
@@ -340,28 +339,17 @@ fn has_names(schema: &Schema<'_>) -> bool
     are_types_named(schema) && are_sets_named(schema) && have_simple_parts(schema)
 }
 
-/// The place of the entity type of each set, or 0.
-fn set_types(alloc: Global, schema: &Schema<'_>) -> Result<Vec<usize>, AllocError>
+/// How many sets lead to each entity type.
+fn set_counts(alloc: Global, schema: &Schema<'_>) -> Result<Vec<usize>, AllocError>
     requires { IsSchema schema.now }
-    ensures { let d = root_of schema.now in IfOk result (λ v. v.items ≡ map (λ m. unwrap_or (spec.type_place d m.1) 0) (spec.set_members d)) }
+    ensures { let d = root_of schema.now in IfOk result (λ v. v.items ≡ map (λ k. count_by (λ m. spec.leads_to d k m.1) (spec.set_members d)) (places (length (spec.type_members d)))) }
 {
-    let mut types = Vec::new(alloc);
+    let mut counts = Vec::from_elem(alloc, 0, schema.types.len())?;
     for member in &schema.sets {
-        types.push(type_place(schema, member.value).unwrap_or(0))?;
-    }
-    Ok(types)
-}
-
-/// How often each of the first n places stands among these.
-fn counts_of(alloc: Global, places: &[usize], n: usize) -> Result<Vec<usize>, AllocError>
-    ensures { IfOk result (λ v. v.items ≡ map (λ k. count_by (λ place. place == k) places.now) (lists.places n)) }
-{
-    let mut counts = Vec::from_elem(alloc, 0, n)?;
-    for place in places {
-        if *place >= n {
+        let Some(place) = type_place(schema, member.value) else {
             continue;
-        }
-        counts[*place] += 1;
+        };
+        counts[place] += 1;
     }
     Ok(counts)
 }
@@ -389,8 +377,7 @@ fn has_one_set_each(alloc: Global, schema: &Schema<'_>) -> Result<bool, AllocErr
     if !are_entity_sets(schema) {
         return Ok(false);
     }
-    let types = set_types(alloc, schema)?;
-    let counts = counts_of(alloc, &types, schema.types.len())?;
+    let counts = set_counts(alloc, schema)?;
     Ok(are_ones(&counts))
 }
 
