@@ -12,8 +12,8 @@ ghost use Rattle.edm_schema.specs.MemberLists.{member_seen, type_seen, root_of, 
 use crate::Method;
 use crate::parts::{Definition, EntitySet, EntityType, Hierarchy, Navigation, Property, Texts};
 use edm_schema::{
-    Member, Schema, TypeTree, constraint, find_named, is_nullable, is_true_at, kind_of, method_at, text_at,
-    type_place,
+    Member, Schema, TypeTree, constraint, find_named, is_nullable, is_true_at, kind_of, method_at,
+    text_at, type_place,
 };
 use edm_values::{EdmType, Text};
 use serde_json::Value;
