@@ -11,7 +11,7 @@ use Rattle.edm_data.specs.Worlds.{World, Entity, all_places}
 use Rattle.edm_values.specs.Values.{is_null, same_value}
 use Rattle.edm_values.specs.Literals.{Literal, Written, integer_literal, integer_in_range, decimal_literal, decimal_in_range, day_literal}
 use Rattle.edm_model.specs.JsonTrees.{Member, json_of, items_in, members_in, is_object, is_array}
-use Rattle.edm_model.specs.ModelFile.{is_annotation}
+use Rattle.edm_model.specs.ModelTrees.{is_annotation}
 use Rattle.edm_model.specs.LookUps.{properties_of}
 use Rattle.edm_data.specs.References.{property, key, keys_of, navigations_in, referred}
 

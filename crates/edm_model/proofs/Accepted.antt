@@ -6,11 +6,12 @@ use Rattle.std.proofs.lemmas.Bool.{false≢true}
 use Rattle.serde_json.specs.Data.{Data, null}
 use Rattle.edm_values.specs.Lists.{places}
 use Rattle.edm_model.specs.LookUps.{IsType}
-use Rattle.edm_model.specs.JsonTrees.{Member}
-use Rattle.edm_model.specs.ModelFile.{is_model, model_of, is_type, type_tree, type_members, type_of}
-use Rattle.edm_model.proofs.Counted.{all_places_at}
-use Rattle.edm_model.proofs.Mapped.{length-mapped}
-use Rattle.edm_model.proofs.SetEach.{and_left, and_right}
+use Rattle.edm_schema.specs.JsonTrees.{Member}
+use Rattle.edm_schema.specs.ModelTrees.{is_model, is_type, type_tree, type_members}
+use Rattle.edm_model.specs.ModelFile.{model_of, type_of}
+use Rattle.edm_schema.proofs.Counted.{all_places_at}
+use Rattle.edm_schema.proofs.Mapped.{length-mapped}
+use Rattle.edm_schema.proofs.Passing.{and_left, and_right}
 
 -- the second of two, where the first is denied
 pub or_second : (a b : Bool) → (not a || b) ≡ true → a ≡ true → b ≡ true

@@ -8,7 +8,7 @@ use Rattle.edm_model.specs.Models.{EntityType, EntitySet}
 use Rattle.edm_model.specs.LookUps.{parts, list_at}
 use Rattle.edm_model.specs.IdLists.{HasIds, custom_entry}
 use Rattle.edm_model.specs.declared.parts.Ids.{Ids}
-use Rattle.edm_model.proofs.Counted.{mapped_place}
+use Rattle.edm_schema.proofs.Counted.{mapped_place}
 
 seen_at : {X Y : Type 0} (items : X → Y) (f : ℕ → Y) (xs : List X) (n t : ℕ) → map items xs ≡ map f (places n) → t < n → option_map items (slice_get xs t) ≡ Some (f t)
 seen_at items f xs n t same below = sym (slice_get-map items xs t) ∙ (ap (λ ys. slice_get ys t) same ∙ mapped_place f n t below)

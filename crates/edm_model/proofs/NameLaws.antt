@@ -17,16 +17,16 @@ use Rattle.edm_values.specs.Names.{Name, is_name}
 use Rattle.edm_values.proofs.SameTexts.{same_texts, text-self}
 use Rattle.edm_model.specs.Models.{Property, Navigation, Hierarchy, Custom, EntityType, EntitySet, Model, Part}
 use Rattle.edm_model.specs.LookUps.{type_at, properties_of, navigations_of, hierarchies_of_type, customs_of_type, property_at, navigation_on, hierarchy_on, custom_on, of_type_at, of_type, item_named}
-use Rattle.edm_model.specs.JsonTrees.{Member, members_in, is_text}
-use Rattle.edm_model.specs.ModelFile.{is_model, model_of, type_tree, type_members, set_members, type_of, set_of, property_of, navigation_of, hierarchy_of, custom_of, property_members, navigation_members, term_members, hierarchy_term, aggregate_term, definition_term, qualifier, is_of_term, is_own, is_property, is_navigation, is_definition, is_custom_name, is_simply_qualified, has_simple_parts, schema, container}
-use Rattle.edm_model.specs.Soundness.{InOrder, AreOrdered}
+use Rattle.edm_schema.specs.JsonTrees.{Member, members_in, is_text}
+use Rattle.edm_schema.specs.ModelTrees.{is_model, type_tree, type_members, set_members, property_members, navigation_members, term_members, hierarchy_term, aggregate_term, definition_term, qualifier, is_of_term, is_own, is_property, is_navigation, is_definition, is_custom_name, is_simply_qualified, has_simple_parts, schema, container}
+use Rattle.edm_model.specs.ModelFile.{model_of, type_of, set_of, property_of, navigation_of, hierarchy_of, custom_of}
+use Rattle.edm_schema.specs.NameOrders.{InOrder, AreOrdered}
 use Rattle.edm_model.proofs.Accepted.{or_second, tree_passes, in_types, type_passes}
 use Rattle.edm_model.proofs.FoundByName.{item_place}
-use Rattle.edm_model.proofs.Mapped.{map_mapped}
-use Rattle.edm_model.proofs.Ordered.{none_ordered, made_ordered, qualified_ordered}
-use Rattle.edm_model.proofs.Passing.{all_get, filter_get}
+use Rattle.edm_schema.proofs.Mapped.{map_mapped}
+use Rattle.edm_schema.proofs.Ordered.{none_ordered, made_ordered, qualified_ordered}
+use Rattle.edm_schema.proofs.Passing.{and_left, and_right, all_get, filter_get}
 use Rattle.edm_model.proofs.Places.{within_types}
-use Rattle.edm_model.proofs.SetEach.{and_left, and_right}
 use Rattle.edm_model.proofs.TreeParts.{properties_is, navigations_is, hierarchies_is, customs_is, property_here, navigation_here, hierarchy_here, custom_here, type_here, set_here}
 
 -- ---- names are simple identifiers

@@ -6,17 +6,10 @@ use Rattle.std.proofs.lemmas.List.Sums.{sum_by-cons}
 use Rattle.std.proofs.lemmas.Bool.Decides.{nat_tests}
 use Rattle.serde_json.specs.Data.{Data}
 use Rattle.edm_values.specs.Lists.{places, exactly_one, is_some_and}
-use Rattle.edm_model.specs.JsonTrees.{Member}
-use Rattle.edm_model.specs.ModelFile.{is_entity_set, leads_to, type_place, set_of}
-
--- the two parts of a conjunction
-pub and_left : (a b : Bool) → (a && b) ≡ true → a ≡ true
-and_left true b h = refl
-and_left false b h = h
-
-pub and_right : (a b : Bool) → (a && b) ≡ true → b ≡ true
-and_right true b h = h
-and_right false b h = cc
+use Rattle.edm_schema.specs.JsonTrees.{Member}
+use Rattle.edm_schema.specs.ModelTrees.{is_entity_set, leads_to, type_place}
+use Rattle.edm_schema.proofs.Passing.{and_left, and_right}
+use Rattle.edm_model.specs.ModelFile.{set_of}
 
 leads_same : (k : ℕ) (o : Option ℕ) → is_some o ≡ true → is_some_and (nat_eq k) o ≡ (unwrap_or o 0 == k)
 leads_same k None h = cc

@@ -5,9 +5,10 @@ use Rattle.std.proofs.lemmas.Option.{slice_get-map, slice_get_within}
 use Rattle.serde_json.specs.Data.{Data, null}
 use Rattle.edm_model.specs.Models.{Property, Navigation, Hierarchy, Custom, EntityType, EntitySet, Model, Part}
 use Rattle.edm_model.specs.LookUps.{properties_of, navigations_of, hierarchies_of_type, customs_of_type, property_at, navigation_on, hierarchy_on, custom_on, key_of, type_at, IsProperty}
-use Rattle.edm_model.specs.JsonTrees.{Member}
-use Rattle.edm_model.specs.ModelFile.{model_of, type_tree, type_members, set_members, type_of, property_of, navigation_of, hierarchy_of, custom_of, set_of, property_members, navigation_members, term_members, hierarchy_term, definition_term, key_name, member_place}
-use Rattle.edm_model.proofs.Passing.{some_map}
+use Rattle.edm_schema.specs.JsonTrees.{Member}
+use Rattle.edm_schema.specs.ModelTrees.{type_tree, type_members, set_members, property_members, navigation_members, term_members, hierarchy_term, definition_term, key_name, member_place}
+use Rattle.edm_model.specs.ModelFile.{model_of, type_of, property_of, navigation_of, hierarchy_of, custom_of, set_of}
+use Rattle.edm_schema.proofs.Passing.{some_map}
 use Rattle.edm_model.proofs.Places.{within_types}
 
 -- ---- the parts of the model of a tree, by the trees of its types

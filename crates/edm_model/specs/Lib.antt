@@ -2,10 +2,11 @@ pub use Rattle.edm_values.specs.Lists
 pub use Rattle.edm_values.specs.Literals
 pub use Rattle.edm_values.specs.Names
 pub use Rattle.edm_values.specs.Values
+pub use Rattle.edm_schema.specs.JsonTrees
+pub use Rattle.edm_schema.specs.ModelTrees
+pub use Rattle.edm_schema.specs.NameOrders
 pub mod IdLists
-pub mod JsonTrees
 pub mod LookUps
-pub mod MemberLists
 pub mod ModelFile
 pub mod Models
 pub mod SampleModel

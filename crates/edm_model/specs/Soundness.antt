@@ -1,25 +1,17 @@
 -- What holds of the model of every accepted file.
 use Rattle.std.specs.Prelude.{ℕ, ◌≡◌, ◌≢◌, ◌<◌, length, ◌&&◌, Bool, true, false, List, map, Some, option_map, option_and_then, nat_le, slice_get, IsTrue}
 use Rattle.std.specs.List.{All}
-use Rattle.std.specs.List.Sorted.{IsStrictlySortedBy}
-use Rattle.std.specs.Cmp.Lexicographic.{slice_cmp}
-use Rattle.std.specs.Ordering.{nat_cmp}
 use Rattle.edm_values.specs.declared.EdmType.{EdmType}
 use Rattle.edm_values.specs.Literals.{same_kind}
 use Rattle.edm_values.specs.Names.{Name, is_name}
 use Rattle.edm_values.specs.Lists.{places}
 use Rattle.edm_values.specs.Parts.{scale_max}
 use Rattle.edm_values.specs.Values.{precision_max}
-use Rattle.serde_json.specs.Data.{Data}
-use Rattle.edm_model.specs.JsonTrees.{members_in}
-use Rattle.edm_model.specs.ModelFile.{is_key_kind, schema, container, type_tree, type_members}
+use Rattle.edm_schema.specs.ModelTrees.{is_key_kind}
+use Rattle.edm_schema.specs.NameOrders.{AreOrdered}
 use Rattle.edm_model.specs.Models.{Property, Navigation, Hierarchy, Custom, EntityType, EntitySet, Model, Part}
 use Rattle.edm_model.specs.LookUps.{set_type, set_of_type, key_of, type_at, property_at, navigation_on, hierarchy_on, custom_on, properties_of, navigations_of, hierarchies_of_type, customs_of_type, parts, set_named, property_named, navigation_named, hierarchy_of_type_named, custom_named, IsSet, IsType, IsProperty, IsNavigation, IsHierarchy, IsCustom}
 use Rattle.edm_model.specs.IdLists.{hierarchy_parts, custom_list}
-
--- names in byte order, each once
-abbrev pub AreOrdered : List Name → Type 0
-AreOrdered = IsStrictlySortedBy (slice_cmp nat_cmp)
 
 -- a decimal has a scale from 0 to 9, at most its precision, which is from 1 to 18
 abbrev pub is_declared_kind : EdmType → Bool
@@ -74,9 +66,3 @@ pub record IsSound (m : Model) : Type 0 where
   pub navigations_there : (t : ℕ) → IsType m t → All (IsNavigation m) (parts t (length (navigations_of m t)))
   pub hierarchies_there : All (IsHierarchy m) (hierarchy_parts m)
   pub customs_there : All (λ c. IsCustom m c.id) (custom_list m)
-
--- a tree whose schema, container and entity types have their members in byte order of names
-pub record InOrder (d : Data) : Type 0 where
-  pub of_schema : AreOrdered (map (λ m. m.0) (members_in (schema d)))
-  pub of_container : AreOrdered (map (λ m. m.0) (members_in (container d)))
-  pub of_types : (t : ℕ) → t < length (type_members d) → AreOrdered (map (λ m. m.0) (members_in (type_tree d t)))

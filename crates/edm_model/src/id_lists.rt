@@ -10,7 +10,7 @@ use crate::parts::{Custom, Definition, EntitySet, EntityType, Texts};
 use std::alloc::{AllocError, Global};
 
 /// The first n sets.
-#[tactic(auto, using(crate::proofs::Counted::places_more))]
+#[tactic(auto, using(edm_schema::proofs::Counted::places_more))]
 pub(crate) fn set_ids(alloc: Global, n: usize) -> Result<Vec<SetId>, AllocError>
     ensures { IfOk result (λ v. v.items ≡ places n) }
 {
@@ -45,7 +45,7 @@ fn set_of(sets: &[EntitySet], t: usize) -> SetId
 }
 
 /// The set of each of the first n types.
-#[tactic(auto, using(crate::proofs::Counted::places_more))]
+#[tactic(auto, using(edm_schema::proofs::Counted::places_more))]
 pub(crate) fn type_sets(
     alloc: Global,
     sets: &[EntitySet],
@@ -61,7 +61,7 @@ pub(crate) fn type_sets(
 }
 
 /// The first n properties of a type.
-#[tactic(auto, using(crate::proofs::Counted::places_more))]
+#[tactic(auto, using(edm_schema::proofs::Counted::places_more))]
 fn prop_ids(alloc: Global, of: usize, n: usize) -> Result<Vec<PropId>, AllocError>
     ensures { IfOk result (λ v. v.items ≡ parts of n) }
 {
@@ -73,7 +73,7 @@ fn prop_ids(alloc: Global, of: usize, n: usize) -> Result<Vec<PropId>, AllocErro
 }
 
 /// The first n navigation properties of a type.
-#[tactic(auto, using(crate::proofs::Counted::places_more))]
+#[tactic(auto, using(edm_schema::proofs::Counted::places_more))]
 fn nav_ids(alloc: Global, of: usize, n: usize) -> Result<Vec<NavId>, AllocError>
     ensures { IfOk result (λ v. v.items ≡ parts of n) }
 {
@@ -121,7 +121,7 @@ fn definitions(types: &[EntityType], t: usize) -> &[Definition]
 }
 
 /// The properties of each type.
-#[tactic(auto, using(crate::proofs::Counted::places_more))]
+#[tactic(auto, using(edm_schema::proofs::Counted::places_more))]
 pub(crate) fn all_prop_ids(
     alloc: Global,
     types: &[EntityType],
@@ -136,7 +136,7 @@ pub(crate) fn all_prop_ids(
 }
 
 /// The navigation properties of each type.
-#[tactic(auto, using(crate::proofs::Counted::places_more))]
+#[tactic(auto, using(edm_schema::proofs::Counted::places_more))]
 pub(crate) fn all_nav_ids(
     alloc: Global,
     types: &[EntityType],
@@ -151,7 +151,7 @@ pub(crate) fn all_nav_ids(
 }
 
 /// Adds the first n hierarchies of a type.
-#[tactic(auto, using(crate::proofs::Counted::places_more))]
+#[tactic(auto, using(edm_schema::proofs::Counted::places_more))]
 fn add_hier_ids(ids: &mut Vec<HierId>, of: usize, n: usize) -> Result<(), AllocError>
     ensures { OnOk result (ids.new.items ≡ ids.old.items ++ parts of n) }
 {
@@ -162,7 +162,7 @@ fn add_hier_ids(ids: &mut Vec<HierId>, of: usize, n: usize) -> Result<(), AllocE
 }
 
 /// The hierarchies of all types.
-#[tactic(auto, using(crate::proofs::Counted::flat_places_more))]
+#[tactic(auto, using(edm_schema::proofs::Counted::flat_places_more))]
 pub(crate) fn all_hier_ids(alloc: Global, types: &[EntityType]) -> Result<Vec<HierId>, AllocError>
     ensures { IfOk result (λ v. v.items ≡ flat_map (λ t. parts t (length (list_at (λ e. e.hierarchies) types.now t))) (places (length types.now))) }
 {
@@ -224,7 +224,7 @@ fn add_customs(
 }
 
 /// The custom aggregates of all types.
-#[tactic(auto, using(crate::proofs::Counted::flat_places_more))]
+#[tactic(auto, using(edm_schema::proofs::Counted::flat_places_more))]
 pub(crate) fn all_customs(alloc: Global, types: &[EntityType]) -> Result<Vec<Custom>, AllocError>
     ensures { IfOk result (λ v. v.items ≡ flat_map (λ t. map (custom_entry t) (enumerate_from 0 (list_at (λ e. e.customs) types.now t))) (places (length types.now))) }
 {

@@ -4,15 +4,16 @@ ghost use Rattle.std.specs.List.{All};
 ghost use Rattle.edm_values.specs.Lists.{places};
 ghost use Rattle.edm_model.specs.LookUps.{parts, type_at, property_at, navigation_on, hierarchy_on, properties_of, navigations_of, IsSet, IsType, IsProperty, IsNavigation, IsHierarchy, IsCustom, found_part, property_named, navigation_named, hierarchy_of_type_named, custom_named, hierarchies_of_type, customs_of_type, dependent_of, partner_of, parent_of};
 ghost use Rattle.edm_model.specs.LookUps as find;
-ghost use Rattle.edm_model.specs.Soundness.{AreOrdered, IsSound, IsReference};
+ghost use Rattle.edm_model.specs.Soundness.{IsSound, IsReference};
+ghost use Rattle.edm_schema.specs.NameOrders.{AreOrdered};
 ghost use Rattle.edm_model.specs.IdLists.{hierarchy_parts, custom_list, HasIds};
 
 use crate::id_lists::{all_customs, all_hier_ids, all_nav_ids, all_prop_ids, set_ids, type_sets};
 use crate::ids::{CustomId, HierId, NavId, PropId, SetId, TypeId};
-use crate::named::find_named;
 use crate::parts::{
     Custom, Definition, EntitySet, EntityType, Hierarchy, Ids, Navigation, Property,
 };
+use edm_schema::find_named;
 use edm_values::EdmType;
 use std::alloc::{AllocError, Global};
 

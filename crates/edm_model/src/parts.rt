@@ -2,7 +2,7 @@
 
 use crate::Method;
 use crate::ids::{CustomId, HierId, NavId, PropId, SetId, TypeId};
-use crate::named::Named;
+use edm_schema::Named;
 use edm_values::{EdmType, Text};
 use std::marker::Model;
 

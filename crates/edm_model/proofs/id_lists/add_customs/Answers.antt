@@ -2,7 +2,7 @@ use Rattle.std.proofs.Common.{[], ◌∷◌, ◌++◌, map, take, ◌∙◌, ap,
 use Rattle.std.specs.List.{enumerate_from}
 use Rattle.std.proofs.lemmas.List.{map-append}
 use Rattle.edm_model.specs.IdLists.{custom_entry}
-use Rattle.edm_model.proofs.Counted.{enumerate_more}
+use Rattle.edm_schema.proofs.Counted.{enumerate_more}
 use Rattle.edm_model.proofs.id_lists.add_customs.Goals as goal
 
 pub loop-at-preserved : goal.loop-at-preserved

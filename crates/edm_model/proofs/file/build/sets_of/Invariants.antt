@@ -1,8 +1,0 @@
-use Rattle.std.proofs.Common.{◌≡◌, map, take}
-use Rattle.edm_model.specs.ModelFile.{set_of}
-use Rattle.edm_model.specs.MemberLists.{member_seen, tree_of, root_of, type_seen}
-use Rattle.edm_model.specs.declared.file.members.Member.{Member}
-use Rattle.edm_model.proofs.file.build.sets_of.Given as goal
-
-abbrev pub invariant-loop-member : goal.invariant-loop-member
-invariant-loop-member l = l.sets.items ≡ map (λ (m : Member). set_of (root_of l.schema) (member_seen m)) (take l.member-index l.schema.sets.items)

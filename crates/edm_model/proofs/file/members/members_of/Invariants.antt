@@ -1,9 +1,0 @@
-use Rattle.std.proofs.Common.{◌≡◌, map, ◌++◌}
-use Rattle.serde_json.specs.View.{view, members_view}
-use Rattle.edm_model.specs.JsonTrees.{member_list, members_in}
-use Rattle.edm_model.specs.MemberLists.{member_seen}
-use Rattle.edm_model.proofs.file.members.members_of.Given as goal
-
-abbrev pub invariant-loop-name : goal.invariant-loop-name
-invariant-loop-name l =
-    map member_seen l.found.items ++ member_list (members_view l.name-iterator) ≡ members_in (view l.value)

@@ -1,0 +1,14 @@
+pub mod Counted
+pub mod Items
+pub mod Mapped
+pub mod MemberNames
+pub mod NameSearch
+pub mod Ordered
+pub mod Passing
+pub mod Points
+pub mod QualifiedNames
+pub mod RuleFacts
+pub mod RuleRows
+pub mod SampleTree
+pub mod SchemaParts
+pub mod SetCounts

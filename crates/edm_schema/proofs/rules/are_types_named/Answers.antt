@@ -1,0 +1,15 @@
+use Rattle.std.proofs.Common.{◌∙◌, rules, tests}
+use Rattle.std.proofs.lemmas.Iterator.{YieldsList-from_slice}
+use Rattle.std.proofs.lemmas.Iterator.Search.{all_from_yields_List}
+use Rattle.edm_schema.specs.JsonTrees as tree
+use Rattle.edm_schema.specs.declared.schema.TypeTree.{TypeTree}
+use Rattle.edm_schema.specs.MemberLists.{type_seen, root_of}
+use Rattle.edm_schema.proofs.RuleFacts.{all_types_pass}
+use Rattle.edm_values.specs.Names.{is_name}
+use Rattle.edm_schema.proofs.rules.are_types_named.Goals as goal
+
+pub returns : goal.returns
+returns c =
+    let passes = λ (m : tree.Member). is_name m.0 in
+    all_from_yields_List (λ (m : TypeTree). passes (type_seen m)) _ _ c.all.result c.all.ensures.ran (YieldsList-from_slice c.args.schema.now.types.items (cc)) (λ x b q k. search (rules, tests))
+    ∙ all_types_pass passes c.args.schema.now.types.items _ c.requires.types

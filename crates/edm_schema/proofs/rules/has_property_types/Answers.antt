@@ -1,0 +1,15 @@
+use Rattle.std.proofs.Common.{◌∙◌, rules, tests}
+use Rattle.std.proofs.lemmas.Iterator.{YieldsList-from_slice}
+use Rattle.std.proofs.lemmas.Iterator.Search.{all_from_yields_List}
+use Rattle.edm_schema.specs.declared.members.Member.{Member}
+use Rattle.edm_schema.specs.MemberLists.{member_seen, tree_of, root_of}
+use Rattle.edm_schema.specs.JsonTrees as tree
+use Rattle.edm_schema.specs.ModelTrees.{has_property_type}
+use Rattle.edm_schema.proofs.RuleFacts.{all_seen_pass}
+use Rattle.edm_schema.proofs.rules.has_property_types.Goals as goal
+
+pub returns : goal.returns
+returns c =
+    let passes = λ (m : tree.Member). has_property_type m.1 in
+    all_from_yields_List (λ (m : Member). passes (member_seen m)) _ _ c.all.result c.all.ensures.ran (YieldsList-from_slice c.args.t.now.properties.items (cc)) (λ x b q k. search (rules, tests))
+    ∙ all_seen_pass passes c.args.t.now.properties.items _ c.requires.properties

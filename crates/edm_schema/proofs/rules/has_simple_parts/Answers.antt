@@ -1,0 +1,18 @@
+use Rattle.std.proofs.Common.{◌∙◌, rules, tests}
+use Rattle.std.proofs.lemmas.Iterator.{YieldsList-from_slice}
+use Rattle.std.proofs.lemmas.Iterator.Search.{all_from_yields_List}
+use Rattle.edm_schema.specs.declared.members.Member.{Member}
+use Rattle.edm_schema.specs.MemberLists.{member_seen, tree_of, root_of}
+use Rattle.edm_schema.specs.JsonTrees as tree
+use Rattle.std.proofs.Common.{not}
+use Rattle.std.specs.Prelude.{◌||◌, ◌&&◌}
+use Rattle.edm_values.specs.Names.{is_name}
+use Rattle.edm_schema.specs.ModelTrees.{is_own, is_simply_qualified, hierarchy_term, aggregate_term, definition_term}
+use Rattle.edm_schema.proofs.RuleFacts.{all_seen_pass}
+use Rattle.edm_schema.proofs.rules.has_simple_parts.Goals as goal
+
+pub returns : goal.returns
+returns c =
+    let passes = λ (m : tree.Member). (not (is_own m.0) || is_name m.0) && is_simply_qualified hierarchy_term m.0 && is_simply_qualified aggregate_term m.0 && is_simply_qualified definition_term m.0 in
+    all_from_yields_List (λ (m : Member). passes (member_seen m)) _ _ c.all.result c.all.ensures.ran (YieldsList-from_slice c.args.t.now.members.items (cc)) (λ x b q k. search (rules, tests))
+    ∙ all_seen_pass passes c.args.t.now.members.items _ c.requires.members

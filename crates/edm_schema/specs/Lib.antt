@@ -1,0 +1,9 @@
+pub use Rattle.edm_values.specs.Lists
+pub use Rattle.edm_values.specs.Literals
+pub use Rattle.edm_values.specs.Names
+pub use Rattle.edm_values.specs.Parts
+pub use Rattle.edm_values.specs.Values
+pub mod JsonTrees
+pub mod MemberLists
+pub mod ModelTrees
+pub mod NameOrders
