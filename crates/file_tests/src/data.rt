@@ -74,7 +74,11 @@ fn expect_found(rt: &impl Abort, store: &Data) {
         ("Orgs", Seen::Null, None),
     ];
     for (set, key, place) in rows {
-        assert_eq!(rt; place_of(store, set, key), place, "the key {key:?} in {set}");
+        assert_eq!(rt;
+            place_of(store, set, key),
+            place,
+            "the key {key:?} in {set}"
+        );
     }
 }
 
@@ -91,7 +95,11 @@ fn expect_followed(rt: &impl Abort, store: &Data) {
         ("Sales", 6, 0, None),
     ];
     for (set, k, n, place) in rows {
-        assert_eq!(rt; followed(store, set, k, n), place, "from {k} of {set} by {n}");
+        assert_eq!(rt;
+            followed(store, set, k, n),
+            place,
+            "from {k} of {set} by {n}"
+        );
     }
 }
 

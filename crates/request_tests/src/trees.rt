@@ -1,7 +1,5 @@
 //! Trees that are made by hand, names, and the laws on texts.
-use apply_ast::{
-    BinOp, Expr, Name, Path, Pipe, Step, print, printed_is_text, texts_are_writable,
-};
+use apply_ast::{BinOp, Expr, Name, Path, Pipe, Step, print, printed_is_text, texts_are_writable};
 use std::alloc::{AllocError, Global};
 
 type Made<T> = Result<T, AllocError>;
