@@ -11,7 +11,7 @@ use Rattle.edm_values.specs.Lists.{is_some_and}
 use Rattle.edm_model.specs.Models.{Navigation, Part}
 use Rattle.edm_model.specs.LookUps.{navigation_at, navigation_on, dependent_of, set_of_type, set_type, IsSet}
 use Rattle.edm_data.specs.Worlds.{World, Entity, entity_at}
-use Rattle.edm_data.specs.References.{count, entities_of, property, referred, follow, navigations_in}
+use Rattle.edm_data.specs.References.{count, entities_of, referred, follow, navigations_in}
 use Rattle.edm_data.specs.DataFile.{dangles, is_dangling}
 use Rattle.edm_data.specs.LinkLists.{LinkList, link_in}
 use Rattle.edm_data.specs.Links.{reached, misses, KeptRelation, IsRelation, IsFirstOf, IsLeast, earlier, nav_dangles, NavRelations, relation_in, pair_in, pair_of, AreRelations, IsOfNav, HasRelations, followed}

@@ -24,12 +24,12 @@ pub loop-set-preserved : goal.loop-set-preserved
 loop-set-preserved c =
     let sets = c.sets-set-items.ensures.value ∙ ap (λ m. places (length m.sets)) c.model.ensures.value in
     let set = place_is c.sets-set-items.result.now (length c.args.tables.now.model.sets) c.loop-set.set-index c.set-item.result sets c.loop-set-test.true c.set-item.is in
-    let grown = c.in-Ok-push.ensures.len in
+    let grown = c.in_ok-push-in-Ok.ensures.len in
     let so_far = c.loop-set.invariant.len in
     let size : length c.loop-set.orders.items ≡ c.loop-set.set-index = omega (arith, c.loop-set.orders.ok.0) in
     record {
       len = grown ∙ ap (λ n. n + 1) so_far;
-      orders = orders-more c.args.tables.now c.loop-set.orders c.push.new.self c.in-Ok.order c.loop-set.set-index c.in-Ok-push.ensures.items size c.loop-set.invariant.orders (rw set at c.in-Ok.ensures.ok);
+      orders = orders-more c.args.tables.now c.loop-set.orders c.push.new.self c.in-Ok.order c.loop-set.set-index c.in_ok-push-in-Ok.ensures.items size c.loop-set.invariant.orders (rw set at c.in-Ok.ensures.ok);
       distinct = below_more (λ s. AreDistinct value_cmp (keys_of c.args.tables.now s)) c.loop-set.set-index c.loop-set.invariant.distinct (rw set at c.in-Ok.ensures.distinct);
     }
 

@@ -32,7 +32,7 @@ loop-set-preserved c =
     let here = subst (λ s. option_map (items_of_set m d) (slice_get m.sets s) ≡ Some (rows_read c.in-Ok.rows)) set c.in-Ok.ensures.ok in
     let at : slice_get (items_of_sets m d) i ≡ Some (rows_read c.in-Ok.rows) = slice_get-map (items_of_set m d) m.sets i ∙ here in
     record {
-      read = tables-more m d i c.loop-set.sets.items c.push.new.self.items c.in-Ok.rows c.in-Ok-push.ensures.items here c.loop-set.invariant.read;
+      read = tables-more m d i c.loop-set.sets.items c.push.new.self.items c.in-Ok.rows c.in_ok-push-in-Ok.ensures.items here c.loop-set.invariant.read;
       few = below_more (λ s. size_at (items_of_sets m d) s < 2 ^ 32) i c.loop-set.invariant.few (few_here (items_of_sets m d) i c.in-Ok.rows at c.in-Ok.ensures.few);
       entities = below_more (AreEntities (items_of_sets m d)) i c.loop-set.invariant.entities (entities_of_rows (items_of_sets m d) i c.in-Ok.rows at);
     }

@@ -30,8 +30,8 @@ loop-set-preserved c =
     let so_far = c.loop-set.invariant.len in
     let size : length c.loop-set.sets.items ≡ c.loop-set.set-index = omega (arith, c.loop-set.sets.ok.0) in
     record {
-      len = c.in-Ok-push.ensures.len ∙ ap (λ n. n + 1) so_far;
-      each = each-more (λ s o. HasRelations w s (unwrap_or o [])) c.loop-set.sets.items c.push.new.self.items c.in-Ok.relations c.loop-set.set-index c.in-Ok-push.ensures.items size (subst (λ s. HasRelations w s c.in-Ok.relations) set c.in-Ok.ensures.ok) c.loop-set.invariant.each;
+      len = c.in_ok-push-in-Ok.ensures.len ∙ ap (λ n. n + 1) so_far;
+      each = each-more (λ s o. HasRelations w s (unwrap_or o [])) c.loop-set.sets.items c.push.new.self.items c.in-Ok.relations c.loop-set.set-index c.in_ok-push-in-Ok.ensures.items size (subst (λ s. HasRelations w s c.in-Ok.relations) set c.in-Ok.ensures.ok) c.loop-set.invariant.each;
       sound = below_more (AreSound w) c.loop-set.set-index c.loop-set.invariant.sound (subst (AreSound w) set c.in-Ok.ensures.sound);
     }
 

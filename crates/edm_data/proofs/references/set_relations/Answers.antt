@@ -36,17 +36,17 @@ loop-n-preserved c =
     let new = c.add_relation.new.relations in
     let nav = subst (λ w. IsNavAt w.model s i c.n-item.result) c.tables.ensures.value (nav_item c.tables.result.now.model s c.navs-n-items.result.now i c.n-item.result c.navs-n-items.ensures.there c.navs-n-items.ensures.value c.loop-n-test.true c.n-item.is) in
     let at : c.n-item.result.at ≡ i = nav.at in
-    let here : IsLeast (nav_dangles w s i) (count w s) c.in-Ok.found = subst (λ n. IsLeast (nav_dangles w s n) (count w s) c.in-Ok.found) at c.in-Ok.ensures.first in
-    let both : IsLeast (any_dangles w s (i + 1)) (count w s) c.earlier-first.result = subst (IsLeast (any_dangles w s (i + 1)) (count w s)) (sym c.earlier-first.ensures) (least-same (λ k. any_dangles w s i k || nav_dangles w s i k) (any_dangles w s (i + 1)) (count w s) _ (any_dangles-more w s i) (least-or (any_dangles w s i) (nav_dangles w s i) (count w s) c.loop-n.first c.in-Ok.found c.loop-n.invariant.least here)) in
+    let here : IsLeast (nav_dangles w s i) (count w s) c.in_ok-found.found = subst (λ n. IsLeast (nav_dangles w s n) (count w s) c.in_ok-found.found) at c.in_ok-found.ensures.first in
+    let both : IsLeast (any_dangles w s (i + 1)) (count w s) c.earlier-first.result = subst (IsLeast (any_dangles w s (i + 1)) (count w s)) (sym c.earlier-first.ensures) (least-same (λ k. any_dangles w s i k || nav_dangles w s i k) (any_dangles w s (i + 1)) (count w s) _ (any_dangles-more w s i) (least-or (any_dangles w s i) (nav_dangles w s i) (count w s) c.loop-n.first c.in_ok-found.found c.loop-n.invariant.least here)) in
     record {
-      kept = c.in-Ok.ensures.kept;
+      kept = c.in_ok-found.ensures.kept;
       len = λ h.
-          let none = earlier-None c.loop-n.first c.in-Ok.found (sym c.earlier-first.ensures ∙ h) in
-          from_none c.in-Ok.found (length new ≡ length old + 1) none.1 c.in-Ok.ensures.len ∙ ap (λ n. n + 1) (c.loop-n.invariant.len none.0);
+          let none = earlier-None c.loop-n.first c.in_ok-found.found (sym c.earlier-first.ensures ∙ h) in
+          from_none c.in_ok-found.found (length new ≡ length old + 1) none.1 c.in_ok-found.ensures.len ∙ ap (λ n. n + 1) (c.loop-n.invariant.len none.0);
       of = λ h.
-          let none = earlier-None c.loop-n.first c.in-Ok.found (sym c.earlier-first.ensures ∙ h) in
-          let last : IsOfNav w.model s c.n-item.result.at (relation_in new (length old)) = from_none c.in-Ok.found (IsOfNav w.model s c.n-item.result.at (relation_in new (length old))) none.1 c.in-Ok.ensures.last in
-          of-more w s i old new (c.loop-n.invariant.len none.0) c.in-Ok.ensures.before (subst (λ n. IsOfNav w.model s n (relation_in new (length old))) at last) (c.loop-n.invariant.of none.0);
+          let none = earlier-None c.loop-n.first c.in_ok-found.found (sym c.earlier-first.ensures ∙ h) in
+          let last : IsOfNav w.model s c.n-item.result.at (relation_in new (length old)) = from_none c.in_ok-found.found (IsOfNav w.model s c.n-item.result.at (relation_in new (length old))) none.1 c.in_ok-found.ensures.last in
+          of-more w s i old new (c.loop-n.invariant.len none.0) c.in_ok-found.ensures.before (subst (λ n. IsOfNav w.model s n (relation_in new (length old))) at last) (c.loop-n.invariant.of none.0);
       least = both;
     }
 

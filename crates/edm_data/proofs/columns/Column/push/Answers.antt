@@ -1,4 +1,4 @@
-use Rattle.std.proofs.Common.{◌≡◌, ◌+◌, ◌∷◌, [], ◌++◌, length, sym, ap, ◌∙◌, arith, length-append}
+use Rattle.std.proofs.Common.{◌≡◌, ◌∷◌, [], ◌++◌, length, sym, ap, ◌∙◌, arith, length-append}
 use Rattle.edm_values.specs.declared.Value.{Value}
 use Rattle.edm_values.specs.Values.{seen_value}
 use Rattle.edm_data.proofs.ColumnLemmas.{AreBelow-push, column-more, column-null, length-column}
