@@ -42,10 +42,8 @@ impl Data {
         ensures sound { OnOk result (references_reading keyed ≡ World' keyed) }
         ensures refused { IfErr result (λ refused. Tells refused (references_reading keyed)) }
     {
-        match all_relations(alloc, &keyed) {
-            Ok(relations) => Ok(Data { keyed, relations }),
-            Err(refused) => Err(refused),
-        }
+        let relations = all_relations(alloc, &keyed)?;
+        Ok(Data { keyed, relations })
     }
 
     /// The model.

@@ -25,6 +25,16 @@ pub(crate) enum RowsRefused {
     Memory,
 }
 
+impl From<AllocError> for RowsRefused {
+    ghost use Rattle.edm_data.specs.declared.entities.RowsRefused.TheVariants.{Memory};
+
+    ghost from_gives = { λ _ e. e ≡ Memory };
+
+    fn from(_: AllocError) -> RowsRefused {
+        RowsRefused::Memory
+    }
+}
+
 /// The value that an entity gives a property, where it is one of the property; an absent member counts as null.
 fn property_value<'a>(
     alloc: Global,
@@ -137,20 +147,12 @@ pub(crate) fn set_rows(
     ensures ok { IfOk result (λ rows. rows_read rows ≡ map (λ x. file.entity_of (properties_of model.now t) (view x)) items.now) }
     ensures shape { (k : ℕ) → result ≡ Err (RowsRefused.Shape k) → IsFirstNone (map (λ x. file.entity_of (properties_of model.now t) (view x)) items.now) k }
 {
-    let Ok(mut rows) = empty_table(alloc, model, t) else {
-        return Err(RowsRefused::Memory);
-    };
+    let mut rows = empty_table(alloc, model, t)?;
     for (k, item) in items.iter().enumerate() {
-        let Ok(found) = entity(alloc, model, t, item) else {
-            return Err(RowsRefused::Memory);
-        };
-        let Some(values) = found else {
+        let Some(values) = entity(alloc, model, t, item)? else {
             return Err(RowsRefused::Shape(k as u32));
         };
-        rows = match rows.push(alloc, values.as_slice()) {
-            Ok(rows) => rows,
-            Err(_) => return Err(RowsRefused::Memory),
-        };
+        rows = rows.push(alloc, values.as_slice())?;
     }
     Ok(rows)
 }
