@@ -4,7 +4,6 @@ use Rattle.std.specs.Prelude.{Option, option_map, slice_get, find, position}
 use Rattle.std.specs.List.{position_from}
 use Rattle.std.proofs.lemmas.Iterator.Adapters.{position_from-zero}
 use Rattle.std.proofs.lemmas.Option.{none-some, same_Some, slice_get-map, slice_get-get_or}
-use Rattle.serde_json.specs.Data.{Data}
 use Rattle.serde_json.specs.View.{view}
 use Rattle.edm_values.specs.Lists.{same_text}
 use Rattle.edm_schema.specs.JsonTrees as tree

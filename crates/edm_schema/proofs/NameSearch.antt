@@ -1,10 +1,10 @@
 -- What a binary search among names in byte order finds.
-use Rattle.std.proofs.Common.{◌≡◌, ℕ, ◌+◌, ◌<◌, ◌≤◌, Bool, true, false, not, cond, List, [], ◌∷◌, ◌⊎◌, inl, inr, length, map, get_or, Some, None, Ok, Err, Result, sym, ◌∙◌, ap, subst, arith, ⊎_elim, refl}
-use Rattle.std.specs.Prelude.{position, nat_lt, Option}
+use Rattle.std.proofs.Common.{◌≡◌, ℕ, ◌<◌, ◌≤◌, Bool, true, false, not, cond, List, [], ◌∷◌, ◌⊎◌, inl, inr, length, map, get_or, Some, None, Ok, Err, Result, sym, ◌∙◌, ap, subst, arith, ⊎_elim, refl}
+use Rattle.std.specs.Prelude.{position, nat_lt}
 use Rattle.std.specs.List.{prefix_len}
 use Rattle.std.specs.List.Sorted.{IsBinarySearchResult, IsNonDecreasingBy, IsSearchInRange}
 use Rattle.std.specs.Cmp.Lexicographic.{slice_cmp}
-use Rattle.std.specs.Ordering.{nat_cmp, is_eq, ordering_reverse, ordering_index}
+use Rattle.std.specs.Ordering.{nat_cmp, is_eq, ordering_index}
 use Rattle.std.specs.Result.{result_ok}
 use Rattle.std.specs.declared.cmp.Ordering.{Ordering}
 use Rattle.std.specs.declared.cmp.Ordering.TheVariants.{Less, Equal, Greater}

@@ -1,6 +1,6 @@
 -- The sample model as a JSON tree, and edits of trees.
-use Rattle.std.proofs.Common.{ℕ, true, false, not, List, [], ◌∷◌, codes, nat_eq}
-use Rattle.std.specs.Prelude.{Bool, ◌&&◌, if◌then◌else◌, filter, unwrap_or}
+use Rattle.std.proofs.Common.{ℕ, true, not, List, [], ◌∷◌, codes, nat_eq}
+use Rattle.std.specs.Prelude.{if◌then◌else◌, filter, unwrap_or}
 use Rattle.std.specs.List.{slice_split}
 use Rattle.std.specs.Cmp.Lexicographic.{slice_cmp}
 use Rattle.std.specs.Ordering.{nat_cmp, is_lt}

@@ -1,4 +1,4 @@
-use Rattle.std.proofs.Common.{◌≡◌, ℕ, Bool, true, false, List, [], ◌∷◌, length, drop, sym, ◌∙◌, ap, nat_eq}
+use Rattle.std.proofs.Common.{◌≡◌, true, false, [], ◌∷◌, length, drop, sym, ◌∙◌, ap, nat_eq}
 use Rattle.std.specs.Prelude.{◌&&◌, position}
 use Rattle.std.specs.List.{starts_with}
 use Rattle.serde_json.specs.View.{view}

@@ -1,5 +1,4 @@
-use Rattle.std.proofs.Common.{◌≡◌, Bool, true, false, not, List, ℕ, length, drop, Some, None, refl, sym, ◌∙◌, ap, nat_eq}
-use Rattle.std.specs.Prelude.{◌&&◌, if◌then◌else◌}
+use Rattle.std.proofs.Common.{◌≡◌, false, length, drop, Some, refl, sym, ◌∙◌, ap, nat_eq}
 use Rattle.std.specs.List.{starts_with}
 use Rattle.edm_schema.specs.ModelTrees.{is_annotation}
 use Rattle.edm_schema.proofs.QualifiedNames.{none_chosen, some_chosen}

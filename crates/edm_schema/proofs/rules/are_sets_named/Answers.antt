@@ -3,7 +3,7 @@ use Rattle.std.proofs.lemmas.Iterator.{YieldsList-from_slice}
 use Rattle.std.proofs.lemmas.Iterator.Search.{all_from_yields_List}
 use Rattle.edm_schema.specs.JsonTrees as tree
 use Rattle.edm_schema.specs.declared.members.Member.{Member}
-use Rattle.edm_schema.specs.MemberLists.{member_seen, root_of}
+use Rattle.edm_schema.specs.MemberLists.{member_seen}
 use Rattle.edm_schema.proofs.RuleFacts.{all_seen_pass}
 use Rattle.edm_values.specs.Names.{is_name}
 use Rattle.edm_schema.proofs.rules.are_sets_named.Goals as goal

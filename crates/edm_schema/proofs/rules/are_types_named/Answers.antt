@@ -3,7 +3,7 @@ use Rattle.std.proofs.lemmas.Iterator.{YieldsList-from_slice}
 use Rattle.std.proofs.lemmas.Iterator.Search.{all_from_yields_List}
 use Rattle.edm_schema.specs.JsonTrees as tree
 use Rattle.edm_schema.specs.declared.schema.TypeTree.{TypeTree}
-use Rattle.edm_schema.specs.MemberLists.{type_seen, root_of}
+use Rattle.edm_schema.specs.MemberLists.{type_seen}
 use Rattle.edm_schema.proofs.RuleFacts.{all_types_pass}
 use Rattle.edm_values.specs.Names.{is_name}
 use Rattle.edm_schema.proofs.rules.are_types_named.Goals as goal

@@ -2,7 +2,7 @@ use Rattle.std.proofs.Common.{◌∙◌, rules, tests}
 use Rattle.std.proofs.lemmas.Iterator.{YieldsList-from_slice}
 use Rattle.std.proofs.lemmas.Iterator.Search.{all_from_yields_List}
 use Rattle.edm_schema.specs.declared.members.Member.{Member}
-use Rattle.edm_schema.specs.MemberLists.{member_seen, tree_of, root_of}
+use Rattle.edm_schema.specs.MemberLists.{member_seen}
 use Rattle.edm_schema.specs.JsonTrees as tree
 use Rattle.edm_schema.specs.ModelTrees.{has_property_type}
 use Rattle.edm_schema.proofs.RuleFacts.{all_seen_pass}

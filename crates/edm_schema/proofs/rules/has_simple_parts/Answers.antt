@@ -2,7 +2,7 @@ use Rattle.std.proofs.Common.{◌∙◌, rules, tests}
 use Rattle.std.proofs.lemmas.Iterator.{YieldsList-from_slice}
 use Rattle.std.proofs.lemmas.Iterator.Search.{all_from_yields_List}
 use Rattle.edm_schema.specs.declared.members.Member.{Member}
-use Rattle.edm_schema.specs.MemberLists.{member_seen, tree_of, root_of}
+use Rattle.edm_schema.specs.MemberLists.{member_seen}
 use Rattle.edm_schema.specs.JsonTrees as tree
 use Rattle.std.proofs.Common.{not}
 use Rattle.std.specs.Prelude.{◌||◌, ◌&&◌}

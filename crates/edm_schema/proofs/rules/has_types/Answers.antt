@@ -1,6 +1,6 @@
 use Rattle.std.proofs.Common.{◌≡◌, true, false, length, refl, sym, ◌∙◌, ap, subst, arith, rules}
 use Rattle.edm_schema.specs.ModelTrees.{is_type, type_tree, type_members}
-use Rattle.edm_schema.specs.MemberLists.{root_of, tree_of, type_seen, IsTypeTree}
+use Rattle.edm_schema.specs.MemberLists.{root_of, type_seen, IsTypeTree}
 use Rattle.edm_schema.proofs.Counted.{all_places_at, all_places_more}
 use Rattle.edm_schema.proofs.Mapped.{length-mapped}
 use Rattle.edm_schema.proofs.SchemaParts.{tree_at}
