@@ -18,7 +18,7 @@ use Rattle.edm_values.proofs.SameTexts.{same_texts, text-self}
 use Rattle.edm_model.specs.Models.{Property, Navigation, Hierarchy, Custom, EntityType, EntitySet, Model, Part}
 use Rattle.edm_model.specs.LookUps.{type_at, properties_of, navigations_of, hierarchies_of_type, customs_of_type, property_at, navigation_on, hierarchy_on, custom_on, of_type_at, of_type, item_named}
 use Rattle.edm_schema.specs.JsonTrees.{Member, members_in, is_text}
-use Rattle.edm_schema.specs.ModelTrees.{is_model, type_tree, type_members, set_members, property_members, navigation_members, term_members, hierarchy_term, aggregate_term, definition_term, qualifier, is_of_term, is_own, is_property, is_navigation, is_definition, is_custom_name, is_simply_qualified, has_simple_parts, schema, container}
+use Rattle.edm_schema.specs.ModelTrees.{is_model, type_tree, type_members, set_members, term_members, hierarchy_term, definition_term, qualifier, is_of_term, is_own, is_property, is_navigation, is_definition, is_custom_name, has_simple_parts, schema, container}
 use Rattle.edm_model.specs.ModelFile.{model_of, type_of, set_of, property_of, navigation_of, hierarchy_of, custom_of}
 use Rattle.edm_schema.specs.NameOrders.{InOrder, AreOrdered}
 use Rattle.edm_model.proofs.Accepted.{or_second, tree_passes, in_types, type_passes}

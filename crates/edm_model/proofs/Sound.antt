@@ -1,36 +1,33 @@
 -- What holds of the model of an accepted tree.
-use Rattle.std.proofs.Common.{◌≡◌, ℕ, zero, suc, ◌<◌, ◌==◌, Bool, true, false, not, List, [], ◌∷◌, ◌++◌, get_or, map, length, Some, None, refl, sym, ◌∙◌, ap, subst, arith, nat_eq, codes, inl, inr}
-use Rattle.std.specs.Prelude.{◌&&◌, ◌||◌, if◌then◌else◌, Option, option_map, option_and_then, unwrap_or, is_none, slice_get, nat_le}
+use Rattle.std.proofs.Common.{◌≡◌, ℕ, ◌<◌, ◌==◌, Bool, true, false, not, List, [], ◌∷◌, ◌++◌, get_or, map, length, Some, None, refl, sym, ◌∙◌, ap, subst, arith, nat_eq, codes}
+use Rattle.std.specs.Prelude.{◌&&◌, if◌then◌else◌, Option, option_map, option_and_then, unwrap_or, is_none, slice_get, nat_le}
 use Rattle.std.specs.List.{list_all}
-use Rattle.std.proofs.lemmas.Bool.{false≢true, cases_lt}
+use Rattle.std.proofs.lemmas.Bool.{false≢true}
 use Rattle.std.proofs.lemmas.Bool.Decides.{nat_tests}
 use Rattle.std.proofs.lemmas.List.Quantifiers.{position-Some}
-use Rattle.std.proofs.lemmas.Option.{none-some, same_Some, slice_get-map, slice_get_within, slice_get-get_or, slice_get_past}
+use Rattle.std.proofs.lemmas.Option.{none-some, same_Some, slice_get-map, slice_get_within, slice_get-get_or}
 use Rattle.serde_json.specs.Data.{Data, null}
 use Rattle.serde_json.specs.Find.{get}
-use Rattle.edm_values.specs.Lists.{is_some_and, places, exactly_one, same_text}
-use Rattle.edm_values.specs.Names.{is_name}
+use Rattle.edm_values.specs.Lists.{is_some_and, exactly_one, same_text}
 use Rattle.edm_values.specs.declared.EdmType.{EdmType}
 use Rattle.edm_values.specs.Literals.{same_kind}
 use Rattle.edm_values.specs.Parts.{scale_max}
 use Rattle.edm_values.specs.Values.{precision_max}
-use Rattle.edm_model.specs.Models.{Property, Navigation, Hierarchy, Custom, EntityType, EntitySet, Model, Part}
-use Rattle.edm_model.specs.LookUps.{properties_of, navigations_of, hierarchies_of_type, customs_of_type, property_at, navigation_on, hierarchy_on, key_of, set_type, set_of_type, IsType, IsSet, IsProperty, IsNavigation}
-use Rattle.edm_schema.specs.JsonTrees.{Member, members_in, is_true, lacks, text_at, whole_number}
-use Rattle.edm_schema.specs.ModelTrees.{is_model, is_type, type_tree, type_members, type_place, set_members, property_members, navigation_members, term_members, hierarchy_term, definition_term, key_name, member_place, named, kind_of, property_kind, is_nullable, is_key_kind, is_navigable, is_constrained, has_partner, is_reference_to, leads_to, is_entity_set, constraint, namespace, has_simple_parts, is_own, is_property, is_navigation, container, schema, is_hierarchy, precision_of, scale_of, decimal_kind, kind_name, whole_between}
-use Rattle.edm_model.specs.ModelFile.{model_of, type_of, property_of, navigation_of, hierarchy_of, custom_of, set_of, is_many, partner_place, target_of}
+use Rattle.edm_model.specs.Models.{Property, Navigation, Hierarchy, Custom, EntityType, EntitySet, Part}
+use Rattle.edm_model.specs.LookUps.{properties_of, navigations_of, hierarchies_of_type, property_at, navigation_on, hierarchy_on, key_of, set_type, set_of_type, IsType, IsSet, IsProperty, IsNavigation}
+use Rattle.edm_schema.specs.JsonTrees.{Member, is_true, lacks, text_at, whole_number}
+use Rattle.edm_schema.specs.ModelTrees.{is_model, type_tree, type_members, type_place, set_members, property_members, navigation_members, term_members, hierarchy_term, key_name, member_place, named, kind_of, property_kind, is_nullable, is_key_kind, is_navigable, is_constrained, has_partner, is_reference_to, leads_to, is_entity_set, constraint, namespace, is_hierarchy, precision_of, scale_of, decimal_kind, kind_name, whole_between}
+use Rattle.edm_model.specs.ModelFile.{model_of, property_of, navigation_of, set_of, is_many, partner_place, target_of}
 use Rattle.edm_model.specs.Soundness.{IsSound, IsReference, AreOfOneKind, is_declared_kind}
-use Rattle.edm_schema.specs.NameOrders.{InOrder, AreOrdered}
-use Rattle.edm_schema.proofs.Counted.{all_places_at}
-use Rattle.edm_schema.proofs.Mapped.{length-mapped, map_mapped}
-use Rattle.edm_schema.proofs.Ordered.{none_ordered, made_ordered, qualified_ordered}
+use Rattle.edm_schema.specs.NameOrders.{InOrder}
+use Rattle.edm_schema.proofs.Mapped.{length-mapped}
 use Rattle.edm_model.proofs.Accepted.{places_pass, in_types, of_types, type_passes}
 use Rattle.edm_model.proofs.IdLaws.{places_within, parts_there, all_parts_there, all_customs_there}
 use Rattle.edm_model.proofs.NameLaws.{set_names, type_names, property_names, navigation_names, qualifiers, custom_names, properties_are_no_navigations, customs_are_no_properties, customs_are_no_navigations, sets_in_order, types_in_order, properties_in_order, navigations_in_order, hierarchies_in_order, customs_in_order, found_place_of, found_named}
-use Rattle.edm_schema.proofs.Passing.{and_left, and_right, some_map, some_bind, some_passes, some_there, all_get, filter_get, find_place, one_place, only_place}
+use Rattle.edm_schema.proofs.Passing.{and_left, and_right, some_map, some_bind, some_passes, some_there, all_get, find_place, one_place, only_place}
 use Rattle.edm_model.proofs.Places.{within_types}
 use Rattle.edm_model.proofs.SetEach.{set_each_same}
-use Rattle.edm_model.proofs.TreeParts.{properties_is, navigations_is, hierarchies_is, customs_is, key_is, property_here, property_there, is_property_at, navigation_here, navigation_there, hierarchy_here}
+use Rattle.edm_model.proofs.TreeParts.{key_is, property_here, property_there, is_property_at, navigation_here, navigation_there, hierarchy_here}
 
 -- the member of a name, with its place
 pub named_at : (ms : List Member) (name : List ℕ) (x : Data) → named ms name ≡ Some x → (k : ℕ) × (m : Member) × (member_place ms name ≡ Some k) × (slice_get ms k ≡ Some m) × (m.1 ≡ x)

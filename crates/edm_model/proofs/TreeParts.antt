@@ -1,5 +1,5 @@
 -- The parts of the model of a tree, by the trees of its types.
-use Rattle.std.proofs.Common.{◌≡◌, ℕ, [], List, map, Some, None, refl, sym, ◌∙◌, ap}
+use Rattle.std.proofs.Common.{◌≡◌, ℕ, [], map, Some, None, refl, sym, ◌∙◌, ap}
 use Rattle.std.specs.Prelude.{Option, option_map, unwrap_or, slice_get}
 use Rattle.std.proofs.lemmas.Option.{slice_get-map, slice_get_within}
 use Rattle.serde_json.specs.Data.{Data, null}

@@ -1,9 +1,9 @@
 -- What holds of the model of every accepted file.
-use Rattle.std.specs.Prelude.{ℕ, ◌≡◌, ◌≢◌, ◌<◌, length, ◌&&◌, Bool, true, false, List, map, Some, option_map, option_and_then, nat_le, slice_get, IsTrue}
+use Rattle.std.specs.Prelude.{ℕ, ◌≡◌, ◌≢◌, length, ◌&&◌, Bool, true, false, map, Some, option_map, option_and_then, nat_le, slice_get, IsTrue}
 use Rattle.std.specs.List.{All}
 use Rattle.edm_values.specs.declared.EdmType.{EdmType}
 use Rattle.edm_values.specs.Literals.{same_kind}
-use Rattle.edm_values.specs.Names.{Name, is_name}
+use Rattle.edm_values.specs.Names.{is_name}
 use Rattle.edm_values.specs.Lists.{places}
 use Rattle.edm_values.specs.Parts.{scale_max}
 use Rattle.edm_values.specs.Values.{precision_max}

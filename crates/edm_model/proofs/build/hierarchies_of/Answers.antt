@@ -5,7 +5,7 @@ use Rattle.edm_schema.specs.JsonTrees as tree
 use Rattle.edm_schema.specs.ModelTrees.{qualifier, hierarchy_term, term_members}
 use Rattle.edm_model.specs.ModelFile.{hierarchy_from}
 use Rattle.edm_schema.proofs.Mapped.{map_mapped}
-use Rattle.edm_schema.specs.MemberLists.{member_seen, tree_of, root_of, type_seen}
+use Rattle.edm_schema.specs.MemberLists.{member_seen, tree_of}
 use Rattle.edm_schema.specs.declared.members.Member.{Member}
 use Rattle.edm_model.proofs.build.hierarchies_of.Goals as goal
 

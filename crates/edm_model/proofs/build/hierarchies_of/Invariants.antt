@@ -1,7 +1,7 @@
 use Rattle.std.proofs.Common.{◌≡◌, map, take}
 use Rattle.serde_json.specs.View.{view}
 use Rattle.edm_model.specs.ModelFile.{hierarchy_from}
-use Rattle.edm_schema.specs.MemberLists.{member_seen, tree_of, root_of, type_seen}
+use Rattle.edm_schema.specs.MemberLists.{tree_of}
 use Rattle.edm_schema.specs.declared.members.Member.{Member}
 use Rattle.edm_model.proofs.build.hierarchies_of.Given as goal
 

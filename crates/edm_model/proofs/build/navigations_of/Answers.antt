@@ -2,7 +2,7 @@ use Rattle.std.proofs.Common.{◌≡◌, map, sym, ◌∙◌, ap, arith}
 use Rattle.std.proofs.lemmas.Grind.{common_steps}
 use Rattle.edm_model.specs.ModelFile.{navigation_of}
 use Rattle.edm_schema.proofs.Mapped.{made_more, map_mapped}
-use Rattle.edm_schema.specs.MemberLists.{member_seen, tree_of, root_of, type_seen}
+use Rattle.edm_schema.specs.MemberLists.{member_seen, tree_of, root_of}
 use Rattle.edm_schema.specs.declared.members.Member.{Member}
 use Rattle.edm_model.proofs.build.navigations_of.Goals as goal
 

@@ -1,6 +1,6 @@
 use Rattle.std.proofs.Common.{◌≡◌, map, take}
 use Rattle.edm_model.specs.ModelFile.{navigation_of}
-use Rattle.edm_schema.specs.MemberLists.{member_seen, tree_of, root_of, type_seen}
+use Rattle.edm_schema.specs.MemberLists.{member_seen, tree_of, root_of}
 use Rattle.edm_schema.specs.declared.members.Member.{Member}
 use Rattle.edm_model.proofs.build.navigations_of.Given as goal
 
