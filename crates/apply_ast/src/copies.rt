@@ -9,7 +9,6 @@ use crate::items::{
 };
 use crate::names::{Held, Name, Path, PathList};
 use crate::steps::{ClimbStep, JoinStep, KeyItem, KeyList, Pipe, PipeList, Request, Step};
-use edm_values::Text;
 use std::alloc::{AllocError, Global};
 use std::sync::ArcSlice;
 
@@ -66,12 +65,6 @@ impl PathList {
     }
 }
 
-fn copy_text(alloc: Global, text: &Text) -> Result<Text, AllocError>
-    ensures { IfOk result (λ t. t ≡ text.now) }
-{
-    Text::new(String::from_str(alloc, text.as_str())?)
-}
-
 impl Expr {
     /// The same expression.
     pub fn copy(&self, alloc: Global) -> Result<Expr, AllocError>
@@ -82,7 +75,7 @@ impl Expr {
             Expr::Bool(b) => Ok(Expr::Bool(*b)),
             Expr::Int(n) => Ok(Expr::Int(*n)),
             Expr::Dec(d) => Ok(Expr::Dec(*d)),
-            Expr::Text(t) => Ok(Expr::Text(copy_text(alloc, t)?)),
+            Expr::Text(t) => Ok(Expr::Text(t.copy(alloc)?)),
             Expr::Day(d) => Ok(Expr::Day(*d)),
             Expr::Path(p) => Ok(Expr::Path(p.copy(alloc)?)),
             Expr::Unary(op, a) => Ok(Expr::Unary(*op, Box::new(alloc, a.copy(alloc)?)?)),

@@ -13,6 +13,7 @@ use Rattle.edm_values.specs.Names.{is_name}
 use Rattle.edm_values.specs.declared.EdmType.{EdmType}
 use Rattle.edm_values.specs.Literals.{same_kind}
 use Rattle.edm_values.specs.Parts.{scale_max}
+use Rattle.edm_values.specs.Values.{precision_max}
 use Rattle.edm_model.specs.Models.{Property, Navigation, Hierarchy, Custom, EntityType, EntitySet, Model, Part}
 use Rattle.edm_model.specs.LookUps.{properties_of, navigations_of, hierarchies_of_type, customs_of_type, property_at, navigation_on, hierarchy_on, key_of, set_type, set_of_type, IsType, IsSet, IsProperty, IsNavigation}
 use Rattle.edm_model.specs.JsonTrees.{Member, members_in, is_true, lacks, text_at, whole_number}
@@ -68,23 +69,23 @@ between low high (Some m) n h = elim (nat_le low m && nat_le m high) as (λ b. (
   | false ↦ λ e g. absurd (none-some n g)
 ] refl h
 
-decimal_declared : (s p : Option ℕ) → ((n : ℕ) → s ≡ Some n → (nat_le 0 n && nat_le n scale_max) ≡ true) → ((n : ℕ) → p ≡ Some n → (nat_le 1 n && nat_le n 18) ≡ true) → is_declared_kind (unwrap_or (decimal_kind s p) EdmType.Text) ≡ true
+decimal_declared : (s p : Option ℕ) → ((n : ℕ) → s ≡ Some n → (nat_le 0 n && nat_le n scale_max) ≡ true) → ((n : ℕ) → p ≡ Some n → (nat_le 1 n && nat_le n precision_max) ≡ true) → is_declared_kind (unwrap_or (decimal_kind s p) EdmType.Text) ≡ true
 decimal_declared None p f g = refl
 decimal_declared (Some s) None f g = refl
 decimal_declared (Some s) (Some p) f g =
     let low = f s refl in
     let high = g p refl in
     elim (nat_le s p) as (λ b. nat_le s p ≡ b → is_declared_kind (unwrap_or (if b then Some (EdmType.Dec s p) else None) EdmType.Text) ≡ true) [
-      | true ↦ λ e. and_all (nat_le s scale_max) (nat_le 1 p) (nat_le p 18) (nat_le s p) (and_right (nat_le 0 s) (nat_le s scale_max) low) (and_left (nat_le 1 p) (nat_le p 18) high) (and_right (nat_le 1 p) (nat_le p 18) high) e
+      | true ↦ λ e. and_all (nat_le s scale_max) (nat_le 1 p) (nat_le p precision_max) (nat_le s p) (and_right (nat_le 0 s) (nat_le s scale_max) low) (and_left (nat_le 1 p) (nat_le p precision_max) high) (and_right (nat_le 1 p) (nat_le p precision_max) high) e
       | false ↦ λ e. refl
     ] refl
   where
     and_all : (a b c e : Bool) → a ≡ true → b ≡ true → c ≡ true → e ≡ true → (((a && b) && c) && e) ≡ true
     and_all a b c e ha hb hc he = rw (ha, hb, hc, he) refl
 
-precision_between : (o : Option Data) (n : ℕ) → unwrap_or (option_map (whole_between 1 18) o) (Some 18) ≡ Some n → (nat_le 1 n && nat_le n 18) ≡ true
-precision_between None n h = subst (λ k. (nat_le 1 k && nat_le k 18) ≡ true) (same_Some 18 n h) refl
-precision_between (Some x) n h = between 1 18 (whole_number x) n h
+precision_between : (o : Option Data) (n : ℕ) → unwrap_or (option_map (whole_between 1 precision_max) o) (Some precision_max) ≡ Some n → (nat_le 1 n && nat_le n precision_max) ≡ true
+precision_between None n h = subst (λ k. (nat_le 1 k && nat_le k precision_max) ≡ true) (same_Some precision_max n h) refl
+precision_between (Some x) n h = between 1 precision_max (whole_number x) n h
 
 scale_between : (o : Option Data) (n : ℕ) → option_and_then (whole_between 0 scale_max) o ≡ Some n → (nat_le 0 n && nat_le n scale_max) ≡ true
 scale_between None n h = absurd (none-some n h)

@@ -11,6 +11,7 @@ use Rattle.edm_values.specs.Literals.{same_kind, is_point}
 use Rattle.edm_values.specs.Names.{is_name}
 use Rattle.edm_model.specs.JsonTrees.{Member, only, json_of, items_in, members_in, is_object, is_array, is_string, is_boolean, is_true, is_text, whole_number, only_string, passes_at, passes_if_at, lacks, text_at, text_at_or}
 use Rattle.edm_values.specs.Parts.{scale_max}
+use Rattle.edm_values.specs.Values.{precision_max}
 
 -- ---- which members are read
 
@@ -144,7 +145,7 @@ whole_between low high d = option_and_then (λ n. if nat_le low n && nat_le n hi
 
 -- the precision, from 1 to 18; 18 where the file gives none
 abbrev pub precision_of : Data → Option ℕ
-precision_of p = unwrap_or (option_map (whole_between 1 18) (get (codes "$Precision") p)) (Some 18)
+precision_of p = unwrap_or (option_map (whole_between 1 precision_max) (get (codes "$Precision") p)) (Some precision_max)
 
 -- the scale, from 0 to 9; where the file gives none there is none
 abbrev pub scale_of : Data → Option ℕ

@@ -9,6 +9,7 @@ use Rattle.edm_values.specs.Literals.{same_kind}
 use Rattle.edm_values.specs.Names.{Name, is_name}
 use Rattle.edm_values.specs.Lists.{places}
 use Rattle.edm_values.specs.Parts.{scale_max}
+use Rattle.edm_values.specs.Values.{precision_max}
 use Rattle.serde_json.specs.Data.{Data}
 use Rattle.edm_model.specs.JsonTrees.{members_in}
 use Rattle.edm_model.specs.ModelFile.{is_key_kind, schema, container, type_tree, type_members}
@@ -22,7 +23,7 @@ AreOrdered = IsStrictlySortedBy (slice_cmp nat_cmp)
 
 -- a decimal has a scale from 0 to 9, at most its precision, which is from 1 to 18
 abbrev pub is_declared_kind : EdmType → Bool
-is_declared_kind (EdmType.Dec scale precision) = nat_le scale scale_max && nat_le 1 precision && nat_le precision 18 && nat_le scale precision
+is_declared_kind (EdmType.Dec scale precision) = nat_le scale scale_max && nat_le 1 precision && nat_le precision precision_max && nat_le scale precision
 is_declared_kind _ = true
 
 -- this navigation is single-valued and leads to the type at this place

@@ -7,7 +7,6 @@ ghost use Rattle.edm_model.specs.IdLists.{custom_entry};
 
 use crate::ids::{CustomId, HierId, NavId, PropId, SetId, TypeId};
 use crate::parts::{Custom, Definition, EntitySet, EntityType, Texts};
-use edm_values::Text;
 use std::alloc::{AllocError, Global};
 
 /// The first n sets.
@@ -174,13 +173,6 @@ pub(crate) fn all_hier_ids(alloc: Global, types: &[EntityType]) -> Result<Vec<Hi
     Ok(ids)
 }
 
-/// A copy of a text.
-fn copy_text(alloc: Global, text: &Text) -> Result<Text, AllocError>
-    ensures { IfOk result (λ t. t ≡ text.now) }
-{
-    Text::new(String::from_str(alloc, text.as_str())?)
-}
-
 /// Copies of texts.
 fn copy_texts(alloc: Global, texts: &Texts) -> Result<Texts, AllocError>
     ensures { IfOk result (λ t. t ≡ texts.now) }
@@ -188,7 +180,7 @@ fn copy_texts(alloc: Global, texts: &Texts) -> Result<Texts, AllocError>
     let texts = texts.as_slice();
     let mut copies = Vec::new(alloc);
     for text in texts {
-        copies.push(copy_text(alloc, text)?)?;
+        copies.push(text.copy(alloc)?)?;
     }
     Ok(Texts::new(copies))
 }
@@ -202,8 +194,8 @@ fn custom_at(
 ) -> Result<Custom, AllocError>
     ensures { IfOk result (λ c. c ≡ custom_entry of (at, definition.now)) }
 {
-    let name = copy_text(alloc, &definition.name)?;
-    let expression = copy_text(alloc, &definition.of)?;
+    let name = definition.name.copy(alloc)?;
+    let expression = definition.of.copy(alloc)?;
     let per = copy_texts(alloc, &definition.per)?;
     Ok(Custom {
         id: CustomId { of, at },

@@ -9,7 +9,7 @@ ghost use Rattle.std.specs.Ordering.{nat_cmp, as_partial_cmp};
 ghost use Rattle.edm_values.specs.Lists.{same_text};
 
 use crate::Text;
-use std::alloc::AllocError;
+use std::alloc::{AllocError, Global};
 use std::cmp::Ordering;
 use std::hash::{Hash, Hasher};
 
@@ -30,6 +30,13 @@ impl Text {
         ensures { result.now ≡ self.now }
     {
         self.text.as_str()
+    }
+
+    /// A copy of the text.
+    pub fn copy(&self, alloc: Global) -> Result<Text, AllocError>
+        ensures value { IfOk result (λ t. t ≡ self.now) }
+    {
+        Text::new(String::from_str(alloc, self.as_str())?)
     }
 }
 

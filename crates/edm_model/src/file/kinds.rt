@@ -6,11 +6,8 @@ ghost use Rattle.edm_model.specs.ModelFile as spec;
 use crate::file::tree::{
     is_boolean_if_there, is_object_of, is_string_if_there, is_true_at, lacks, text_at_or,
 };
-use edm_values::{EdmType, SCALE_MAX};
+use edm_values::{EdmType, PRECISION_MAX, SCALE_MAX};
 use serde_json::Value;
-
-/// The greatest precision, and that of a decimal whose file gives none.
-const PRECISION_MAX: u8 = 18;
 
 /// The name of a property's type.
 pub(crate) fn kind_name(property: &Value) -> &str
