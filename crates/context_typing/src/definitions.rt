@@ -91,13 +91,6 @@ fn custom_risky(alloc: Global, m: &Model, custom: &Custom, read: &ReadCustom) ->
     is_sum(custom.method) || is_outer_sum(custom.outer) || !is_sure(m, &shape, &read.of)
 }
 
-/// A copy of a name.
-fn copy_name(alloc: Global, name: &Text) -> Result<Text, AllocError>
-    ensures { IfOk result (λ t. t ≡ name.now) }
-{
-    Text::new(String::from_str(alloc, name.as_str())?)
-}
-
 /// The type and the risk of a custom aggregate's value, with a copy of its name, if its definition has a typing.
 fn typing(
     alloc: Global,
@@ -111,7 +104,7 @@ fn typing(
     match custom_kind(alloc, m, custom, read)? {
         Some(kind) => {
             let risky = custom_risky(alloc, m, custom, read);
-            Ok(Some((copy_name(alloc, &custom.name)?, kind, risky)))
+            Ok(Some((custom.name.copy(alloc)?, kind, risky)))
         }
         None => Ok(None),
     }
