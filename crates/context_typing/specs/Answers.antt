@@ -42,18 +42,18 @@ per_typed m t ps = list_all (λ p. is_some (property_on m t p)) ps && are_distin
 abbrev pub custom_of : Custom → seen.Custom
 custom_of u = record { name = u.name; of = u.of; method = u.method; per = u.per; outer = u.outer }
 
--- the reading of its definition
+-- the reading of the definition of a custom aggregate
 abbrev pub reading_for : Custom → ReadCustom → Reading
 reading_for u r = record { owner = u.owner; name = u.name; of = expr_of r.of; per = r.per }
 
--- it stands in the model where its id says, and is found there by its name
+-- a custom aggregate stands in the model where its id says, and is found there by its name
 pub record IsEntry (m : Model) (u : Custom) : Type 0 where
   pub there : IsType m u.owner
   pub own : u.id.of ≡ u.owner
   pub at : slice_get (customs_of_type m u.owner) u.id.at ≡ Some (custom_of u)
   pub named : custom_named m u.owner u.name ≡ Some (u.id.at, custom_of u)
 
--- the reading with its typing, or that it has none
+-- the answer for a reading: its typing, or that it has none
 abbrev pub AnswersCustom : Model → ReadCustom → Result TypedCustom CustomRefused → Type 0
 AnswersCustom m r (Ok x) = (x.read ≡ r) × IsTypedCustom m x × (read_kind m r ≡ Some x.kind)
 AnswersCustom m r (Err (custom.At id)) = (id ≡ r.id) × (read_kind m r ≡ None)

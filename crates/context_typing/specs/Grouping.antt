@@ -14,28 +14,28 @@ use Rattle.context_typing.specs.Typing.{GroupKeys, RollupPart, all_prefixes, is_
 abbrev pub typed_key : Model → Shape → Bool → Path → Option ColumnShape
 typed_key m S absent p = option_map (λ k. key_column m S absent p) (path_kind m S p)
 
--- those of the levels of a rollup
+-- the columns of the levels of a rollup, where each path has a typing
 abbrev pub level_columns : Model → Shape → Bool → List Path → Option (List ColumnShape)
 level_columns m S all [] = Some []
 level_columns m S all (p ∷ ps) = option_and_then (λ c. option_map (λ cs. c ∷ cs) (all_some (map (typed_key m S true) ps))) (typed_key m S all p)
 
--- that of a recursive rollup
+-- the column of a recursive rollup, where its path has a typing
 abbrev pub node_columns : Model → Shape → Path → Option (List ColumnShape)
 node_columns m S p = option_map (λ c. record c { risky = false } ∷ []) (typed_key m S false p)
 
--- those of a key that is no plain path
+-- the columns of a key that is no plain path, where each of its paths has a typing
 abbrev pub rollup_key_columns : Model → Shape → Key → Option (List ColumnShape)
 rollup_key_columns m S (Key.Plain p) = Some []
 rollup_key_columns m S (Key.Rollup all ps) = level_columns m S all ps
 rollup_key_columns m S (Key.Recursive h p T) = node_columns m S p
 
--- the same of what stands among the keys besides plain ones
+-- the columns of what stands among the keys besides plain ones, where each path has a typing
 abbrev pub part_columns : Model → Shape → RollupPart → Option (List ColumnShape)
 part_columns m S RollupPart.NoRollup = Some []
 part_columns m S (RollupPart.Levels all ps) = level_columns m S all ps
 part_columns m S (RollupPart.Nodes h p) = node_columns m S p
 
--- those of all keys, where at most one is no plain path
+-- the columns of all keys, where each path has a typing and at most one key is no plain path
 abbrev pub typed_columns : Model → Shape → GroupKeys → Option (List ColumnShape)
 typed_columns m S g =
     if nat_le (length g.parts) 1

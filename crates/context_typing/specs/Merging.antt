@@ -21,7 +21,7 @@ add_entry path alike (Some t) x = elim (at_path path t (path x)) [ Some d ↦ th
 abbrev pub add_column : Option (List ColumnShape) → ColumnShape → Option (List ColumnShape)
 add_column = add_entry (λ c. c.path) (λ d c. same_kind d.kind c.kind)
 
--- the table with those of a branch
+-- the table with the columns of a branch
 abbrev pub add_columns : Option (List ColumnShape) → Shape → Option (List ColumnShape)
 add_columns o S = fold add_column o S.columns
 
@@ -39,23 +39,23 @@ pub record Joined : Type 0 where
   pub absent : Bool
   pub risky : Bool
 
--- how a branch has it, where the branch types the column's path with its kind or not at all
+-- how a branch has a column, where the branch types the column's path with its kind or not at all
 abbrev pub in_branch : Model → Shape → ColumnShape → Option Joined
 in_branch m S c =
     then_some (is_none_or (same_kind c.kind) (path_kind m S c.path))
     (record { declared = is_none_or (λ y. y.declared) (column_at S c.path); absent = is_none_or (λ y. y.absent) (column_at S c.path); risky = is_risky S c.path })
 
--- how two lists of branches together have it
+-- how two lists of branches together have a column
 abbrev pub both : Joined → Joined → Joined
 both a b = record { declared = a.declared && b.declared; absent = a.absent || b.absent; risky = a.risky || b.risky }
 
--- how all have it, where they agree
+-- how all branches have a column, where they agree
 abbrev pub in_branches : Model → List Shape → ColumnShape → Option Joined
 in_branches m Ss c =
     then_some (column_agrees m Ss c)
     (record { declared = list_all (λ S. is_none_or (λ y. y.declared) (column_at S c.path)) Ss; absent = list_any (λ S. is_none_or (λ y. y.absent) (column_at S c.path)) Ss; risky = list_any (λ S. is_risky S c.path) Ss })
 
--- the columns of all branches, as they stand in these
+-- the columns of all branches, one branch after another
 abbrev pub all_columns : List Shape → List ColumnShape
 all_columns Ss = flat_map (λ S. S.columns) Ss
 
@@ -69,7 +69,7 @@ concat_columns m Ss = then_some (list_all (column_agrees m Ss) (all_columns Ss))
 abbrev pub add_prefix : Option (List PrefixShape) → PrefixShape → Option (List PrefixShape)
 add_prefix = add_entry (λ x. x.path) (λ y x. y.of == x.of)
 
--- the table with those of a branch
+-- the table with the prefixes of a branch
 abbrev pub add_prefixes : Option (List PrefixShape) → Shape → Option (List PrefixShape)
 add_prefixes o S = fold add_prefix o S.prefixes
 
@@ -85,11 +85,11 @@ joined_prefix Ss x = then_some (prefix_agrees Ss x) (merged_prefix Ss x)
 abbrev pub lacks_prefix : Shape → PrefixShape → Option Bool
 lacks_prefix S x = then_some (is_none_or (λ y. y.of == x.of) (prefix_at S x.path)) (is_none_or (λ y. y.absent) (prefix_at S x.path))
 
--- whether one does, where they agree
+-- whether one of the branches lacks the prefix or may, where they agree
 abbrev pub some_lack_prefix : List Shape → PrefixShape → Option Bool
 some_lack_prefix Ss x = then_some (prefix_agrees Ss x) (list_any (λ S. is_none_or (λ y. y.absent) (prefix_at S x.path)) Ss)
 
--- the prefixes of all branches, as they stand in these
+-- the prefixes of all branches, one branch after another
 abbrev pub all_prefixes_of : List Shape → List PrefixShape
 all_prefixes_of Ss = flat_map (λ S. S.prefixes) Ss
 
@@ -103,7 +103,7 @@ concat_prefixes Ss = then_some (list_all (prefix_agrees Ss) (all_prefixes_of Ss)
 abbrev pub root_agrees : List Shape → RootShape → Bool
 root_agrees Ss r = list_all (λ S. is_none_or (λ y. y.of == r.of) (prefix_at S [])) Ss
 
--- the same of the root of each branch
+-- the branches agree on the root of each
 abbrev pub roots_agree : List Shape → Bool
 roots_agree Ss = list_all (λ S. is_none_or (root_agrees Ss) S.root) Ss
 

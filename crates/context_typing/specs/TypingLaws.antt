@@ -14,7 +14,7 @@ abbrev pub TypingKeepsLawful : (Model → Type 0) → Type 0
 TypingKeepsLawful IsAccepted =
     (m : Model) (c : Customs) (S S' : Shape) (p : Pipe) → IsAccepted m → IsTrue (is_lawful m S) → Types m c S p S' → IsTrue (is_lawful m S')
 
--- the same over every model
+-- typing leads from lawful shapes to lawful ones, over every model
 abbrev pub TypingIsLawful : Type 0
 TypingIsLawful = TypingKeepsLawful (λ m. Unit {0})
 

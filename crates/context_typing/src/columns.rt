@@ -215,17 +215,17 @@ impl ColumnList {
     }
 
     /// Whether the path is a prefix of that of a column.
-    pub(crate) fn leads_on(&self, path: &[Name]) -> bool
+    pub(crate) fn any_begins_with(&self, path: &[Name]) -> bool
         ensures { result ≡ list_any (λ c. paths.is_prefix path.now c.path) self.now }
     {
         match &self.order {
-            Some(places) => orders::leads_on(&self.all, places, path),
-            None => scanned_on(&self.all, path),
+            Some(places) => orders::any_begins_with(&self.all, places, path),
+            None => scanned_begins_with(&self.all, path),
         }
     }
 
     /// Whether the path of a column is a prefix of this one.
-    pub(crate) fn leads_to(&self, path: &[Name]) -> bool
+    pub(crate) fn any_is_prefix_of(&self, path: &[Name]) -> bool
         ensures { result ≡ list_any (λ c. paths.is_prefix c.path path.now) self.now }
     {
         for k in 0..=path.len() {
@@ -258,7 +258,7 @@ fn scanned<'a>(columns: &'a [ColumnShape], path: &[Name]) -> Option<&'a ColumnSh
 }
 
 /// Whether the path is a prefix of that of a column, by a scan.
-fn scanned_on(columns: &[ColumnShape], path: &[Name]) -> bool
+fn scanned_begins_with(columns: &[ColumnShape], path: &[Name]) -> bool
     ensures { result ≡ list_any (λ c. paths.is_prefix path.now c.path) columns.now }
 {
     columns

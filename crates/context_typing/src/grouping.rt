@@ -247,7 +247,7 @@ fn has_recursive(keys: &[KeyItem]) -> bool
 fn overlaps(keys: &ColumnList, path: &[Name]) -> bool
     ensures { result ≡ spec.overlaps (map (λ c. c.path) keys.now) path.now }
 {
-    keys.leads_on(path) || keys.leads_to(path)
+    keys.any_begins_with(path) || keys.any_is_prefix_of(path)
 }
 
 /// Whether a column of the shape overlaps a key.

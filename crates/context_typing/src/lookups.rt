@@ -195,7 +195,7 @@ fn is_member(m: &Model, of: TypeId, name: &Name) -> bool
 fn begins_column(shape: &Shape, name: &Name) -> bool
     ensures { result ≡ list_any (λ c. path.begins name.now c.path) shape.now.columns }
 {
-    shape.columns.leads_on(slice::from_ref(name))
+    shape.columns.any_begins_with(slice::from_ref(name))
 }
 
 /// Whether the name begins a prefix.

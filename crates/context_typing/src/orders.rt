@@ -50,7 +50,7 @@ pub(crate) fn found<'a>(
 }
 
 /// Whether the path is a prefix of that of a column.
-pub(crate) fn leads_on(columns: &[ColumnShape], places: &[usize], path: &[Name]) -> bool
+pub(crate) fn any_begins_with(columns: &[ColumnShape], places: &[usize], path: &[Name]) -> bool
     requires { IsOrder columns.now places.now }
     ensures { result ≡ list_any (λ c. is_prefix path.now c.path) columns.now }
 {

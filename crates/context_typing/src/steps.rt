@@ -350,7 +350,7 @@ fn type_key(
     }
 }
 
-/// The same of all keys.
+/// Whether each key is quiet, where each has a typing but for what it has to do with the others.
 #[cycle(typing)]
 fn type_keys(
     alloc: Global,

@@ -1,6 +1,6 @@
 use Rattle.std.proofs.Common.{◌∙◌, ap, refl, arith}
 use Rattle.context_typing.proofs.PathOrders.{leads-here, leads-nowhere}
-use Rattle.context_typing.proofs.orders.leads_on.Goals as goal
+use Rattle.context_typing.proofs.orders.any_begins_with.Goals as goal
 
 pub returns-then-at-places : goal.returns-then-at-places
 returns-then-at-places c =

@@ -3,7 +3,7 @@ use Rattle.std.specs.Prelude.{is_some}
 use Rattle.std.proofs.lemmas.Bool.{cases_lt}
 use Rattle.context_typing.specs.Paths.{at_path}
 use Rattle.context_typing.proofs.PathOrders.{leads-found, leads-missed, none-is, copied-some}
-use Rattle.context_typing.proofs.columns.ColumnList.leads_to.Goals as goal
+use Rattle.context_typing.proofs.columns.ColumnList.any_is_prefix_of.Goals as goal
 
 pub returns-then-is_some : goal.returns-then-is_some
 returns-then-is_some c =
