@@ -1,0 +1,33 @@
+//! Shapes, and the typing of expressions and pipelines (Data Aggregation 4.0, sections 3 and 6).
+//!
+//! `shapes` and `columns` have the types and their copies; `paths`, `orders` and `lookups` find what a path leads to; `kinds` and `expressions` type
+//! expressions and say which are sure; `items`, `grouping`, `merging` and `joining` have the shape after each step
+//! from its parts; `steps` walks over pipelines, and gives the shape and whether the steps are quiet in one pass; `customs`
+//! keeps typed custom aggregates, and `definitions` types them; `typed` has the calls for pipelines.
+#![tactic(auto)]
+
+mod columns;
+mod customs;
+mod definitions;
+mod expressions;
+mod grouping;
+mod items;
+mod joining;
+mod kinds;
+mod laws;
+mod lookups;
+mod merging;
+mod orders;
+mod outcomes;
+mod paths;
+mod shapes;
+mod steps;
+mod typed;
+
+pub use columns::{ColumnList, ColumnShape};
+pub use customs::{Customs, ReadCustom};
+pub use definitions::{CustomRefused, type_customs};
+pub use expressions::is_sure;
+pub use laws::{one_shape, set_shape_is_lawful, typing_keeps_lawful};
+pub use shapes::{PrefixList, PrefixShape, RootShape, Shape};
+pub use typed::{TypeRefused, Typed, is_quiet, type_pipe};
