@@ -1,1 +1,6 @@
+mod InstanceRows
+pub mod LookupForms
+pub mod PlaceLemmas
+pub mod RowLemmas
+pub mod SamePaths
 pub mod SumLaws
