@@ -2,5 +2,4 @@ mod InstanceRows
 pub mod LookupForms
 pub mod PlaceLemmas
 pub mod RowLemmas
-pub mod SamePaths
 pub mod SumLaws

@@ -1,5 +1,5 @@
 -- Look-ups as the program makes them: by the fronts of a path, by the entities on the way, and by names of navigations.
-use Rattle.std.proofs.Common.{◌≡◌, ℕ, zero, suc, ◌+◌, ◌<◌, ◌≤◌, length, take, drop, get_or, refl, sym, ◌∙◌, ap, Bool, true, false, List, [], ◌∷◌, ◌++◌, Option, Some, None, IsTrue, arith, map, inl, inr, drop-cons, add-one}
+use Rattle.std.proofs.Common.{◌≡◌, ℕ, zero, suc, ◌+◌, ◌-◌, ◌<◌, ◌≤◌, length, take, drop, refl, sym, ◌∙◌, ap, Bool, true, false, List, [], ◌∷◌, ◌++◌, Option, Some, None, IsTrue, arith, map, inl, inr}
 use Rattle.std.specs.Prelude.{option_map, option_and_then, unwrap_or, slice_get, is_some, find, if◌then◌else◌, IfSome}
 use Rattle.std.specs.List.{enumerate_from}
 use Rattle.edm_values.specs.declared.Value.{Value}
@@ -13,9 +13,9 @@ use Rattle.edm_data.specs.Worlds.{World, Entity}
 use Rattle.edm_data.specs.References.{entity_type, referred, follow}
 use Rattle.apply_meaning.specs.Paths.{same_path, at_path, splits, is_none_or}
 use Rattle.apply_meaning.specs.Instances.{Instance, named_value, named_reference, value_behind, prefix_value, root_of}
-use Rattle.apply_meaning.specs.RowViews.{is_of}
+use Rattle.apply_meaning.specs.RowViews.{is_of, with_root}
 use Rattle.apply_meaning.specs.Fronts.{fronts, front_value, entity_behind}
-use Rattle.apply_meaning.proofs.RowLemmas.{Prefix}
+use Rattle.apply_meaning.proofs.RowLemmas.{Prefix, front-found}
 
 -- ---- entities of rows
 
@@ -73,6 +73,27 @@ no-map f (Some x) h = none_or _ (sym h)
 pub front-shorter : (w : World) (i : Instance) (p : Path) (k : ℕ) → option_map (λ x. x.1) (at_path (λ x. x.0) i.prefixes (take (suc k) p)) ≡ None → front_value w i p (suc k) ≡ front_value w i p k
 front-shorter w i p k h = ap (λ a. behind w (first_some (option_map (λ y. (y, drop (suc k) p)) a) (find_map (found i) (fronts p k)))) (no-map (λ (x : Prefix). x.1) (at_path (λ x. x.0) i.prefixes (take (suc k) p)) h)
 
+-- the same of the front behind which one more name is left, among the prefixes of a row
+pub next-hit : (w : World) (i : Instance) (ps : List Prefix) (p : Path) (k : ℕ) (o : Option Entity) → i.prefixes ≡ with_root (root_of i) ps → 0 < k → k ≤ length p → option_map (λ x. x.1) (at_path (λ x. x.0) ps (take (k - 1 + 1) p)) ≡ Some o → front_value w i p k ≡ option_and_then (value_behind w (drop (k - 1 + 1) p)) o
+next-hit w i ps p zero o h l m f = absurd (omega (arith, l))
+next-hit w i ps p (suc k) o h l m f =
+    let e : suc k - 1 + 1 ≡ suc k = omega arith in
+    front-hit w i p k o (ap (option_map (λ (x : Prefix). x.1)) (front-found i.prefixes ps (root_of i) p k h (omega (arith, m)) ∙ ap (λ n. at_path (λ (x : Prefix). x.0) ps (take n p)) (sym e)) ∙ f)
+    ∙ ap (λ n. option_and_then (value_behind w (drop n p)) o) (sym e)
+
+pub next-shorter : (w : World) (i : Instance) (ps : List Prefix) (p : Path) (k : ℕ) → i.prefixes ≡ with_root (root_of i) ps → 0 < k → k ≤ length p → option_map (λ x. x.1) (at_path (λ x. x.0) ps (take (k - 1 + 1) p)) ≡ None → front_value w i p k ≡ front_value w i p (k - 1)
+next-shorter w i ps p zero h l m f = absurd (omega (arith, l))
+next-shorter w i ps p (suc k) h l m f =
+    let e : suc k - 1 + 1 ≡ suc k = omega arith in
+    front-shorter w i p k (ap (option_map (λ (x : Prefix). x.1)) (front-found i.prefixes ps (root_of i) p k h (omega (arith, m)) ∙ ap (λ n. at_path (λ (x : Prefix). x.0) ps (take n p)) (sym e)) ∙ f)
+    ∙ ap (front_value w i p) (let g : k ≡ suc k - 1 = omega arith in g)
+
+pub next-bound : (w : World) (i : Instance) (ps : List Prefix) (p : Path) (k : ℕ) (o : Option Entity) → is_of w i ≡ true → i.prefixes ≡ with_root (root_of i) ps → 0 < k → k ≤ length p → option_map (λ x. x.1) (at_path (λ x. x.0) ps (take (k - 1 + 1) p)) ≡ Some o → IfSome o (λ e. IsSet w.model e.set)
+next-bound w i ps p zero o r h l m f = absurd (omega (arith, l))
+next-bound w i ps p (suc k) o r h l m f =
+    let e : suc k - 1 + 1 ≡ suc k = omega arith in
+    bound-is_of w i (take (suc k) p) o r (ap (option_map (λ (x : Prefix). x.1)) (front-found i.prefixes ps (root_of i) p k h (omega (arith, m)) ∙ ap (λ n. at_path (λ (x : Prefix). x.0) ps (take n p)) (sym e)) ∙ f)
+
 -- the empty front alone
 pub front-root : (w : World) (i : Instance) (p : Path) → front_value w i p 0 ≡ option_and_then (value_behind w p) (root_of i)
 front-root w i p = go (at_path (λ x. x.0) i.prefixes [])
@@ -95,24 +116,18 @@ fronts-whole w i p = ap (λ cs. behind w (find_map (found i) cs)) (sym (splits-f
 
 -- ---- the entities on the way
 
--- one name further
-pub entity-step : (w : World) (p : Path) (k : ℕ) (n : Name) (e : Entity) → k < length p → n ≡ get_or p k n → entity_behind w (drop k p) e ≡ option_and_then (entity_behind w (drop (k + 1) p)) (named_reference w n e)
-entity-step w p k n e l h =
-    ap (λ q. entity_behind w q e) (drop-cons p k n l)
-    ∙ (λ i. option_and_then (entity_behind w (drop (sym add-one i) p)) (named_reference w (sym h i) e))
+longer-path : (w : World) (m : Name) (q : Path) (n : Name) (e : Entity) → value_behind w (m ∷ (q ++ n ∷ [])) e ≡ option_and_then (value_behind w (q ++ n ∷ [])) (named_reference w m e)
+longer-path w m [] n e = refl
+longer-path w m (l ∷ q) n e = refl
+
+behind-option : {X Y Z : Type 0} (f : X → Option Z) (g : X → Option Y) (h : Y → Option Z) → ((x : X) → f x ≡ option_and_then h (g x)) → (o : Option X) → option_and_then f o ≡ option_and_then h (option_and_then g o)
+behind-option f g h e None = refl
+behind-option f g h e (Some x) = e x
 
 -- a path leads to what its last name leads to from the entity that the others lead to
 pub value-last : (w : World) (p : Path) (n : Name) (e : Entity) → value_behind w (p ++ n ∷ []) e ≡ option_and_then (named_value w n) (entity_behind w p e)
 value-last w [] n e = refl
-value-last w (m ∷ p) n e = first p ∙ go (named_reference w m e)
-  where
-    first : (q : Path) → value_behind w (m ∷ (q ++ n ∷ [])) e ≡ option_and_then (value_behind w (q ++ n ∷ [])) (named_reference w m e)
-    first [] = refl
-    first (l ∷ q) = refl
-
-    go : (o : Option Entity) → option_and_then (value_behind w (p ++ n ∷ [])) o ≡ option_and_then (named_value w n) (option_and_then (entity_behind w p) o)
-    go None = refl
-    go (Some x) = value-last w p n x
+value-last w (m ∷ p) n e = longer-path w m p n e ∙ behind-option (value_behind w (p ++ n ∷ [])) (entity_behind w p) (named_value w n) (value-last w p n) (named_reference w m e)
 
 -- ---- navigation by name
 

@@ -237,6 +237,7 @@ fn scalars(text: &str) -> usize
 fn scalar_count(text: &str) -> i64
     ensures { result ≡ pos (length (chars text.now)) }
 {
-    let count = scalars(text);
-    if count <= text.len() { count as i64 } else { 0 }
+    let (count, bytes) = (scalars(text), text.len());
+    prove!(count <= bytes);
+    count as i64
 }
