@@ -1,2 +1,14 @@
+pub use Rattle.edm_values.specs.Lists
+pub use Rattle.edm_values.specs.Values
+pub use Rattle.edm_model.specs.LookUps
+pub use Rattle.edm_model.specs.Models
+pub use Rattle.edm_data.specs.References
+pub use Rattle.edm_data.specs.Worlds
+pub use Rattle.apply_ast.specs.Trees
+pub use Rattle.apply_ast.specs.Views
+pub use Rattle.context_typing.specs.Paths
 pub mod Aggregates
+pub mod Fronts
+pub mod Instances
+pub mod RowViews
 pub mod Sums

@@ -1,13 +1,29 @@
-//! What requests mean over the data: aggregates of the values of a property, and the counter of steps.
+//! What requests mean over the data: rows, the values of paths and expressions on them, aggregates, and the counter of
+//! steps.
 //!
-//! `first_sum` adds a numeric property over an entity set. The crate stands on `edm_values` for values and their
-//! ranges, on `edm_model` for sets and properties, and on `edm_data` for the entities. Its contract is the definition of
-//! the aggregate in `specs/`: it skips nulls, is null where no value is left, and tests the exact sum once against the
-//! range of the property's type. `Steps` counts the steps of a run; only `tick` changes the count, by one.
+//! A `Row` is an instance: entities at prefixes, and values at columns. `Row::make`, `Row::extend` and `Row::copy` are the
+//! only calls that give one, and each counts one step. `lookup` gives the value of a path on a row, and `eval` that of an
+//! expression; `operators` has the operators and functions. `first_sum` adds a numeric property over an entity set.
+//! `Steps` counts the steps of a run; only `tick` changes the count, by one. `docs/meaning.md` states the rules.
+//!
+//! The crate stands on `edm_values` for values, their arithmetic and their ranges, on `edm_model` for sets, properties and
+//! navigations, on `edm_data` for the entities, and on `apply_ast` for paths and expressions.
+//!
+//! It promises that a row is the instance that it was made of (`specs/Instances`, `specs/RowViews`), that `lookup` and
+//! `eval` are the definitions `lookup` and `val` on it, whatever the types of the expression's parts, and that `first_sum`
+//! is the aggregate of the property (`specs/Aggregates`, `specs/Sums`): nulls are skipped, and the exact sum is tested once
+//! against the range. `lookup`, `eval` and `first_sum` take no memory.
 #![tactic(auto)]
 
+mod evaluation;
+mod lookups;
+mod operators;
+mod rows;
 mod steps;
 mod sums;
 
+pub use evaluation::eval;
+pub use lookups::lookup;
+pub use rows::Row;
 pub use steps::Steps;
 pub use sums::first_sum;

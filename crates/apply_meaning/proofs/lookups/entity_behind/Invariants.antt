@@ -1,0 +1,7 @@
+use Rattle.std.proofs.Common.{◌≡◌, drop}
+use Rattle.edm_model.specs.LookUps.{IsSet}
+use Rattle.apply_meaning.specs.Fronts.{entity_behind}
+use Rattle.apply_meaning.proofs.lookups.entity_behind.Given as goal
+
+abbrev pub invariant-loop-name : goal.invariant-loop-name
+invariant-loop-name l = IsSet l.store.model l.at.set × (entity_behind l.store l.names l.fn.e ≡ entity_behind l.store (drop l.name-index l.names) l.at)
