@@ -10,7 +10,7 @@ use Rattle.edm_values.specs.Lists.{all_some, are_distinct, places}
 use Rattle.edm_values.specs.Names.{Name, Path}
 use Rattle.edm_values.proofs.OptionFacts.{none_or, some_value}
 use Rattle.edm_model.specs.Models.{Model, Part, Property, Custom as ModelCustom}
-use Rattle.edm_model.specs.LookUps.{customs_of_type, custom_named, property_on, IsType}
+use Rattle.edm_model.specs.LookUps.{customs_of_type, property_on, IsType}
 use Rattle.edm_model.specs.IdLists.{custom_list, custom_entry, customs_in}
 use Rattle.edm_model.specs.Soundness.{IsSound}
 use Rattle.edm_model.specs.declared.parts.Custom.{Custom}
@@ -18,7 +18,7 @@ use Rattle.edm_model.proofs.IdLaws.{places_within}
 use Rattle.apply_ast.specs.Views.{expr_of}
 use Rattle.context_typing.specs.Answers.{AnswersCustom, IfUntyped, IsEntry, custom_of, per_typed, reading_for}
 use Rattle.context_typing.specs.Readings.{IsTypedCustom, custom_typing, read_kind, reading_of}
-use Rattle.context_typing.specs.Typing.{Reading, custom_kind, custom_risky, key_column, path_kind, path_property, widened}
+use Rattle.context_typing.specs.Typing.{custom_kind, custom_risky, key_column, path_kind, path_property, widened}
 use Rattle.context_typing.specs.declared.customs.ReadCustom.{ReadCustom}
 use Rattle.context_typing.specs.declared.definitions.CustomRefused.{CustomRefused}
 use Rattle.context_typing.specs.declared.definitions.CustomRefused.TheVariants as custom

@@ -1,21 +1,19 @@
 -- The keys of a grouping, and the columns of those that have a typing.
-use Rattle.std.proofs.Common.{◌≡◌, refl, sym, ◌∙◌, ap, ℕ, zero, suc, ◌+◌, ◌<◌, ◌≤◌, Bool, true, false, not, ◌&&◌, ◌||◌, List, [], ◌∷◌, ◌++◌, Option, Some, None, map, take, drop, length, get_or, arith}
-use Rattle.std.specs.Prelude.{option_and_then, option_map, is_some, nat_le, position, if◌then◌else◌}
+use Rattle.std.proofs.Common.{◌≡◌, refl, sym, ◌∙◌, ap, ℕ, ◌+◌, ◌<◌, Bool, true, false, not, ◌&&◌, ◌||◌, List, [], ◌∷◌, ◌++◌, Option, Some, None, map, take, drop, length, get_or, arith}
+use Rattle.std.specs.Prelude.{option_and_then, option_map, is_some, nat_le, if◌then◌else◌}
 use Rattle.std.specs.Bool.{then_some}
 use Rattle.std.specs.List.{list_any, list_all}
 use Rattle.std.proofs.lemmas.Bool.{lt-leb}
 use Rattle.std.proofs.lemmas.List.{map-append, take-append-drop, drop_more, take_more, append-nil}
 use Rattle.std.proofs.lemmas.List.Folds.{list_all-append}
-use Rattle.std.proofs.lemmas.List.Quantifiers.{position-Some}
 use Rattle.edm_values.specs.declared.EdmType.{EdmType}
 use Rattle.edm_values.specs.Lists.{all_some, are_distinct, is_nonempty}
 use Rattle.edm_values.specs.Names.{Path}
-use Rattle.edm_values.proofs.OptionFacts.{some_value, none_or}
 use Rattle.edm_model.specs.Models.{Model}
-use Rattle.edm_model.proofs.Mapped.{list_any-map, map_mapped}
+use Rattle.edm_model.proofs.Mapped.{list_any-map}
 use Rattle.apply_ast.specs.Trees.{Key, Keys}
 use Rattle.apply_ast.specs.Views.{keys_from}
-use Rattle.context_typing.specs.Grouping.{typed_key, level_columns, node_columns, rollup_key_columns, part_columns, typed_columns, is_rollup_key, is_recursive_key, may_stand, plain_of, part_of}
+use Rattle.context_typing.specs.Grouping.{typed_key, level_columns, rollup_key_columns, part_columns, typed_columns, is_rollup_key, is_recursive_key, may_stand, plain_of, part_of}
 use Rattle.context_typing.specs.Paths.{same_path, is_prefix}
 use Rattle.context_typing.specs.Shapes.{Shape, ColumnShape}
 use Rattle.context_typing.specs.Typing.{GroupKeys, RollupPart, group_keys, grouped_shape, is_nodes, key_column, key_columns, key_paths, overlaps, path_kind, plain_paths, rollup_columns, rollup_part, rollup_parts, rollup_paths, all_prefixes}

@@ -11,7 +11,7 @@ use Rattle.edm_values.specs.declared.EdmType.{EdmType}
 use Rattle.edm_values.specs.Literals.{same_kind}
 use Rattle.edm_model.specs.LookUps.{HierarchyPlace}
 use Rattle.context_typing.specs.Steps.{nodes_at}
-use Rattle.apply_ast.specs.Trees.{AggItem, HierName, Key, Keys, OrderItem, is_distance, TraverseStep, Named, OptPipe, Pipe, Pipes, Step, is_long, pipe}
+use Rattle.apply_ast.specs.Trees.{AggItem, HierName, Key, Keys, OrderItem, is_distance, TraverseStep, Named, OptPipe, Pipe, Pipes, Step, is_long}
 use Rattle.context_typing.specs.Outcomes.{Outcome, outcome, step_outcome, steps_outcome, inner_outcome, key_outcome, keys_outcome, branches_outcome}
 use Rattle.std.specs.List.{list_all}
 use Rattle.edm_model.specs.Soundness.{IsSound}

@@ -1,21 +1,21 @@
 -- Columns in ascending order of their paths: what a search finds, and what one column more changes.
-use Rattle.std.proofs.Common.{◌≡◌, refl, sym, ◌∙◌, ap, subst, ℕ, zero, suc, ◌+◌, ◌-◌, ◌<◌, ◌≤◌, Bool, true, false, not, cond, ◌&&◌, ◌||◌, List, [], ◌∷◌, ◌++◌, Option, Some, None, map, take, drop, length, get_or, inl, inr, ◌⊎◌, arith}
-use Rattle.std.specs.Prelude.{All, find, option_map, is_some, is_none, nat_lt, ◌==◌}
-use Rattle.std.specs.List.{list_any, list_all, insert, AllByRecursion}
+use Rattle.std.proofs.Common.{◌≡◌, refl, sym, ◌∙◌, ap, subst, ℕ, zero, suc, ◌+◌, ◌<◌, ◌≤◌, Bool, true, false, not, cond, ◌&&◌, ◌||◌, List, [], ◌∷◌, ◌++◌, Option, Some, None, map, take, drop, length, get_or, inl, inr, ◌⊎◌, arith}
+use Rattle.std.specs.Prelude.{All, find, is_some, ◌==◌}
+use Rattle.std.specs.List.{list_any, insert}
 use Rattle.std.specs.List.Sorted.{IsStrictlySortedBy}
 use Rattle.std.specs.Cmp.{IsTotalOrder}
-use Rattle.std.specs.Cmp.Lexicographic.{pointwise, slice_cmp}
+use Rattle.std.specs.Cmp.Lexicographic.{slice_cmp}
 use Rattle.std.specs.Option.{option_or, option_copied}
 use denote.Ref.{Bor}
 use Rattle.std.specs.Ordering.{nat_cmp, is_eq, is_lt, is_gt, ordering_reverse, ordering_then}
 use Rattle.std.specs.declared.cmp.Ordering.{Ordering}
 use Rattle.std.specs.declared.cmp.Ordering.TheVariants.{Less, Equal, Greater}
-use Rattle.std.proofs.lemmas.Bool.{and_parts, and_from, and_left, both_ways, cases_Bool, cases_lt, cases_eq, false_from_ne_true, or_cases, or_parts, or_left, or_right, not_from_true, not_from_false, eq-eqb, eqb-true, ne_eqb}
-use Rattle.std.proofs.lemmas.Cmp.{nat_list_cmp_total, lists_total, tied_itself, tied_back, alike_right, upto}
-use Rattle.std.proofs.lemmas.List.{get_or-map, length-map, length-append, length_push, map-append, take-map, drop-map, take-append-drop, drop_all, drop_more, get_or_append_left, get_or_push, get_or_read}
+use Rattle.std.proofs.lemmas.Bool.{and_parts, and_from, both_ways, cases_lt, false_from_ne_true, or_left, or_right, eq-eqb, eqb-true, ne_eqb}
+use Rattle.std.proofs.lemmas.Cmp.{nat_list_cmp_total, lists_total, tied_itself, tied_back}
+use Rattle.std.proofs.lemmas.List.{get_or-map, length-map, length_push, map-append, take-map, drop-map, take-append-drop, drop_all, drop_more, get_or_append_left, get_or_push, get_or_read}
 use Rattle.std.proofs.lemmas.List.Edits.{length-insert}
 use Rattle.std.proofs.lemmas.List.Elements.{All-append, All-cons, All-drop, All-get_or, All-take, All-weaker, All-head, All-tail, All-from_get_or, All-from_recursion, recursion_from_All}
-use Rattle.std.proofs.lemmas.List.Folds.{find-append, list_any-append, list_all-append}
+use Rattle.std.proofs.lemmas.List.Folds.{find-append, list_any-append}
 use Rattle.std.proofs.lemmas.Map.Keys.{Less-from_sorted}
 use Rattle.std.proofs.lemmas.Map.Text.{is_eq-slice_cmp}
 use Rattle.edm_values.specs.Lists.{same_text, are_distinct}

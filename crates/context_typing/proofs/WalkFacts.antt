@@ -1,8 +1,8 @@
 -- The steps of a pipeline, one after another.
 use Rattle.std.proofs.Common.{◌≡◌, refl, sym, ◌∙◌, ap, ℕ, zero, suc, ◌+◌, ◌-◌, ◌<◌, ◌≤◌, Bool, true, false, ◌&&◌, List, [], ◌∷◌, ◌++◌, Option, Some, None, map, take, drop, length, get_or, arith, add-one}
-use Rattle.std.specs.Prelude.{option_and_then, option_map, is_some, is_none, unwrap_or, IsTrue}
+use Rattle.std.specs.Prelude.{option_and_then, is_some, is_none, unwrap_or}
 use Rattle.std.proofs.lemmas.List.{map-append, take-append-drop, take-map, take_all}
-use Rattle.edm_values.proofs.OptionFacts.{chained, mapped, some_value, none_or}
+use Rattle.edm_values.proofs.OptionFacts.{chained, some_value, none_or}
 use Rattle.edm_model.specs.Models.{Model}
 use Rattle.apply_ast.specs.Trees.{Pipe, Step, steps, pipe, is_long}
 use Rattle.context_typing.specs.Outcomes.{Outcome, outcome, step_outcome, steps_outcome}

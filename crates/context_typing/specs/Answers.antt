@@ -1,5 +1,5 @@
 -- What the calls of typing answer.
-use Rattle.std.specs.Prelude.{◌≡◌, ℕ, ◌&&◌, Bool, List, Option, Some, None, find, map, option_map, slice_get, is_some, is_none, Result, Ok, Err, ⊤}
+use Rattle.std.specs.Prelude.{◌≡◌, ℕ, ◌&&◌, Bool, List, Some, None, slice_get, is_some, Result, Ok, Err, ⊤}
 use Rattle.std.specs.List.{list_all}
 use Rattle.edm_values.specs.Lists.{are_distinct}
 use Rattle.edm_values.specs.Names.{Path}
@@ -7,11 +7,10 @@ use Rattle.edm_model.specs.Models.{Model, Part}
 use Rattle.edm_model.specs.Models as seen
 use Rattle.edm_model.specs.LookUps.{IsType, custom_named, customs_of_type, property_on}
 use Rattle.edm_model.specs.declared.parts.Custom.{Custom}
-use Rattle.apply_ast.specs.Trees.{Pipe}
 use Rattle.apply_ast.specs.Views.{expr_of, pipe_of}
 use Rattle.context_typing.specs.Paths.{same_path}
-use Rattle.context_typing.specs.Typing.{Customs, Reading, Types, IsUntypedAt, shape_of_set}
-use Rattle.context_typing.specs.Readings.{AreTypedOver, IsTypedCustom, read_kind}
+use Rattle.context_typing.specs.Typing.{Customs, Reading, Types, shape_of_set}
+use Rattle.context_typing.specs.Readings.{IsTypedCustom, read_kind}
 use Rattle.context_typing.specs.declared.customs.ReadCustom.{ReadCustom}
 use Rattle.context_typing.specs.declared.customs.TypedCustom.{TypedCustom}
 use Rattle.context_typing.specs.declared.typed.Typed.{Typed}

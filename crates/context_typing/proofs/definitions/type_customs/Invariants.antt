@@ -1,4 +1,4 @@
-use Rattle.std.proofs.Common.{◌≡◌, ◌≤◌, Some, All, map, take, length}
+use Rattle.std.proofs.Common.{◌≡◌, Some, All, map, take, length}
 use Rattle.context_typing.specs.Readings.{IsTypedCustom, read_kind}
 use Rattle.context_typing.proofs.definitions.type_customs.Given as goal
 

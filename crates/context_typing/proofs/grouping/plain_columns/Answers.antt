@@ -1,4 +1,4 @@
-use Rattle.std.proofs.Common.{◌≡◌, ◌∙◌, ◌<◌, Some, [], false, ap, sym, length, get_or, arith}
+use Rattle.std.proofs.Common.{◌∙◌, ◌<◌, Some, false, ap, sym, length, arith}
 use Rattle.apply_ast.specs.Views.{key_of}
 use Rattle.apply_ast.proofs.ViewEquations.{key_of-Plain, key_of-Rollup, key_of-Recursive}
 use Rattle.context_typing.specs.Grouping.{plain_of, typed_key}

@@ -1,4 +1,4 @@
-use Rattle.std.proofs.Common.{◌≡◌, ◌+◌, ◌-◌, ◌/◌, ◌<◌, length, refl, sym, ◌∙◌, ap, arith}
+use Rattle.std.proofs.Common.{◌+◌, ◌-◌, ◌/◌, length, refl, sym, ◌∙◌, ap, arith}
 use Rattle.std.specs.Ordering.{is_lt}
 use Rattle.context_typing.proofs.PathOrders.{read-start, read-less, read-more, read-end}
 use Rattle.context_typing.proofs.orders.places_before.Goals as goal

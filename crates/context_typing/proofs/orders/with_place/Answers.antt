@@ -1,4 +1,4 @@
-use Rattle.std.proofs.Common.{◌≡◌, ◌∙◌, ◌<◌, ◌++◌, ◌∷◌, [], ap, sym, subst, length, arith}
+use Rattle.std.proofs.Common.{◌∙◌, ◌<◌, ◌++◌, ◌∷◌, [], ap, sym, subst, length, arith}
 use Rattle.std.proofs.lemmas.List.{get_or_read}
 use Rattle.context_typing.specs.Orders.{IsOrder}
 use Rattle.context_typing.specs.Paths.{same_path}

@@ -1,4 +1,4 @@
-use Rattle.std.proofs.Common.{◌≡◌, ◌∙◌, ◌<◌, ap, sym, get_or, length, arith}
+use Rattle.std.proofs.Common.{◌∙◌, ap, sym, get_or, length, arith}
 use Rattle.context_typing.specs.Paths.{same_path}
 use Rattle.context_typing.proofs.PathOrders.{found-near}
 use Rattle.context_typing.proofs.columns.ColumnList.find_near.Goals as goal
