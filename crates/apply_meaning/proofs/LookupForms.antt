@@ -1,5 +1,5 @@
 -- Look-ups as the program makes them: by the fronts of a path, by the entities on the way, and by names of navigations.
-use Rattle.std.proofs.Common.{◌≡◌, ℕ, zero, suc, ◌+◌, ◌-◌, ◌<◌, ◌≤◌, length, take, drop, refl, sym, ◌∙◌, ap, Bool, true, false, List, [], ◌∷◌, ◌++◌, Option, Some, None, IsTrue, arith, map, inl, inr}
+use Rattle.std.proofs.Common.{◌≡◌, ℕ, zero, suc, ◌+◌, ◌-◌, ◌<◌, ◌≤◌, length, take, drop, refl, sym, ◌∙◌, ap, Bool, true, false, List, [], ◌∷◌, ◌++◌, Option, Some, None, arith, map, inl, inr}
 use Rattle.std.specs.Prelude.{option_map, option_and_then, unwrap_or, slice_get, is_some, find, if◌then◌else◌, IfSome}
 use Rattle.std.specs.List.{enumerate_from}
 use Rattle.edm_values.specs.declared.Value.{Value}

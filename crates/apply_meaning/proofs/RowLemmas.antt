@@ -1,6 +1,6 @@
 -- The entity at the empty prefix of a row, and what stands at the others.
-use Rattle.std.proofs.Common.{◌≡◌, ℕ, zero, suc, ◌<◌, length, take, refl, sym, ◌∙◌, ap, Bool, true, false, List, [], ◌∷◌, Option, Some, None, arith}
-use Rattle.std.specs.Prelude.{option_map, option_and_then, find, if◌then◌else◌}
+use Rattle.std.proofs.Common.{◌≡◌, ℕ, suc, ◌<◌, length, take, refl, sym, ◌∙◌, ap, true, false, List, [], ◌∷◌, Option, Some, None, arith}
+use Rattle.std.specs.Prelude.{option_and_then, find, if◌then◌else◌}
 use Rattle.std.proofs.lemmas.Bool.{and_parts}
 use Rattle.edm_values.specs.Lists.{is_nonempty}
 use Rattle.edm_values.specs.Names.{Name, Path}

@@ -1,4 +1,4 @@
-use Rattle.std.proofs.Common.{◌≡◌, ◌∙◌, ap, sym, subst, Some, drop, length, ◌-◌, ◌+◌, arith}
+use Rattle.std.proofs.Common.{◌≡◌, ◌∙◌, ap, sym, subst, drop, length, ◌-◌, ◌+◌, arith}
 use Rattle.std.specs.Prelude.{option_and_then, unwrap_or, IfSome}
 use Rattle.std.proofs.lemmas.List.{take_all, length-drop}
 use Rattle.edm_values.specs.declared.Value.{Value}
