@@ -1,5 +1,28 @@
+pub mod AggregateLemmas
+pub mod AggregateOrders
+pub mod AggregatedFit
+pub mod ExprLemmas
+pub mod FitLemmas
+pub mod FitMore
+pub mod GroupFit
+pub mod InstanceOrders
 mod InstanceRows
+pub mod JoinedFit
+pub mod LoadedWorlds
 pub mod LookupForms
+pub mod LookupLemmas
+pub mod MeanLaw
+pub mod MeanLemmas
+pub mod MeaningEquations
+pub mod MeaningProved
+mod MeaningRows
+pub mod MergedFit
+pub mod NodeLemmas
+mod NodeRows
 pub mod PlaceLemmas
+pub mod QuietLemmas
+pub mod RootLemmas
 pub mod RowLemmas
 pub mod SumLaws
+pub mod SureLemmas
+pub mod WellTyped

@@ -7,15 +7,21 @@
 //! `Steps` counts the steps of a run; only `tick` changes the count, by one. `docs/meaning.md` states the rules.
 //!
 //! The crate stands on `edm_values` for values, their arithmetic and their ranges, on `edm_model` for sets, properties and
-//! navigations, on `edm_data` for the entities, and on `apply_ast` for paths and expressions.
+//! navigations, on `edm_data` for the entities, on `apply_ast` for paths, expressions and pipelines, and on
+//! `context_typing` for shapes.
 //!
 //! It promises that a row is the instance that it was made of (`specs/Instances`, `specs/RowViews`), that `lookup` and
 //! `eval` are the definitions `lookup` and `val` on it, whatever the types of the expression's parts, and that `first_sum`
 //! is the aggregate of the property (`specs/Aggregates`, `specs/Sums`): nulls are skipped, and the exact sum is tested once
 //! against the range. `lookup`, `eval` and `first_sum` take no memory.
+//!
+//! `specs/Meaning` says what each pipeline makes of a list of instances, and `laws` has the laws of these definitions: on
+//! instances that fit a shape, values have their types, sure expressions are never `Beyond`, what a typed pipeline gives
+//! fits its shape, and a quiet one is never refused. No call runs a pipeline yet.
 #![tactic(auto)]
 
 mod evaluation;
+mod laws;
 mod lookups;
 mod operators;
 mod rows;
@@ -23,6 +29,10 @@ mod steps;
 mod sums;
 
 pub use evaluation::eval;
+pub use laws::{
+    meanings_fit, node_rows_fit, quiet_is_not_refused, related_rows_fit, set_rows_fit,
+    sure_values_are_in_range, values_fit,
+};
 pub use lookups::lookup;
 pub use rows::Row;
 pub use steps::Steps;

@@ -1,0 +1,5 @@
+use Rattle.apply_meaning.proofs.MeaningProved.{loaded-mean_fits}
+use Rattle.apply_meaning.proofs.laws.meanings_fit.Goals as goal
+
+pub returns : goal.returns
+returns c = loaded-mean_fits
