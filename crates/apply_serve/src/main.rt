@@ -29,14 +29,17 @@ use std::thread::Threads;
 use std::{env, io};
 
 pub mod built;
+mod customs;
 mod file;
 mod input;
 mod lines;
 mod load;
+mod output;
 mod refusals;
 mod replies;
 mod responses;
 pub mod service;
+mod store;
 mod sum;
 #[cfg(test)]
 mod tests;

@@ -9,4 +9,4 @@ returns-in-Ok-read_data-clause-ok g c =
 
 pub returns-in-Ok-data_line-clause-stop : goal.returns-in-Ok-data_line-clause-stop
 returns-in-Ok-data_line-clause-stop g c =
-    RefusesData-read c.args.limit _ _ _ _ _ _ c.requires.limit c.in-Ok-read_file.ensures.bytes refl (line_told c.args.model _ c.in-Err.refused _ _ c.in-Ok.ensures (rw c.as_slice-in-Err.ensures.value at c.in-Ok-data_line.ensures) (rw c.as_slice.ensures.value at (tells c.in-Err.refused _ (λ h. c.in-Err.ensures.too_long (ap Err h)) (λ h. c.in-Err.ensures.json (ap Err h)) (λ name h. c.in-Err.ensures.set name (ap Err h)) (λ s k h. c.in-Err.ensures.shape s k (ap Err h)) (λ s k h. c.in-Err.ensures.twice_key s k (ap Err h)) (λ s k h. c.in-Err.ensures.dangling s k (ap Err h)))))
+    RefusesData-read c.args.limit _ _ _ _ _ _ c.requires.limit c.in-Ok-read_file.ensures.bytes refl (λ customs. line_told c.args.model customs _ c.in-Err.refused _ _ c.in-Ok.ensures (rw c.as_slice-in-Err.ensures.value at c.in-Ok-data_line.ensures) (rw c.as_slice.ensures.value at (tells c.in-Err.refused _ (λ h. c.in-Err.ensures.too_long (ap Err h)) (λ h. c.in-Err.ensures.json (ap Err h)) (λ name h. c.in-Err.ensures.set name (ap Err h)) (λ s k h. c.in-Err.ensures.shape s k (ap Err h)) (λ s k h. c.in-Err.ensures.twice_key s k (ap Err h)) (λ s k h. c.in-Err.ensures.dangling s k (ap Err h)))))

@@ -39,7 +39,8 @@ returns-in-Err-Fault-read_input g c =
 pub returns-in-Err-Limit : goal.returns-in-Err-Limit
 returns-in-Err-Limit g c =
     overrun_says _ _ _ _ _ _ (sym c.in-Some.ensures) refl (record {
-      world = c.in-Ok-load.store;
+      world = c.in-Ok-load.store.world;
+      customs = c.in-Ok-load.store.customs;
       loaded = HasOutcome-files _ _ _ _ (sym c.in-Some.ensures) c.in-Ok-load.ensures.ok;
       taken = rw c.requires at (c.in-Err-Limit.ensures.limit (ap Err c.in-Err-Limit.field-0-is));
     }) refl
@@ -50,7 +51,8 @@ returns-in-Err-Memory-read_input g c = memory_says _ _ _ _ _ _ (sym c.in-Some.en
 pub returns-in-Ok-answer_lines : goal.returns-in-Ok-answer_lines
 returns-in-Ok-answer_lines g c =
     served_says _ _ _ _ _ _ (sym c.in-Some.ensures) refl (record {
-      world = c.in-Ok-load.store;
+      world = c.in-Ok-load.store.world;
+      customs = c.in-Ok-load.store.customs;
       loaded = HasOutcome-files _ _ _ _ (sym c.in-Some.ensures) c.in-Ok-load.ensures.ok;
       bytes = c.in-Ok-read_input.bytes.items;
       taken = rw c.requires at c.in-Ok-read_input.ensures.ok;

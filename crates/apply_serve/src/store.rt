@@ -1,0 +1,60 @@
+//! What requests are answered over.
+ghost use Rattle.std.specs.Prelude.{◌≡◌};
+ghost use Rattle.context_typing.specs.Readings.{readings, AreTypedOver};
+
+use context_typing::Customs;
+use edm_data::Data;
+use std::marker::Model;
+
+/// Loaded data, with the custom aggregates of its model.
+#[derive(Drop)]
+pub struct Store {
+    data: Data,
+    customs: Customs,
+}
+
+impl Model for Store {
+    ghost use Rattle.context_typing.specs.Readings.{readings, AreTypedOver};
+    ghost use Rattle.apply_serve.specs.Stores as seen;
+
+    ghost Value = { seen.Store };
+
+    ghost view = { λ s. record { world = s.data; customs = readings s.customs } };
+
+    ghost invariant = { λ s. AreTypedOver s.data.model s.customs };
+}
+
+impl Store {
+    /// The data with the custom aggregates of its model.
+    pub fn new(loaded: Data, customs: Customs) -> Store
+        requires { AreTypedOver data.model customs }
+        ensures { result ≡ record { world = data; customs = readings customs } }
+    {
+        Store {
+            data: loaded,
+            customs,
+        }
+    }
+
+    /// The data.
+    pub fn data(&self) -> &Data
+        ensures { result.now ≡ self.now.world }
+    {
+        &self.data
+    }
+
+    /// The model.
+    pub fn model(&self) -> &edm_model::Model
+        ensures { result.now ≡ self.now.world.model }
+    {
+        self.data.model()
+    }
+
+    /// The custom aggregates of the model.
+    pub fn customs(&self) -> &Customs
+        ensures readings { readings result.now ≡ self.now.customs }
+        ensures typed { AreTypedOver self.now.world.model result.now }
+    {
+        &self.customs
+    }
+}
