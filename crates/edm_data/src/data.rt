@@ -42,8 +42,10 @@ impl Data {
         ensures sound { OnOk result (references_reading keyed ≡ World' keyed) }
         ensures refused { IfErr result (λ refused. Tells refused (references_reading keyed)) }
     {
-        let relations = all_relations(alloc, &keyed)?;
-        Ok(Data { keyed, relations })
+        match all_relations(alloc, &keyed) {
+            Ok(relations) => Ok(Data { keyed, relations }),
+            Err(refused) => Err(refused),
+        }
     }
 
     /// The model.

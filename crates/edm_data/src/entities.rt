@@ -25,16 +25,6 @@ pub(crate) enum RowsRefused {
     Memory,
 }
 
-impl From<AllocError> for RowsRefused {
-    ghost use Rattle.edm_data.specs.declared.entities.RowsRefused.TheVariants.{Memory};
-
-    ghost from_gives = { λ _ e. e ≡ Memory };
-
-    fn from(_: AllocError) -> RowsRefused {
-        RowsRefused::Memory
-    }
-}
-
 /// The value that an entity gives a property, where it is one of the property; an absent member counts as null.
 fn property_value<'a>(
     alloc: Global,
@@ -147,12 +137,20 @@ pub(crate) fn set_rows(
     ensures ok { IfOk result (λ rows. rows_read rows ≡ map (λ x. file.entity_of (properties_of model.now t) (view x)) items.now) }
     ensures shape { (k : ℕ) → result ≡ Err (RowsRefused.Shape k) → IsFirstNone (map (λ x. file.entity_of (properties_of model.now t) (view x)) items.now) k }
 {
-    let mut rows = empty_table(alloc, model, t)?;
+    let Ok(mut rows) = empty_table(alloc, model, t) else {
+        return Err(RowsRefused::Memory);
+    };
     for (k, item) in items.iter().enumerate() {
-        let Some(values) = entity(alloc, model, t, item)? else {
+        let Ok(found) = entity(alloc, model, t, item) else {
+            return Err(RowsRefused::Memory);
+        };
+        let Some(values) = found else {
             return Err(RowsRefused::Shape(k as u32));
         };
-        rows = rows.push(alloc, values.as_slice())?;
+        rows = match rows.push(alloc, values.as_slice()) {
+            Ok(rows) => rows,
+            Err(_) => return Err(RowsRefused::Memory),
+        };
     }
     Ok(rows)
 }

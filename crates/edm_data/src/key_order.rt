@@ -4,7 +4,7 @@ ghost use Rattle.std.specs.List.Sorted.{IsStrictlySortedBy};
 ghost use Rattle.edm_values.specs.Lists.{places};
 ghost use Rattle.edm_data.specs.KeyOrders.{AreDistinct, IsFirstTwice, IsKeyOrder};
 
-use std::alloc::{AllocError, AllocFailed, Global};
+use std::alloc::{AllocError, Global};
 use std::collections::BTreeMap;
 
 /// Why keys have no order of their own: the key at this place stands earlier.
@@ -12,26 +12,6 @@ use std::collections::BTreeMap;
 pub(crate) enum KeysRefused {
     Twice(u32),
     Memory,
-}
-
-impl<T: Drop> From<AllocFailed<T>> for KeysRefused {
-    ghost use Rattle.edm_data.specs.declared.key_order.KeysRefused.TheVariants.{Memory};
-
-    ghost from_gives = { λ _ e. e ≡ Memory };
-
-    fn from(_: AllocFailed<T>) -> KeysRefused {
-        KeysRefused::Memory
-    }
-}
-
-impl From<AllocError> for KeysRefused {
-    ghost use Rattle.edm_data.specs.declared.key_order.KeysRefused.TheVariants.{Memory};
-
-    ghost from_gives = { λ _ e. e ≡ Memory };
-
-    fn from(_: AllocError) -> KeysRefused {
-        KeysRefused::Memory
-    }
 }
 
 /// Whether each key is above the one before it.
@@ -67,11 +47,16 @@ fn sorted_places<K: Ord + Copy + Drop>(alloc: Global, keys: &[K]) -> Result<Vec<
 {
     let mut places = BTreeMap::new(alloc);
     for (k, key) in keys.iter().enumerate() {
-        if let Some(_) = places.insert(*key, k as u32)? {
-            return Err(KeysRefused::Twice(k as u32));
+        match places.insert(*key, k as u32) {
+            Ok(None) => {}
+            Ok(Some(_)) => return Err(KeysRefused::Twice(k as u32)),
+            Err(_) => return Err(KeysRefused::Memory),
         }
     }
-    Ok(places.values().copied().collect(alloc)?)
+    match places.values().copied().collect(alloc) {
+        Ok(order) => Ok(order),
+        Err(_) => Err(KeysRefused::Memory),
+    }
 }
 
 /// The places of the keys in the order of the keys, which keys that rise have already.
@@ -87,5 +72,8 @@ pub(crate) fn key_order<K: Ord + Copy + Drop>(
     if !rise(keys) {
         return sorted_places(alloc, keys);
     }
-    Ok(first_places(alloc, keys.len() as u32)?)
+    match first_places(alloc, keys.len() as u32) {
+        Ok(order) => Ok(order),
+        Err(_) => Err(KeysRefused::Memory),
+    }
 }

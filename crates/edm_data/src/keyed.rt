@@ -41,8 +41,10 @@ impl Keyed {
         ensures distinct { OnOk result (keys_reading tables ≡ World' tables) }
         ensures refused { IfErr result (λ refused. Tells refused (keys_reading tables)) }
     {
-        let orders = key_orders(alloc, &tables)?;
-        Ok(Keyed { tables, orders })
+        match key_orders(alloc, &tables) {
+            Ok(orders) => Ok(Keyed { tables, orders }),
+            Err(refused) => Err(refused),
+        }
     }
 
     /// The tables.
@@ -83,8 +85,10 @@ fn set_order(alloc: Global, tables: &Tables, s: SetId) -> Result<Vec<u32>, KeysR
     ensures distinct { OnOk result (AreDistinct value_cmp (world.keys_of tables.now s)) }
     ensures twice { (k : ℕ) → result ≡ Err (KeysRefused.Twice k) → IsFirstTwice value_cmp (world.keys_of tables.now s) k }
 {
-    let keys = tables.keys(alloc, s)?;
-    key_order(alloc, keys.as_slice())
+    match tables.keys(alloc, s) {
+        Ok(keys) => key_order(alloc, keys.as_slice()),
+        Err(_) => Err(KeysRefused::Memory),
+    }
 }
 
 /// The refusal of a data file for the keys of a set.
@@ -107,7 +111,10 @@ fn key_orders(alloc: Global, tables: &Tables) -> Result<Vec<Vec<u32>>, DataRefus
     let mut orders = Vec::new(alloc);
     for set in tables.model().sets() {
         match set_order(alloc, tables, *set) {
-            Ok(order) => orders.push(order)?,
+            Ok(order) => match orders.push(order) {
+                Ok(()) => {}
+                Err(_) => return Err(DataRefused::Memory),
+            },
             Err(refused) => return Err(refused_in(*set, refused)),
         }
     }

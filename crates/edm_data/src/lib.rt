@@ -29,13 +29,10 @@ mod tables;
 mod texts;
 mod values;
 
-ghost use Rattle.std.specs.Prelude.{◌≡◌};
-
 pub use data::Data;
 use edm_model::SetId;
 use edm_values::Text;
 pub use load::{DATA_LIMIT, read_data};
-use std::alloc::{AllocError, AllocFailed};
 use std::marker::Model;
 use thiserror::Error;
 
@@ -81,24 +78,4 @@ pub enum DataRefused {
     /// Memory ran out, which says nothing of the file.
     #[error("out of memory")]
     Memory,
-}
-
-impl<T: Drop> From<AllocFailed<T>> for DataRefused {
-    ghost use Rattle.edm_data.specs.declared.DataRefused.TheVariants.{Memory};
-
-    ghost from_gives = { λ _ e. e ≡ Memory };
-
-    fn from(_: AllocFailed<T>) -> DataRefused {
-        DataRefused::Memory
-    }
-}
-
-impl From<AllocError> for DataRefused {
-    ghost use Rattle.edm_data.specs.declared.DataRefused.TheVariants.{Memory};
-
-    ghost from_gives = { λ _ e. e ≡ Memory };
-
-    fn from(_: AllocError) -> DataRefused {
-        DataRefused::Memory
-    }
 }

@@ -60,7 +60,10 @@ fn all_rows(alloc: Global, model: &Model, root: &Json) -> Result<Vec<Table>, Dat
     let mut sets = Vec::new(alloc);
     for set in model.sets() {
         match set_table(alloc, model, *set, root) {
-            Ok(rows) => sets.push(rows)?,
+            Ok(rows) => match sets.push(rows) {
+                Ok(()) => {}
+                Err(_) => return Err(DataRefused::Memory),
+            },
             Err(refused) => return Err(refused_in(*set, refused)),
         }
     }
@@ -91,8 +94,10 @@ fn read_tables(alloc: Global, model: Model, root: &Json) -> Result<Tables, DataR
     if let Some(name) = first_other_member(&model, members) {
         return Err(other_member(name));
     }
-    let sets = all_rows(alloc, &model, root)?;
-    Ok(Tables::new(model, sets))
+    match all_rows(alloc, &model, root) {
+        Ok(sets) => Ok(Tables::new(model, sets)),
+        Err(refused) => Err(refused),
+    }
 }
 
 /// The tables of a file. Its JSON tree is given up before the keys are looked at.
@@ -120,9 +125,21 @@ fn load(alloc: Global, model: Model, bytes: &[u8]) -> Result<Data, DataRefused>
     ensures ok { IfOk result (λ d. file.data_reading model bytes.now ≡ file.World' d) }
     ensures refused { IfErr result (λ refused. Tells refused (file.data_reading model bytes.now)) }
 {
-    let tables = read_entities(alloc, model, bytes)?.packed(alloc)?;
-    let keyed = Keyed::new(alloc, tables)?;
-    Data::new(alloc, keyed)
+    let tables = match read_entities(alloc, model, bytes) {
+        Ok(tables) => tables,
+        Err(refused) => return Err(refused),
+    };
+    let Ok(tables) = tables.packed(alloc) else {
+        return Err(DataRefused::Memory);
+    };
+    let keyed = match Keyed::new(alloc, tables) {
+        Ok(keyed) => keyed,
+        Err(refused) => return Err(refused),
+    };
+    match Data::new(alloc, keyed) {
+        Ok(loaded) => Ok(loaded),
+        Err(refused) => Err(refused),
+    }
 }
 
 /// Reads a data file over a model, which is given up on a refusal. The classes of refusals come in the order of

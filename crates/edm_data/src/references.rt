@@ -23,16 +23,6 @@ enum LinksRefused {
     Memory,
 }
 
-impl From<AllocError> for LinksRefused {
-    ghost use Rattle.edm_data.specs.declared.references.LinksRefused.TheVariants.{Memory};
-
-    ghost from_gives = { λ _ e. e ≡ Memory };
-
-    fn from(_: AllocError) -> LinksRefused {
-        LinksRefused::Memory
-    }
-}
-
 /// The key that an entity refers to is not there.
 #[derive(Clone, Copy, Debug, Drop)]
 struct Missing;
@@ -78,7 +68,10 @@ fn property_links(
     let mut links = Links::new(alloc);
     for at in 0..keyed.tables().count(s) {
         match resolve(keyed, EntityRef { set: s, at }, property, target) {
-            Ok(to) => links.push(to)?,
+            Ok(to) => match links.push(to) {
+                Ok(()) => {}
+                Err(_) => return Err(LinksRefused::Memory),
+            },
             Err(Missing) => return Err(LinksRefused::Dangling(at)),
         }
     }
@@ -146,8 +139,10 @@ fn set_relations(alloc: Global, keyed: &Keyed, s: SetId) -> Result<Relations, Li
     let mut relations = Relations::new(alloc);
     let mut first = None;
     for n in keyed.tables().navs(s) {
-        let found = add_relation(alloc, keyed, s, *n, &mut relations)?;
-        first = earlier(first, found);
+        match add_relation(alloc, keyed, s, *n, &mut relations) {
+            Ok(found) => first = earlier(first, found),
+            Err(_) => return Err(LinksRefused::Memory),
+        }
     }
     match first {
         None => Ok(relations),
@@ -175,7 +170,10 @@ pub(crate) fn all_relations(alloc: Global, keyed: &Keyed) -> Result<Vec<Relation
     let mut sets = Vec::new(alloc);
     for set in keyed.tables().model().sets() {
         match set_relations(alloc, keyed, *set) {
-            Ok(relations) => sets.push(relations)?,
+            Ok(relations) => match sets.push(relations) {
+                Ok(()) => {}
+                Err(_) => return Err(DataRefused::Memory),
+            },
             Err(refused) => return Err(refused_in(*set, refused)),
         }
     }
