@@ -1,4 +1,7 @@
 mod BuiltForms
+mod FirstCustoms
+mod CustomsRead
+mod TypedSums
 mod Fronts
 mod Known
 mod Loading
