@@ -1,13 +1,13 @@
 -- The custom aggregates of a sound model, and their readings with typings.
 use Rattle.std.proofs.Common.{◌≡◌, refl, sym, ◌∙◌, ap, subst, ℕ, zero, suc, ◌+◌, ◌<◌, Bool, true, false, ◌&&◌, List, [], ◌∷◌, ◌++◌, Option, Some, None, map, take, length, get_or, arith, add-zero}
-use Rattle.std.specs.Prelude.{All, find, flat_map, is_none, is_some, option_and_then, option_map, slice_get}
+use Rattle.std.specs.Prelude.{◌≤◌, All, Ok, Err, find, flat_map, is_none, is_some, option_and_then, option_map, slice_get}
 use Rattle.std.specs.Bool.{then_some}
 use Rattle.std.specs.List.{enumerate_from, list_all}
-use Rattle.std.proofs.lemmas.List.{get_or-map, get_or-take, length-map, take_more, map-append}
+use Rattle.std.proofs.lemmas.List.{get_or-map, get_or-take, length-map, length-take, take_more, map-append}
 use Rattle.std.proofs.lemmas.List.Elements.{All-nil, All-cons, All-append, All-get_or, All-head, All-tail, All-map, All-weaker}
 use Rattle.edm_values.specs.declared.EdmType.{EdmType}
 use Rattle.edm_values.specs.Lists.{all_some, are_distinct, places}
-use Rattle.edm_values.specs.Names.{Path}
+use Rattle.edm_values.specs.Names.{Name, Path}
 use Rattle.edm_values.proofs.OptionFacts.{none_or, some_value}
 use Rattle.edm_model.specs.Models.{Model, Part, Property, Custom as ModelCustom}
 use Rattle.edm_model.specs.LookUps.{customs_of_type, custom_named, property_on, IsType}
@@ -16,10 +16,12 @@ use Rattle.edm_model.specs.Soundness.{IsSound}
 use Rattle.edm_model.specs.declared.parts.Custom.{Custom}
 use Rattle.edm_model.proofs.IdLaws.{places_within}
 use Rattle.apply_ast.specs.Views.{expr_of}
-use Rattle.context_typing.specs.Answers.{IsEntry, custom_of, per_typed, reading_for}
+use Rattle.context_typing.specs.Answers.{AnswersCustom, IfUntyped, IsEntry, custom_of, per_typed, reading_for}
 use Rattle.context_typing.specs.Readings.{IsTypedCustom, custom_typing, read_kind, reading_of}
 use Rattle.context_typing.specs.Typing.{Reading, custom_kind, custom_risky, key_column, path_kind, path_property, widened}
 use Rattle.context_typing.specs.declared.customs.ReadCustom.{ReadCustom}
+use Rattle.context_typing.specs.declared.definitions.CustomRefused.{CustomRefused}
+use Rattle.context_typing.specs.declared.definitions.CustomRefused.TheVariants as custom
 use Rattle.context_typing.specs.declared.customs.TypedCustom.{TypedCustom}
 use Rattle.context_typing.specs.Grouping.{typed_key}
 use Rattle.context_typing.specs.Paths.{same_path}
@@ -60,12 +62,51 @@ read-kind-is m u r entry id =
 
 pub typed-custom : (m : Model) (u : Custom) (r : ReadCustom) (k : EdmType) (risky : Bool) (x : TypedCustom) → IsEntry m u → r.id ≡ u.id → custom_kind m (custom_of u) (reading_for u r) ≡ Some k → custom_risky m (custom_of u) (reading_for u r) ≡ risky
     → x.read ≡ r → x.owner ≡ u.owner → reading_of x ≡ reading_for u r → x.kind ≡ k → x.risky ≡ risky → IsTypedCustom m x
-typed-custom m u r k risky x entry id kind risk read owner reading xk xr =
-    (ap (λ r. (r.id).of) read ∙ ap (λ p. p.of) id ∙ entry.own ∙ sym owner,
-    ap (custom_typing m) reading ∙ ap (option_map {U = ℕ × Option EdmType × Bool} (λ v. (v.0, custom_kind m v.1 (reading_for u r), custom_risky m v.1 (reading_for u r)))) entry.named
-    ∙ (λ i. Some ((sym (ap (λ r. (r.id).at) read ∙ ap (λ p. p.at) id)) i, (kind ∙ ap Some (sym xk)) i, (risk ∙ sym xr) i)))
+typed-custom m u r k risky x entry id kind risk read owner reading xk xr = (
+  ap (λ r. (r.id).of) read ∙ ap (λ p. p.of) id ∙ entry.own ∙ sym owner,
+  ap (custom_typing m) reading ∙ ap (option_map {U = ℕ × Option EdmType × Bool} (λ v. (v.0, custom_kind m v.1 (reading_for u r), custom_risky m v.1 (reading_for u r)))) entry.named
+      ∙ (λ i. Some ((sym (ap (λ r. (r.id).at) read ∙ ap (λ p. p.at) id)) i, (kind ∙ ap Some (sym xk)) i, (risk ∙ sym xr) i)),
+)
+
+-- the typing of a definition, with the name and the risk
+abbrev typing_for : Model → Custom → ReadCustom → Option (Name × EdmType × Bool)
+typing_for m u r = option_map {U = Name × EdmType × Bool} (λ k. (u.name, k, custom_risky m (custom_of u) (reading_for u r))) (custom_kind m (custom_of u) (reading_for u r))
+
+typing-parts : (n n' : Name) (k : EdmType) (b b' : Bool) (o : Option EdmType) → Some (n, k, b) ≡ option_map {U = Name × EdmType × Bool} (λ k. (n', k, b')) o → (o ≡ Some k) × (n' ≡ n) × (b' ≡ b)
+typing-parts n n' k b b' None e = none_or (n, k, b) (sym e)
+typing-parts n n' k b b' (Some j) e = let s = some_value e in (ap Some (ap (λ x. x.1) (sym s)), ap (λ x. x.0) (sym s), ap (λ x. x.2) (sym s))
+
+typing-none : (n : Name) (b : Bool) (o : Option EdmType) → None ≡ option_map {U = Name × EdmType × Bool} (λ k. (n, k, b)) o → o ≡ None
+typing-none n b None e = refl
+typing-none n b (Some j) e = none_or (n, j, b) e
+
+pub answers-typed : (m : Model) (u : Custom) (r : ReadCustom) (n : Name) (k : EdmType) (risky : Bool) → IsEntry m u → r.id ≡ u.id → Some (n, k, risky) ≡ typing_for m u r
+    → AnswersCustom m r (Ok (record { read = r; owner = u.owner; name = n; kind = k; risky = risky }))
+answers-typed m u r n k risky entry id e =
+    let t = typing-parts n u.name k risky (custom_risky m (custom_of u) (reading_for u r)) (custom_kind m (custom_of u) (reading_for u r)) e in
+    let x : TypedCustom = record { read = r; owner = u.owner; name = n; kind = k; risky = risky } in
+    let same : reading_of x ≡ reading_for u r = λ i. record { owner = u.owner; name = (sym t.1) i; of = expr_of r.of; per = r.per } in
+    (refl, typed-custom m u r k risky x entry id t.0 t.2 refl refl same refl refl, read-kind-is m u r entry id ∙ t.0)
+
+pub answers-untyped : (m : Model) (u : Custom) (r : ReadCustom) → IsEntry m u → r.id ≡ u.id → None ≡ typing_for m u r → AnswersCustom m r (Err (custom.At u.id))
+answers-untyped m u r entry id e =
+    (sym id, read-kind-is m u r entry id ∙ typing-none u.name (custom_risky m (custom_of u) (reading_for u r)) (custom_kind m (custom_of u) (reading_for u r)) e)
+
+pub answers-memory : (m : Model) (r : ReadCustom) (e : CustomRefused) → e ≡ custom.Memory → AnswersCustom m r (Err e)
+answers-memory m r e is = subst (λ (e : CustomRefused). AnswersCustom m r (Err e)) (sym is) tt
 
 -- ---- many readings
+
+-- the readings are no more than the model's custom aggregates, and have their ids
+pub ids-within : {X Y Z : Type 0} (f : X → Z) (g : Y → Z) (xs : List X) (ys : List Y) → map f xs ≡ take (length xs) (map g ys) → length xs ≤ length ys
+ids-within f g xs ys e =
+    let n : length xs ≡ length (take (length xs) (map g ys)) = sym (length-map xs f) ∙ ap length e in
+    omega (arith, n, length-take (length xs) (map g ys), length-map ys g)
+
+pub id-at : {X Y Z : Type 0} (f : X → Z) (g : Y → Z) (xs : List X) (ys : List Y) (i : ℕ) (x : X) (y : Y) → i < length xs → map f xs ≡ take (length xs) (map g ys) → f (get_or xs i x) ≡ g (get_or ys i y)
+id-at f g xs ys i x y h e =
+    let within = ids-within f g xs ys e in
+    sym (get_or-map f xs i x (f x) h) ∙ ap (λ l. get_or l i (f x)) e ∙ get_or-take (length xs) (map g ys) i (f x) h ∙ get_or-map g ys i y (f x) (omega (arith, within))
 
 pub reads-next : (all : List TypedCustom) (list : List ReadCustom) (i : ℕ) (x : TypedCustom) (r : ReadCustom) → map (λ x. x.read) all ≡ take i list → i < length list → x.read ≡ r → r ≡ get_or list i r → map (λ x. x.read) (all ++ x ∷ []) ≡ take (i + 1) list
 reads-next all list i x r before h read is =
@@ -125,3 +166,9 @@ per-none m t ps e =
     no-some : {X : Type 0} (b : Bool) (x : X) → None ≡ then_some b x → b ≡ false
     no-some true x e = cc
     no-some false x e = refl
+
+pub refused-first : {X : Type 0} (m : Model) (all : List TypedCustom) (list : List ReadCustom) (i : ℕ) (r : ReadCustom) (e : CustomRefused) → map (λ x. x.read) all ≡ take i list → All (λ x. read_kind m x.read ≡ Some x.kind) all → i < length list → length all ≡ i → r ≡ get_or list i r
+    → AnswersCustom m r (Err e) → IfUntyped {X = X} (Err e) (λ id. option_map (λ r. r.id) (find (λ r. is_none (read_kind m r)) list) ≡ Some id)
+refused-first m all list i r (custom.At id) reads typed h count is a =
+    first-untyped m all list i r reads typed h count is a.1 ∙ ap Some (sym a.0)
+refused-first m all list i r custom.Memory reads typed h count is a = tt

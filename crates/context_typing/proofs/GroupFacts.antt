@@ -96,10 +96,10 @@ module _ {X : Type 0} (key : X → Key) (f : Path → Option ColumnShape) (keys 
   pub plain-missing : (p : Path) → key (get_or keys i d) ≡ Key.Plain p → None ≡ f p → None ≡ all_some (map f (paths-of keys))
   plain-missing p is e =
       let all : paths-of keys ≡ paths-of (take (i + 1) keys) ++ paths-of (drop (i + 1) keys) =
-          ap paths-of (sym (take-append-drop (i + 1) keys)) ∙ ap (λ l. plain_paths (keys_from l)) (map-append key (take (i + 1) keys) (drop (i + 1) keys)) ∙ plain-append (map key (take (i + 1) keys)) (map key (drop (i + 1) keys)) in
+      ap paths-of (sym (take-append-drop (i + 1) keys)) ∙ ap (λ l. plain_paths (keys_from l)) (map-append key (take (i + 1) keys) (drop (i + 1) keys)) ∙ plain-append (map key (take (i + 1) keys)) (map key (drop (i + 1) keys)) in
       let front : all_some (map f (paths-of (take (i + 1) keys))) ≡ None =
-          ap (λ l. all_some (map f l)) (paths-more ∙ ap (λ k. paths-of (take i keys) ++ plain_of k) is) ∙ all_some-append f (paths-of (take i keys)) (p ∷ [])
-          ∙ (λ j. both_lists (all_some (map f (paths-of (take i keys)))) (all_some (sym e j ∷ []))) ∙ none (all_some (map f (paths-of (take i keys)))) in
+      ap (λ l. all_some (map f l)) (paths-more ∙ ap (λ k. paths-of (take i keys) ++ plain_of k) is) ∙ all_some-append f (paths-of (take i keys)) (p ∷ [])
+      ∙ (λ j. both_lists (all_some (map f (paths-of (take i keys)))) (all_some (sym e j ∷ []))) ∙ none (all_some (map f (paths-of (take i keys)))) in
       sym (ap (λ l. all_some (map f l)) all ∙ all_some-append f (paths-of (take (i + 1) keys)) (paths-of (drop (i + 1) keys)) ∙ ap (λ a. both_lists a (all_some (map f (paths-of (drop (i + 1) keys))))) front)
     where
       none : (o : Option (List ColumnShape)) → both_lists o None ≡ None
@@ -233,22 +233,25 @@ grouped-from m S g G =
     ∙ chain (nat_le (length g.parts) 1 && list_all (λ p. is_some (path_kind m S p)) (key_paths g)) (key_columns m S g)
     ∙ ap (λ b. then_some ((nat_le (length g.parts) 1 && list_all (λ p. is_some (path_kind m S p)) (key_paths g)) && b) (record G { columns = G.columns ++ key_columns m S g })) stands
     ∙ ap (λ b. then_some b (record G { columns = G.columns ++ key_columns m S g }))
-      (sym (seven (is_nonempty (key_paths g)) (nat_le (length g.parts) 1) (list_all (λ p. is_some (path_kind m S p)) (key_paths g)) (are_distinct same_path (key_paths g))
-      (not (list_any (λ c. overlaps (key_paths g) c.path) G.columns)) (not (list_any (λ x. overlaps (key_paths g) x.path) G.prefixes)) (not (is_nodes (rollup_part g)) || not (is_nonempty (all_prefixes G)))))
+    (sym (seven (is_nonempty (key_paths g)) (nat_le (length g.parts) 1) (list_all (λ p. is_some (path_kind m S p)) (key_paths g)) (are_distinct same_path (key_paths g))
+    (not (list_any (λ c. overlaps (key_paths g) c.path) G.columns)) (not (list_any (λ x. overlaps (key_paths g) x.path) G.prefixes)) (not (is_nodes (rollup_part g)) || not (is_nonempty (all_prefixes G)))))
   where
     chain : (b : Bool) (cs : List ColumnShape) → option_and_then (λ cs. then_some (may_stand g cs G) (record G { columns = G.columns ++ cs })) (then_some b cs) ≡ then_some (b && may_stand g cs G) (record G { columns = G.columns ++ cs })
     chain true cs = refl
     chain false cs = refl
+
     nonempty : (cs : List ColumnShape) → is_nonempty cs ≡ is_nonempty (map (λ c. c.path) cs)
     nonempty [] = refl
     nonempty (c ∷ cs) = refl
+
     stands : may_stand g (key_columns m S g) G ≡ ((is_nonempty (key_paths g) && are_distinct same_path (key_paths g))
         && (not (list_any (λ c. overlaps (key_paths g) c.path) G.columns) && not (list_any (λ x. overlaps (key_paths g) x.path) G.prefixes))
         && (not (is_nodes (rollup_part g)) || not (is_nonempty (all_prefixes G))))
     stands = (λ i. (nonempty (key_columns m S g) i && are_distinct same_path (map (λ c. c.path) (key_columns m S g)))
         && (not (list_any (λ c. overlaps (map (λ c. c.path) (key_columns m S g)) c.path) G.columns) && not (list_any (λ x. overlaps (map (λ c. c.path) (key_columns m S g)) x.path) G.prefixes))
         && (not (is_nodes (rollup_part g)) || not (is_nonempty (all_prefixes G))))
-      ∙ ap (λ ps. (is_nonempty ps && are_distinct same_path ps) && (not (list_any (λ c. overlaps ps c.path) G.columns) && not (list_any (λ x. overlaps ps x.path) G.prefixes)) && (not (is_nodes (rollup_part g)) || not (is_nonempty (all_prefixes G)))) (columns-paths m S g)
+        ∙ ap (λ ps. (is_nonempty ps && are_distinct same_path ps) && (not (list_any (λ c. overlaps ps c.path) G.columns) && not (list_any (λ x. overlaps ps x.path) G.prefixes)) && (not (is_nodes (rollup_part g)) || not (is_nonempty (all_prefixes G)))) (columns-paths m S g)
+
     seven : (ne le ty di n1 n2 re : Bool) → (ne && le && ty && di && n1 && n2 && re) ≡ ((le && ty) && ((ne && di) && (n1 && n2) && re))
     seven true true true true n1 n2 re = refl
     seven true true true false n1 n2 re = refl

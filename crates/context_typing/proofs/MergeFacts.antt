@@ -122,13 +122,15 @@ or_false false = refl
 in_branches-more : (m : Model) (Ss : List Shape) (S : Shape) (c : ColumnShape) → in_branches m (Ss ++ S ∷ []) c ≡ option_and_then (λ a. option_map (both a) (in_branch m S c)) (in_branches m Ss c)
 in_branches-more m Ss S c =
     (λ i. then_some (list_all-append (λ S. is_none_or (same_kind c.kind) (path_kind m S c.path)) Ss (S ∷ []) i)
-        (record { declared = list_all-append (λ S. is_none_or (λ y. y.declared) (column_at S c.path)) Ss (S ∷ []) i;
-          absent = list_any-append (λ S. is_none_or (λ y. y.absent) (column_at S c.path)) Ss (S ∷ []) i;
-          risky = list_any-append (λ S. is_risky S c.path) Ss (S ∷ []) i }))
+    (record {
+      declared = list_all-append (λ S. is_none_or (λ y. y.declared) (column_at S c.path)) Ss (S ∷ []) i;
+      absent = list_any-append (λ S. is_none_or (λ y. y.absent) (column_at S c.path)) Ss (S ∷ []) i;
+      risky = list_any-append (λ S. is_risky S c.path) Ss (S ∷ []) i;
+    }))
     ∙ go (column_agrees m Ss c) (is_none_or (same_kind c.kind) (path_kind m S c.path))
-      (list_all (λ S. is_none_or (λ y. y.declared) (column_at S c.path)) Ss) (is_none_or (λ y. y.declared) (column_at S c.path))
-      (list_any (λ S. is_none_or (λ y. y.absent) (column_at S c.path)) Ss) (is_none_or (λ y. y.absent) (column_at S c.path))
-      (list_any (λ S. is_risky S c.path) Ss) (is_risky S c.path)
+    (list_all (λ S. is_none_or (λ y. y.declared) (column_at S c.path)) Ss) (is_none_or (λ y. y.declared) (column_at S c.path))
+    (list_any (λ S. is_none_or (λ y. y.absent) (column_at S c.path)) Ss) (is_none_or (λ y. y.absent) (column_at S c.path))
+    (list_any (λ S. is_risky S c.path) Ss) (is_risky S c.path)
   where
     go : (a g d d' b b' r r' : Bool) → then_some (a && (g && true)) (record { declared = d && (d' && true); absent = b || (b' || false); risky = r || (r' || false) })
         ≡ option_and_then (λ j. option_map (both j) (then_some g (record { declared = d'; absent = b'; risky = r' }))) (then_some a (record { declared = d; absent = b; risky = r }))
@@ -242,7 +244,7 @@ concat-from : (m : Model) (Ss : List Shape) → concat_shape m Ss ≡ (if may_jo
 concat-from m Ss =
     ap (λ b. then_some (nat_le 2 (length Ss) && b) (joined Ss (map (merged_prefix Ss) (distinct (λ x y. same_path x.path y.path) (all_prefixes_of Ss))) (map (merged_column Ss) (distinct (λ x y. same_path x.path y.path) (all_columns Ss))))) (agree-parts m Ss)
     ∙ go (nat_le 2 (length Ss)) (roots_agree Ss) (list_all (prefix_agrees Ss) (all_prefixes_of Ss)) (list_all (column_agrees m Ss) (all_columns Ss))
-      (map (merged_prefix Ss) (distinct (λ x y. same_path x.path y.path) (all_prefixes_of Ss))) (map (merged_column Ss) (distinct (λ x y. same_path x.path y.path) (all_columns Ss)))
+    (map (merged_prefix Ss) (distinct (λ x y. same_path x.path y.path) (all_prefixes_of Ss))) (map (merged_column Ss) (distinct (λ x y. same_path x.path y.path) (all_columns Ss)))
   where
     go : (le r p c : Bool) (ps : List PrefixShape) (cs : List ColumnShape) → then_some (le && ((r && p) && c)) (joined Ss ps cs) ≡ (if le && r then option_and_then (λ ps. option_map (joined Ss ps) (then_some c cs)) (then_some p ps) else None)
     go false r p c ps cs = refl

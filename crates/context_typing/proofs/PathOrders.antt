@@ -206,10 +206,11 @@ unfolding IsStrictlySortedBy
 sorted-insert ks zero p s h before after = (recursion_from_All (λ y. path_cmp p y ≡ Less) ks (All-from_get_or (λ y. path_cmp p y ≡ Less) ks [] (λ j k. after j (omega arith) k)), s)
 sorted-insert [] (suc n) p s h before after = absurd (omega arith)
 sorted-insert (k ∷ ks) (suc n) p s h before after =
-    let all = All-from_recursion (λ y. path_cmp k y ≡ Less) ks s.0 in
-    (recursion_from_All (λ y. path_cmp k y ≡ Less) (take n ks ++ p ∷ drop n ks)
-    (All-append (λ y. path_cmp k y ≡ Less) (take n ks) (p ∷ drop n ks) (All-take (λ y. path_cmp k y ≡ Less) n ks all) (All-cons (λ y. path_cmp k y ≡ Less) p (drop n ks) (before 0 (omega arith)) (All-drop (λ y. path_cmp k y ≡ Less) n ks all))),
-    sorted-insert ks n p s.1 (omega arith) (λ j l. before (suc j) (omega arith)) (λ j l m. after (suc j) (omega arith) (omega arith)))
+    let all = All-from_recursion (λ y. path_cmp k y ≡ Less) ks s.0 in (
+      recursion_from_All (λ y. path_cmp k y ≡ Less) (take n ks ++ p ∷ drop n ks)
+          (All-append (λ y. path_cmp k y ≡ Less) (take n ks) (p ∷ drop n ks) (All-take (λ y. path_cmp k y ≡ Less) n ks all) (All-cons (λ y. path_cmp k y ≡ Less) p (drop n ks) (before 0 (omega arith)) (All-drop (λ y. path_cmp k y ≡ Less) n ks all))),
+      sorted-insert ks n p s.1 (omega arith) (λ j l. before (suc j) (omega arith)) (λ j l m. after (suc j) (omega arith) (omega arith)),
+    )
 
 -- ---- a search
 
@@ -285,7 +286,7 @@ module _ (es : List ColumnShape) (rising : IsStrictlySortedBy path_cmp (column_p
         go (inl less) =
             let m : n < length es = omega arith in
             let up : path_cmp (get_or es n no_column).path (get_or es j no_column).path ≡ Less =
-                (λ i. path_cmp (sym (path-at n m) i) (sym (path-at j k) i)) ∙ Less-from_sorted path_cmp (column_paths es) n j [] rising less (omega (arith, many)) in
+            (λ i. path_cmp (sym (path-at n m) i) (sym (path-at j k) i)) ∙ Less-from_sorted path_cmp (column_paths es) n j [] rising less (omega (arith, many)) in
             path_total.trans p (get_or es n no_column).path (get_or es j no_column).path (here m) up
         go (inr more) = let same : j ≡ n = omega arith in ap (λ i. path_cmp p (get_or es i no_column).path) same ∙ here (omega arith)
 
@@ -318,13 +319,14 @@ module _ (es : List ColumnShape) (rising : IsStrictlySortedBy path_cmp (column_p
       let x = (get_or es n no_column).path in
       let y = (get_or es a.0 no_column).path in
       let up : is_gt (path_cmp p x) ≡ false =
-          ap is_gt (path_total.antisymm p x) ∙ reversed (path_cmp x p) ∙ ap (λ q. is_lt (path_cmp q p)) (sym (path-at n h)) ∙ bound.after n (omega arith) (omega (arith, many)) in
+      ap is_gt (path_total.antisymm p x) ∙ reversed (path_cmp x p) ∙ ap (λ q. is_lt (path_cmp q p)) (sym (path-at n h)) ∙ bound.after n (omega arith) (omega (arith, many)) in
       prefix-between p x y up (go a.0 a.2 (cases_lt n a.0) (first-behind a.0 a.2 passes)) passes
     where
       reversed : (o : Ordering) → is_gt (ordering_reverse o) ≡ is_lt o
       reversed Less = refl
       reversed Equal = refl
       reversed Greater = refl
+
       go : (j : ℕ) → j < length es → (n < j) ⊎ (j ≤ n) → n ≤ j → is_gt (path_cmp (get_or es n no_column).path (get_or es j no_column).path) ≡ false
       go j k (inl less) l =
           let m : n < length es = omega arith in
@@ -390,6 +392,7 @@ module _ (cs : List ColumnShape) (ks : List ℕ) (order : IsOrder cs ks) (c : Co
       or_none : (o : Option ColumnShape) → o ≡ option_or o None
       or_none None = refl
       or_none (Some y) = refl
+
       go : (b : Bool) → same_path c.path p ≡ b → found es p ≡ found (cs ++ c ∷ []) p
       go true e =
           let is : found es p ≡ Some x = ap (found es) (sym (same_paths c.path p e)) ∙ there in
@@ -442,12 +445,15 @@ module _ (cs : List ColumnShape) (ks : List ℕ) (order : IsOrder cs ks) (c : Co
       where
         parts : found es p ≡ option_or (find (tested p) (take n es)) (find (tested p) (drop n es))
         parts = ap (find (tested p)) (sym (take-append-drop n es)) ∙ find-append (tested p) (take n es) (drop n es)
+
         none_left : (a b : Option ColumnShape) → None ≡ option_or a b → a ≡ None
         none_left None b e = refl
         none_left (Some x) b e = none_or x e
+
         or_none : (o : Option ColumnShape) → o ≡ option_or o None
         or_none None = refl
         or_none (Some y) = refl
+
         go : (b : Bool) → same_path c.path p ≡ b → option_or (find (tested p) (take n es)) (cond (same_path c.path p) (Some c) (find (tested p) (drop n es))) ≡ found (cs ++ c ∷ []) p
         go true e =
             let nothing : found es p ≡ None = ap (found es) (sym (same_paths c.path p e)) ∙ is-none in
@@ -473,6 +479,7 @@ module _ (cs : List ColumnShape) (ks : List ℕ) (order : IsOrder cs ks) (c : Co
         and_true : (b : Bool) → (b && true) ≡ b
         and_true true = refl
         and_true false = refl
+
         one_more : (a b : ℕ) → (a == b) ≡ (a + 1 == b + 1)
         one_more a b = same_bool _ _ (λ e. eq-eqb (a + 1) (b + 1) (ap (λ k. k + 1) (eqb-true a b e))) (λ e. let s = eqb-true (a + 1) (b + 1) e in eq-eqb a b (omega arith))
 
@@ -495,6 +502,7 @@ found-near (c ∷ cs) (suc i) p x d h is e =
     not_true : (b : Bool) → not b ≡ true → b ≡ false
     not_true true k = cc
     not_true false k = refl
+
     apart : list_any (same_path c.path) (column_paths cs) ≡ false → same_path c.path p ≡ false
     apart none = false_from_ne_true (same_path c.path p) (λ k. both_ways (list_any (same_path c.path) (column_paths cs)) none
         (list_any-map (same_path c.path) (λ c. c.path) cs ∙ any-there (λ d. same_path c.path d.path) cs i x (omega arith)

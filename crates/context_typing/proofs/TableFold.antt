@@ -61,6 +61,7 @@ all_some-passed p f (x ∷ xs) = go (p x) (all_some-passed p f xs)
     more : (b : Bool) → option_map (λ l. f x ∷ l) (then_some b (map f xs)) ≡ then_some b (f x ∷ map f xs)
     more true = refl
     more false = refl
+
     go : (b : Bool) → all_some (map (λ x. then_some (p x) (f x)) xs) ≡ then_some (list_all p xs) (map f xs) → all_some (then_some b (f x) ∷ map (λ x. then_some (p x) (f x)) xs) ≡ then_some (b && list_all p xs) (f x ∷ map f xs)
     go true e = ap (option_map (λ l. f x ∷ l)) e ∙ more (list_all p xs)
     go false e = refl
@@ -88,6 +89,7 @@ module _ {X : Type 0} (path : X → Path) where
       and_not : (a : Bool) → a ≡ true → (false && not a) ≡ not a
       and_not true h = refl
       and_not false h = cc
+
       go : (b : Bool) → eq x y ≡ b → (not (eq x y) && not (there t y)) ≡ not (there t y)
       go true k = ap (λ b. not b && not (there t y)) k ∙ and_not (there t y) (ap (λ p. list_any (λ d. same_path (path d) p) t) (sym (same_paths (path x) (path y) k)) ∙ e)
       go false k = ap (λ b. not b && not (there t y)) k
@@ -141,15 +143,19 @@ module _ {X : Type 0} (path : X → Path) where
         shift true true c = refl
         shift true false c = refl
         shift false b c = refl
+
         skip : (a b c : Bool) → (a ≡ true → b ≡ true) → (a && c) ≡ (a && (b && c))
         skip true b c k = ap (λ b. b && c) (sym (k refl))
         skip false b c k = refl
+
         refused : (a b c : Bool) → (a ≡ true → b ≡ true → ⊥) → None ≡ then_some (a && (b && c)) (extend t xs)
         refused true true c k = absurd (k refl refl)
         refused true false c k = refl
         refused false b c k = refl
+
         stuck : added None xs ≡ None
         stuck = fold_stays (add_entry path alike) None (λ x. refl) xs
+
         go : M x ≡ true → ((t : List X) → option_and_then passed (added (Some t) xs) ≡ then_some (list_all P t && list_all P xs) (extend t xs)) → (o : Option X) → at_path path t (path x) ≡ o
             → option_and_then passed (added (elim o [ Some d ↦ then_some (alike d x) t | None ↦ Some (t ++ x ∷ []) ]) xs) ≡ then_some (list_all P t && (P x && list_all P xs)) (extend (elim o [ Some d ↦ t | None ↦ t ++ x ∷ [] ]) xs)
         go m more None e = more (t ++ x ∷ []) ∙ ap (λ b. then_some b (extend (t ++ x ∷ []) xs)) (ap (λ b. b && list_all P xs) (list_all-append P t (x ∷ [])) ∙ shift (list_all P t) (P x) (list_all P xs))
@@ -157,8 +163,10 @@ module _ {X : Type 0} (path : X → Path) where
           where
             f : (i : ℕ) × (i < length t) × ((z : X) → get_or t i z ≡ d) × (same_path (path d) (path x) ≡ true)
             f = find-at (λ y. same_path (path y) (path x)) t d e
+
             first : list_all P t ≡ true → P d ≡ true
             first k = sym (ap P (f.2 d)) ∙ all-place P t f.0 d k f.1
+
             two : (b : Bool) → alike d x ≡ b → option_and_then passed (added (then_some (alike d x) t) xs) ≡ then_some (list_all P t && (P x && list_all P xs)) (extend t xs)
             two true k = ap (λ b. option_and_then passed (added (then_some b t) xs)) k ∙ more t ∙ ap (λ b. then_some b (extend t xs)) (skip (list_all P t) (P x) (list_all P xs) (λ a. kept d x f.3 k (first a)))
             two false k =
@@ -173,6 +181,7 @@ module _ {X : Type 0} (path : X → Path) where
         inner : (b : Bool) (t : List X) → option_map (map f) (then_some b t) ≡ then_some b (map f t)
         inner true t = refl
         inner false t = refl
+
         outer : (o : Option (List X)) → option_and_then (λ t. all_some (map (λ d. then_some (P d) (f d)) t)) o ≡ option_map (map f) (option_and_then passed o)
         outer None = refl
         outer (Some t) = all_some-passed P f t ∙ sym (inner (list_all P t) t)

@@ -86,9 +86,9 @@ walk-next m c S f xs i d x y h is e k =
     let step = outcome-parts _ _ y k in
     let more = mapped-more f xs i d h is in
     let shape : steps_shape m c S (pipe (map f (take i xs) ++ f d ∷ [])) ≡ Some y.shape =
-        shape-append m c S (map f (take i xs)) (f d ∷ []) ∙ ap (option_and_then (λ T. steps_shape m c T (pipe (f d ∷ [])))) before.0 ∙ shape-one m c x.shape (f d) ∙ step.0 in
+    shape-append m c S (map f (take i xs)) (f d ∷ []) ∙ ap (option_and_then (λ T. steps_shape m c T (pipe (f d ∷ [])))) before.0 ∙ shape-one m c x.shape (f d) ∙ step.0 in
     let quiet : is_quiet m c S (pipe (map f (take i xs) ++ f d ∷ [])) ≡ (x.quiet && y.quiet) =
-        quiet-append m c S x.shape (map f (take i xs)) (f d ∷ []) before.0 ∙ ap (λ b. b && is_quiet m c x.shape (pipe (f d ∷ []))) before.1 ∙ ap (λ b. x.quiet && b) (quiet-one m c x.shape (f d) ∙ step.1) in
+    quiet-append m c S x.shape (map f (take i xs)) (f d ∷ []) before.0 ∙ ap (λ b. b && is_quiet m c x.shape (pipe (f d ∷ []))) before.1 ∙ ap (λ b. x.quiet && b) (quiet-one m c x.shape (f d) ∙ step.1) in
     ap (λ l. steps_outcome m c S (pipe l)) more ∙ (λ j. outcome (shape j) (quiet j))
 
 -- a step without a typing
@@ -100,8 +100,8 @@ walk-missing m c S f xs i d x h is e k =
     let less : i + 1 - 1 ≡ i = omega arith in
     let typed : steps_shape m c S (pipe (take (i + 1 - 1) (steps (pipe (map f xs))))) ≡ Some x.shape = ap (λ j. steps_shape m c S (pipe (take j (steps (pipe (map f xs)))))) less ∙ ap (λ l. steps_shape m c S (pipe l)) (front i) ∙ before in
     let untyped : steps_shape m c S (pipe (take (i + 1) (steps (pipe (map f xs))))) ≡ None =
-        ap (λ l. steps_shape m c S (pipe l)) (front (i + 1) ∙ mapped-more f xs i d h is) ∙ shape-append m c S (map f (take i xs)) (f d ∷ []) ∙ ap (option_and_then (λ T. steps_shape m c T (pipe (f d ∷ [])))) before
-        ∙ shape-one m c x.shape (f d) ∙ no_shape _ (step_shape m c x.shape (f d)) k in
+    ap (λ l. steps_shape m c S (pipe l)) (front (i + 1) ∙ mapped-more f xs i d h is) ∙ shape-append m c S (map f (take i xs)) (f d ∷ []) ∙ ap (option_and_then (λ T. steps_shape m c T (pipe (f d ∷ [])))) before
+    ∙ shape-one m c x.shape (f d) ∙ no_shape _ (step_shape m c x.shape (f d)) k in
     (omega arith, ap is_some typed, ap is_none untyped)
   where
     no_shape : (q : Bool) (o : Option Shape) → None ≡ outcome o q → o ≡ None

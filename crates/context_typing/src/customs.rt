@@ -92,8 +92,6 @@ impl Customs {
     fn typed_at(&self, id: CustomId) -> Option<&TypedCustom>
         ensures { option_copied result ≡ spec.typed_at self.now id }
     {
-        self.all
-            .iter()
-            .find(|custom| same_id(custom.read.id, id))
+        self.all.iter().find(|custom| same_id(custom.read.id, id))
     }
 }

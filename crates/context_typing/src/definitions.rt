@@ -16,7 +16,7 @@ use crate::kinds::{is_sum, method_kind, outer_kind};
 use apply_ast::Path;
 use edm_model::{Custom, CustomId, Method, Model, TypeId};
 use edm_values::{EdmType, Text};
-use std::alloc::{AllocError, Global};
+use std::alloc::{AllocError, AllocFailed, Global};
 use thiserror::Error;
 
 /// Why the readings of custom aggregates are refused.
@@ -28,6 +28,26 @@ pub enum CustomRefused {
     /// The typings do not fit in memory.
     #[error("there is not enough memory")]
     Memory,
+}
+
+impl<T: Drop> From<AllocFailed<T>> for CustomRefused {
+    ghost use Rattle.context_typing.specs.declared.definitions.CustomRefused.TheVariants.{Memory};
+
+    ghost from_gives = { λ _ e. e ≡ Memory };
+
+    fn from(_: AllocFailed<T>) -> CustomRefused {
+        CustomRefused::Memory
+    }
+}
+
+impl From<AllocError> for CustomRefused {
+    ghost use Rattle.context_typing.specs.declared.definitions.CustomRefused.TheVariants.{Memory};
+
+    ghost from_gives = { λ _ e. e ≡ Memory };
+
+    fn from(_: AllocError) -> CustomRefused {
+        CustomRefused::Memory
+    }
 }
 
 /// Whether each path leads to a property of the entity type, and no two are one.
@@ -121,16 +141,15 @@ fn type_custom(
     requires id { read.id ≡ custom.now.id }
     ensures { AnswersCustom m.now read result }
 {
-    match typing(alloc, m, custom, &read) {
-        Ok(Some((name, kind, risky))) => Ok(TypedCustom {
+    match typing(alloc, m, custom, &read)? {
+        Some((name, kind, risky)) => Ok(TypedCustom {
             read,
             owner: custom.owner,
             name,
             kind,
             risky,
         }),
-        Ok(None) => Err(CustomRefused::At(custom.id)),
-        Err(_) => Err(CustomRefused::Memory),
+        None => Err(CustomRefused::At(custom.id)),
     }
 }
 
@@ -149,11 +168,7 @@ pub fn type_customs(
     let customs = m.customs();
     let mut all = Vec::new(alloc);
     for read in list {
-        let typed = type_custom(alloc, m, &customs[all.len()], read)?;
-        match all.push(typed) {
-            Ok(()) => {}
-            Err(_) => return Err(CustomRefused::Memory),
-        }
+        all.push(type_custom(alloc, m, &customs[all.len()], read)?)?;
     }
     Ok(Customs { all })
 }

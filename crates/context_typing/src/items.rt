@@ -209,9 +209,7 @@ fn item_column(
 {
     match item {
         AggItem::Count(name) => Ok(Some(new_column(alloc, name, EdmType::Int, false)?)),
-        AggItem::Standard(e, method, name) => {
-            standard_column(alloc, m, shape, e, *method, name)
-        }
+        AggItem::Standard(e, method, name) => { standard_column(alloc, m, shape, e, *method, name) }
         AggItem::Custom(custom, name) => custom_column(alloc, m, c, shape, custom, name),
     }
 }

@@ -108,7 +108,13 @@ fn joined_prefixes(
 {
     let mut prefixes = prefixes;
     add_root(alloc, outer, alias, &mut prefixes, related)?;
-    add_prefixes(alloc, outer, alias, &mut prefixes, related.prefixes.as_slice())?;
+    add_prefixes(
+        alloc,
+        outer,
+        alias,
+        &mut prefixes,
+        related.prefixes.as_slice(),
+    )?;
     Ok(prefixes)
 }
 
@@ -185,13 +191,7 @@ pub(crate) fn joined_shape(
         columns,
     } = shape;
     let prefixes = joined_prefixes(alloc, outer, alias, prefixes.into_vec(), related)?;
-    let columns = joined_columns(
-        alloc,
-        outer,
-        alias,
-        columns,
-        related.columns.as_slice(),
-    )?;
+    let columns = joined_columns(alloc, outer, alias, columns, related.columns.as_slice())?;
     Ok(Shape {
         root,
         prefixes: PrefixList::new(prefixes),

@@ -230,13 +230,7 @@ pub(crate) fn root_type(m: &Model, shape: &Shape) -> Option<TypeId>
     ensures there { IfSome result (IsType m.now) }
 {
     match shape.root {
-        Some(root) => {
-            if root.absent {
-                None
-            } else {
-                Some(root.of)
-            }
-        }
+        Some(root) => { if root.absent { None } else { Some(root.of) } }
         None => None,
     }
 }

@@ -29,8 +29,8 @@ use crate::merging::concat_shape;
 use crate::outcomes::{Outcome, Walk};
 use crate::shapes::Shape;
 use apply_ast::{
-    ClimbStep, Expr, HierName, JoinStep, KeyItem, KeyList, Name, OrderItem, OrderList, Path, PathList, Pipe,
-    PipeList, Step, TopStep, TraverseStep,
+    ClimbStep, Expr, HierName, JoinStep, KeyItem, KeyList, Name, OrderItem, OrderList, Path,
+    PathList, Pipe, PipeList, Step, TopStep, TraverseStep,
 };
 use edm_model::{Model, TypeId};
 use std::alloc::{AllocError, Global};

@@ -37,6 +37,16 @@ pub enum TypeRefused {
     Memory,
 }
 
+impl From<AllocError> for TypeRefused {
+    ghost use Rattle.context_typing.specs.declared.typed.TypeRefused.TheVariants.{Memory};
+
+    ghost from_gives = { λ _ e. e ≡ Memory };
+
+    fn from(_: AllocError) -> TypeRefused {
+        TypeRefused::Memory
+    }
+}
+
 impl Typed {
     /// The same pipeline and shape.
     pub fn copy(&self, alloc: Global) -> Result<Typed, AllocError>
@@ -79,17 +89,13 @@ pub fn type_pipe(
 {
     let _sets = m.sets();
     let shape = set_shape(alloc, m.set_type(s));
-    match type_steps(alloc, m, c, shape, p) {
-        Ok(Walk::Typed(outcome)) => match p.copy(alloc) {
-            Ok(pipe) => Ok(Typed {
-                set: s,
-                pipe,
-                shape: outcome.shape,
-            }),
-            Err(_) => Err(TypeRefused::Memory),
-        },
-        Ok(Walk::Untyped(k)) => Err(refused_at(k)),
-        Err(_) => Err(TypeRefused::Memory),
+    match type_steps(alloc, m, c, shape, p)? {
+        Walk::Typed(outcome) => Ok(Typed {
+            set: s,
+            pipe: p.copy(alloc)?,
+            shape: outcome.shape,
+        }),
+        Walk::Untyped(k) => Err(refused_at(k)),
     }
 }
 

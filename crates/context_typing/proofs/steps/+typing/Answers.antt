@@ -96,10 +96,11 @@ type_steps-loop-i-preserved t c =
     let cs = readings c.args.c.now in
     let x : Outcome = record { shape = c.loop-i.shape; quiet = c.loop-i.quiet } in
     let y : Outcome = record { shape = c.next.inside.shape; quiet = c.next.inside.quiet } in
-    let e : step_outcome m cs c.loop-i.shape (step_of c.step-item.result) ≡ Some y = sym c.in_ok-next.ensures ∙ c.in-Some.is ∙ ap Some (sym c.next.view_is) in
-    (step-types m cs c.requires.sound (step_of c.step-item.result) c.loop-i.shape c.next.inside.shape c.loop-i.invariant.0 (outcome-parts _ _ y e).0,
-    walk-next m cs c.args.shape step_of c.steps-step-items.result.now c.loop-i.i c.step-item.result x y (omega arith) c.step-item.is c.loop-i.invariant.1 e
-    ∙ ap (λ q. Some (record { shape = c.next.inside.shape; quiet = q })) (sym c.both-both_quiet.ensures))
+    let e : step_outcome m cs c.loop-i.shape (step_of c.step-item.result) ≡ Some y = sym c.in_ok-next.ensures ∙ c.in-Some.is ∙ ap Some (sym c.next.view_is) in (
+      step-types m cs c.requires.sound (step_of c.step-item.result) c.loop-i.shape c.next.inside.shape c.loop-i.invariant.0 (outcome-parts _ _ y e).0,
+      walk-next m cs c.args.shape step_of c.steps-step-items.result.now c.loop-i.i c.step-item.result x y (omega arith) c.step-item.is c.loop-i.invariant.1 e
+          ∙ ap (λ q. Some (record { shape = c.next.inside.shape; quiet = q })) (sym c.both-both_quiet.ensures),
+    )
 
 pub type_steps-returns-clause-walk : goal.type_steps-returns-clause-walk
 type_steps-returns-clause-walk t c =
@@ -117,7 +118,7 @@ type_steps-loop-i-init t c =
     (c.requires.types, walk-start c.args.m.now (readings c.args.c.now) c.args.shape)
 
 pub type_keys-loop-key-init : goal.type_keys-loop-key-init
-type_keys-loop-key-init t c = keys-start c.args.m.now (readings c.args.c.now) c.args.shape.now 
+type_keys-loop-key-init t c = keys-start c.args.m.now (readings c.args.c.now) c.args.shape.now
 
 pub type_keys-loop-key-preserved : goal.type_keys-loop-key-preserved
 type_keys-loop-key-preserved t c =
