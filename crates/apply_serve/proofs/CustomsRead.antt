@@ -146,19 +146,21 @@ module _ (m : Model) where
       let owner : x.owner ≡ u.owner = sym typed.0 ∙ ap (λ (p : Part). p.of) read.id ∙ entry.own in
       let at : v.0.0 ≡ u.id.at = ap (λ (z : ℕ × Option EdmType × Bool). z.0) v.2 ∙ ap (λ (p : Part). p.at) read.id in
       let found : slice_get (customs_of_type m x.owner) v.0.0 ≡ Some v.0.1 =
-          ap (λ (o : Option EntityType). slice_get (unwrap_or (option_map (λ (e : EntityType). e.customs) o) []) v.0.0) t.1 ∙ item_at (λ (c : seen.Custom). c.name) x.name (t.0).customs v.0 t.2 in
-      let same : v.0.1 ≡ custom_of u = some_value (sym found ∙ (λ i. slice_get (customs_of_type m (owner i)) (at i)) ∙ entry.at) in
-      (owner,
-      (sym (ap (λ (c : seen.Custom). c.name) same) ∙ same_texts (v.0.1).name x.name passes, read.texts),
-      ap is_some (sym (ap (λ (c : seen.Custom). custom_kind m c (reading_of x)) same) ∙ ap (λ (z : ℕ × Option EdmType × Bool). z.1) v.2))
+      ap (λ (o : Option EntityType). slice_get (unwrap_or (option_map (λ (e : EntityType). e.customs) o) []) v.0.0) t.1 ∙ item_at (λ (c : seen.Custom). c.name) x.name (t.0).customs v.0 t.2 in
+      let same : v.0.1 ≡ custom_of u = some_value (sym found ∙ (λ i. slice_get (customs_of_type m (owner i)) (at i)) ∙ entry.at) in (
+        owner,
+        (sym (ap (λ (c : seen.Custom). c.name) same) ∙ same_texts (v.0.1).name x.name passes, read.texts),
+        ap is_some (sym (ap (λ (c : seen.Custom). custom_kind m c (reading_of x)) same) ∙ ap (λ (z : ℕ × Option EdmType × Bool). z.1) v.2),
+      )
 
   typed-zip : (us : List Custom) (c : List TypedCustom) → All (IsEntry m) us → AllZip IsRead us (map (λ x. x.read) c) → All (IsTypedCustom m) c → AllZip (IsTypedReading m) (map owned us) (readings c)
   typed-zip [] [] es z typed = tt
   typed-zip [] (x ∷ c) es z typed = absurd z
   typed-zip (u ∷ us) [] es z typed = absurd z
-  typed-zip (u ∷ us) (x ∷ c) es z typed =
-      (typed-reading u x (All-head (IsEntry m) u us es) z.0 (All-head (IsTypedCustom m) x c typed),
-      typed-zip us c (All-tail (IsEntry m) u us es) z.1 (All-tail (IsTypedCustom m) x c typed))
+  typed-zip (u ∷ us) (x ∷ c) es z typed = (
+    typed-reading u x (All-head (IsEntry m) u us es) z.0 (All-head (IsTypedCustom m) x c typed),
+    typed-zip us c (All-tail (IsEntry m) u us es) z.1 (All-tail (IsTypedCustom m) x c typed),
+  )
 
   -- one that was read and has a typing
   kind-reading : (u : Custom) (r : ReadCustom) (k : EdmType) → IsEntry m u → IsRead u r → read_kind m r ≡ Some k → IsTypedReading m (owned u) (reading_for u r)
@@ -169,7 +171,7 @@ module _ (m : Model) where
   no-kind-reading u r entry read e s t =
       let o = read.only s.of s.per (t.1).1 in
       let same : custom_kind m (custom_of u) s ≡ custom_kind m (custom_of u) (reading_for u r) =
-          (λ i. custom_kind m (custom_of u) (record { owner = t.0 i; name = sym (t.1).0 i; of = o.0 i; per = o.1 i })) in
+      (λ i. custom_kind m (custom_of u) (record { owner = t.0 i; name = sym (t.1).0 i; of = o.0 i; per = o.1 i })) in
       let none : false ≡ true = sym (ap is_some (same ∙ sym (read-kind-is m u r entry read.id) ∙ e)) ∙ t.2 in
       cc
 

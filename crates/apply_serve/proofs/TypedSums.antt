@@ -34,10 +34,11 @@ widened-number EdmType.Day = refl
 
 -- the answer of a look-up that found a number
 number-there : (m : Model) (set : ℕ) (n : Name) (y : ℕ × Property) → property_named m (set_type m set) n ≡ Some y → is_number_kind (y.1).kind ≡ true → Number m set n
-number-there m set n y found number =
-    ((y.0, (y.1).kind),
-    ap (option_and_then {U = ℕ × EdmType} (λ (p : ℕ × Property). if is_number_kind (p.1).kind then Some (p.0, (p.1).kind) else None)) found
-    ∙ ap (λ b. if b then Some (y.0, (y.1).kind) else None) number)
+number-there m set n y found number = (
+  (y.0, (y.1).kind),
+  ap (option_and_then {U = ℕ × EdmType} (λ (p : ℕ × Property). if is_number_kind (p.1).kind then Some (p.0, (p.1).kind) else None)) found
+      ∙ ap (λ b. if b then Some (y.0, (y.1).kind) else None) number,
+)
 
 module _ (m : Model) (c : Customs) (set : ℕ) where
   summed : (n a : Name) (col : ColumnShape) → item_column m c (shape_of_set m set) (AggItem.Standard (Expr.Path' (n ∷ [])) method.Sum a) ≡ Some col → Number m set n

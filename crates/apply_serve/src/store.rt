@@ -9,7 +9,7 @@ use std::marker::Model;
 /// Loaded data, with the custom aggregates of its model.
 #[derive(Drop)]
 pub struct Store {
-    data: Data,
+    loaded: Data,
     customs: Customs,
 }
 
@@ -19,35 +19,32 @@ impl Model for Store {
 
     ghost Value = { seen.Store };
 
-    ghost view = { λ s. record { world = s.data; customs = readings s.customs } };
+    ghost view = { λ s. record { world = s.loaded; customs = readings s.customs } };
 
-    ghost invariant = { λ s. AreTypedOver s.data.model s.customs };
+    ghost invariant = { λ s. AreTypedOver s.loaded.model s.customs };
 }
 
 impl Store {
     /// The data with the custom aggregates of its model.
     pub fn new(loaded: Data, customs: Customs) -> Store
-        requires { AreTypedOver data.model customs }
-        ensures { result ≡ record { world = data; customs = readings customs } }
+        requires { AreTypedOver loaded.model customs }
+        ensures { result ≡ record { world = loaded; customs = readings customs } }
     {
-        Store {
-            data: loaded,
-            customs,
-        }
+        Store { loaded, customs }
     }
 
     /// The data.
     pub fn data(&self) -> &Data
         ensures { result.now ≡ self.now.world }
     {
-        &self.data
+        &self.loaded
     }
 
     /// The model.
     pub fn model(&self) -> &edm_model::Model
         ensures { result.now ≡ self.now.world.model }
     {
-        self.data.model()
+        self.loaded.model()
     }
 
     /// The custom aggregates of the model.
