@@ -2,6 +2,7 @@ mod BuiltForms
 mod FirstCustoms
 mod CustomsRead
 mod TypedSums
+mod Responding
 mod Fronts
 mod Known
 mod Loading

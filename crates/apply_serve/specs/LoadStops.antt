@@ -5,6 +5,7 @@ use Rattle.apply_io.specs.Files.{Files}
 use Rattle.edm_model.specs.Models.{Model}
 use Rattle.apply_serve.specs.Words.{FileNames}
 use Rattle.apply_serve.specs.Loads.{RefusedModel, RefusedData, FilesMake, RefusesModel, RefusesCustom, RefusesData}
+use Rattle.apply_serve.specs.OutputBytes.{bytes_of}
 use Rattle.apply_serve.specs.ReadCustoms.{IfRefused}
 use Rattle.apply_serve.specs.declared.customs.CustomStop.{CustomStop}
 use Rattle.apply_serve.specs.declared.load.ModelStop.{ModelStop}
@@ -34,5 +35,5 @@ DataStopSays told name m (data_stop.Refused line) = RefusesData told name m line
 abbrev pub LoadStopSays : Option Files → FileNames → LoadStop → Type 0
 LoadStopSays told names load_stop.Fault = ⊤
 LoadStopSays told names load_stop.Memory = ⊤
-LoadStopSays told names (load_stop.Model line) = FilesMake told names (RefusedModel line.items)
+LoadStopSays told names (load_stop.Model line) = FilesMake told names (RefusedModel (bytes_of line))
 LoadStopSays told names (load_stop.Data line) = FilesMake told names (RefusedData line.items)

@@ -1,4 +1,5 @@
 use Rattle.std.proofs.Common.{refl, sym, ap, Err, inl, inr}
+use Rattle.apply_serve.specs.OutputBytes.{bytes_of}
 use Rattle.apply_serve.specs.Service.{in_model_line, in_data_line, in_responses}
 use Rattle.apply_serve.proofs.Ends.{served_says, model_refused_says, data_refused_says, read_fault_says, overrun_says, write_fault_says, memory_says}
 use Rattle.apply_serve.proofs.Loading.{HasOutcome-files}
@@ -11,14 +12,14 @@ returns-in-Err-Fault g c =
 pub returns-in-Ok-write_whole : goal.returns-in-Ok-write_whole
 returns-in-Ok-write_whole g c =
     model_refused_says _ _ _ _ _ _ (sym c.in-Some.ensures) refl (record {
-      line = c.in-Err-Model.line.now;
+      line = bytes_of c.in-Err-Model.line;
       judged = HasOutcome-files _ _ _ _ (sym c.in-Some.ensures) (rw c.in-Err-Model.field-0-is at c.in-Err-Model.ensures.stop);
-      written = rw c.in-Err-Model.line-is at c.in-Ok-write_whole.ensures.ok;
+      written = rw (c.bytes.ensures, c.in-Err-Model.line-is) at c.in-Ok-write_whole.ensures.ok;
     }) refl
 
 pub returns-in-Err : goal.returns-in-Err
 returns-in-Err g c =
-    write_fault_says _ _ _ _ _ _ (sym c.in-Some.ensures) refl c.in-Err.ensures.cause.failed (in_model_line (HasOutcome-files _ _ _ _ (sym c.in-Some.ensures) (rw c.in-Err-Model.field-0-is at c.in-Err-Model.ensures.stop)) (rw c.in-Err-Model.line-is at c.in-Err.ensures.err))
+    write_fault_says _ _ _ _ _ _ (sym c.in-Some.ensures) refl c.in-Err.ensures.cause.failed (in_model_line (HasOutcome-files _ _ _ _ (sym c.in-Some.ensures) (rw c.in-Err-Model.field-0-is at c.in-Err-Model.ensures.stop)) (rw (c.bytes.ensures, c.in-Err-Model.line-is) at c.in-Err.ensures.err))
 
 pub returns-in-Ok-write_whole-2 : goal.returns-in-Ok-write_whole-2
 returns-in-Ok-write_whole-2 g c =
