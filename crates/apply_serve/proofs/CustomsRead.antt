@@ -1,10 +1,10 @@
 -- From what was read of a model's custom aggregates to their typed readings, or to the first that has none.
-use Rattle.std.proofs.Common.{◌≡◌, ℕ, zero, suc, ◌+◌, ◌<◌, ◌≤◌, ◌&&◌, Bool, true, false, List, [], ◌∷◌, ◌++◌, Option, Some, None, Ok, refl, sym, ap, subst, ◌∙◌, map, take, length, get_or, arith, cond}
+use Rattle.std.proofs.Common.{◌≡◌, ℕ, zero, suc, ◌+◌, ◌<◌, ◌≤◌, ◌&&◌, Bool, true, false, List, [], ◌∷◌, ◌++◌, Option, Some, None, Err, refl, sym, ap, subst, ◌∙◌, map, take, length, get_or, arith, cond}
 use Rattle.std.specs.Prelude.{All, find, is_none, is_some, slice_get, option_map, option_and_then, unwrap_or, ◌==◌}
 use Rattle.std.specs.List.{AllZip, enumerate_from}
 use Rattle.std.proofs.lemmas.Bool.{and_parts, eqb-true, eq-eqb}
 use Rattle.std.proofs.lemmas.List.{take_more, take-map, take_all}
-use Rattle.std.proofs.lemmas.List.Elements.{All-head, All-tail, All-take}
+use Rattle.std.proofs.lemmas.List.Elements.{All-get_or, All-head, All-tail, All-take}
 use Rattle.std.proofs.lemmas.Option.{slice_get-get_or, slice_get_past, slice_get_within}
 use Rattle.edm_values.specs.declared.EdmType.{EdmType}
 use Rattle.edm_values.specs.Lists.{same_text}
@@ -23,20 +23,22 @@ use Rattle.apply_ast.specs.Views.{expr_of}
 use Rattle.apply_grammar.specs.Gives.{Fails, Gives}
 use Rattle.apply_grammar.specs.Limits.{ExprTextIn, PathText}
 use Rattle.apply_grammar.specs.declared.refusals.ExprRefused.TheVariants as refused
-use Rattle.context_typing.specs.Answers.{IsEntry, custom_of, reading_for}
+use Rattle.context_typing.specs.Answers.{IfUntyped, IsEntry, custom_of, reading_for}
 use Rattle.context_typing.specs.Readings.{AreTypedOver, IsTypedCustom, custom_typing, read_kind, reading_of, readings, same_part}
 use Rattle.context_typing.specs.Typing.{Customs, Reading, custom_kind, custom_risky}
 use Rattle.context_typing.specs.declared.customs.ReadCustom.{ReadCustom}
+use Rattle.context_typing.specs.declared.definitions.CustomRefused.{CustomRefused}
+use Rattle.context_typing.specs.declared.definitions.CustomRefused.TheVariants as custom
 use Rattle.context_typing.specs.declared.customs.TypedCustom.{TypedCustom}
 use Rattle.context_typing.proofs.CustomEntries.{entries, read-kind-is}
 use Rattle.apply_serve.specs.CustomReadings.{AreOfTexts, IsTypedReading, AreCustoms, IsFirstUntyped}
 use Rattle.apply_serve.specs.Loads.{RefusesCustom}
 use Rattle.apply_serve.specs.LoadStops.{CustomStopSays}
-use Rattle.apply_serve.specs.ReadCustoms.{ArePathsOf, IsRead, HasNoReading, AreRead, IfRefused, IsFirstId, owned}
+use Rattle.apply_serve.specs.ReadCustoms.{ArePathsOf, IsRead, HasNoReading, AreRead, IfRefused, IsFirstId, NamesFirst, owned}
 use Rattle.apply_serve.specs.Responses.{custom_line}
 use Rattle.apply_serve.specs.declared.customs.CustomStop.{CustomStop}
 use Rattle.apply_serve.specs.declared.customs.CustomStop.TheVariants as stop
-use Rattle.edm_model.specs.LookUps.{type_name}
+use Rattle.edm_model.specs.LookUps.{IsType, type_name}
 use Rattle.apply_serve.proofs.FirstCustoms.{zipped, customs-owned}
 use Rattle.apply_serve.proofs.Named.{item_at}
 
@@ -61,7 +63,7 @@ parted P (w ∷ xs) x (z ∷ zs) h =
 item_more : {X : Type 0} (xs : List X) (i : ℕ) (x : X) → i < length xs → x ≡ get_or xs i x → take (i + 1) xs ≡ take i xs ++ x ∷ []
 item_more xs i x within is = take_more xs i x within ∙ ap (λ z. take i xs ++ z ∷ []) (sym is)
 
-item_get : {X : Type 0} (xs : List X) (i : ℕ) (x : X) → i < length xs → x ≡ get_or xs i x → slice_get xs i ≡ Some x
+pub item_get : {X : Type 0} (xs : List X) (i : ℕ) (x : X) → i < length xs → x ≡ get_or xs i x → slice_get xs i ≡ Some x
 item_get xs i x within is = slice_get-get_or xs i x within ∙ ap Some (sym is)
 
 pub zip-more : {A B : Type 0} (P : A → B → Type 0) (xs : List A) (ys : List B) (i : ℕ) (x : A) (y : B) → i < length xs → x ≡ get_or xs i x → AllZip P (take i xs) ys → P x y → AllZip P (take (i + 1) xs) (ys ++ y ∷ [])
@@ -312,6 +314,17 @@ module _ (m : Model) where
           there = entry.there;
           first = subst P same (first-from f.place f.before f.custom f.typed f.stands f.untyped);
         }
+
+    pub names-first : {X : Type 0} (r : CustomRefused) → IfUntyped {X = X} (Err r) (λ id. option_map (λ r. r.id) (find (λ r. is_none (read_kind m r)) list) ≡ Some id) → NamesFirst m r
+    names-first (custom.At id) h = first-untyped id h
+    names-first custom.Memory h = tt
+
+  -- the type of a custom aggregate of the model
+  pub owner-there : IsSound m → (us : List Custom) (i : ℕ) (u : Custom) → us ≡ custom_list m → i < length us → u ≡ get_or us i u → IsType m u.owner
+  owner-there sound us i u all within is =
+      let P : List Custom → Type 0 = All (IsEntry m) in
+      let Q : Custom → Type 0 = IsEntry m in
+      (subst Q (sym is) (All-get_or (IsEntry m) us i u within (subst P (sym all) (entries m sound)))).there
 
   -- the refusal of the first
   pub refused-first : (s : CustomStop) (u : Custom) → IsFirstUntyped m (owned u) → IfRefused s (λ line. line ≡ custom_line (type_name m u.owner) u.name) → CustomStopSays m s
