@@ -98,6 +98,7 @@ fn load_data<F: Folder>(
     requires room { 0 < length buffer.old }
     ensures later { F.fault_count folder.old ≤ F.fault_count folder.new }
     ensures ok { IfOk result (MakesWorld (F.files folder.old) name.now model) }
+    ensures model { IfOk result (λ d. d.model ≡ model) }
     ensures stop { IfErr result (DataStopSays (F.files folder.old) name.now model) }
     ensures fault { IsErrOf result DataStop.Fault → Rose (F.fault_count folder.old) (F.fault_count folder.new) }
     ensures steady { IsErrOf result DataStop.Fault → F.is_steady folder.old → Lacks (F.files folder.old) name.now }
