@@ -2,6 +2,7 @@
 ghost use Rattle.std.specs.Prelude.{◌≡◌, ℕ, ◌+◌, OnOk, OnErr, position};
 ghost use Rattle.std.specs.Str.Lines.{strip_carriage_return};
 ghost use Rattle.apply_io.specs.Causes.{HasCause};
+ghost use Rattle.context_typing.specs.Readings.{readings};
 ghost use Rattle.apply_serve.specs.Requests.{is_line_feed, shown, request_lines};
 ghost use Rattle.apply_serve.specs.Answers.{Responds, RespondsInPart};
 
@@ -37,8 +38,8 @@ fn answer_line<K: Sink>(
     output: &mut K,
 ) -> Result<(), Failed>
     ensures cause { HasCause (K.fault_count output.old) (K.fault_count output.new) result }
-    ensures ok { OnOk result (Responds store.now.world store.now.customs (shown line.now) (K.held output.old) (K.held output.new)) }
-    ensures err { OnErr result (RespondsInPart store.now.world store.now.customs (shown line.now) (K.held output.old) (K.held output.new)) }
+    ensures ok { OnOk result (Responds store.now.world (readings store.now.customs) (shown line.now) (K.held output.old) (K.held output.new)) }
+    ensures err { OnErr result (RespondsInPart store.now.world (readings store.now.customs) (shown line.now) (K.held output.old) (K.held output.new)) }
 {
     if line.is_empty() {
         return Ok(());
@@ -56,8 +57,8 @@ pub fn answer_lines<K: Sink>(
     output: &mut K,
 ) -> Result<(), Failed>
     ensures cause { HasCause (K.fault_count output.old) (K.fault_count output.new) result }
-    ensures ok { OnOk result (Responds store.now.world store.now.customs (request_lines bytes.now) (K.held output.old) (K.held output.new)) }
-    ensures err { OnErr result (RespondsInPart store.now.world store.now.customs (request_lines bytes.now) (K.held output.old) (K.held output.new)) }
+    ensures ok { OnOk result (Responds store.now.world (readings store.now.customs) (request_lines bytes.now) (K.held output.old) (K.held output.new)) }
+    ensures err { OnErr result (RespondsInPart store.now.world (readings store.now.customs) (request_lines bytes.now) (K.held output.old) (K.held output.new)) }
 {
     let mut rest = bytes;
     while let Some(end) = line_end(rest) {

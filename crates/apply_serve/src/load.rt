@@ -4,6 +4,7 @@ ghost use Rattle.apply_io.specs.Causes.{Rose};
 ghost use Rattle.apply_io.specs.Files.{KeepsFiles};
 ghost use Rattle.edm_model.specs.ModelFile.{model_limit};
 ghost use Rattle.edm_data.specs.DataFile.{data_limit};
+ghost use Rattle.context_typing.specs.Readings.{readings};
 ghost use Rattle.apply_serve.specs.Loads.{Loaded, Missing, FilesMake, MakesModel, MakesWorld, Lacks};
 ghost use Rattle.apply_serve.specs.LoadStops.{ModelStopSays, DataStopSays, LoadStopSays};
 
@@ -128,7 +129,7 @@ pub fn load<F: Folder>(
     buffer: &mut [u8],
 ) -> Result<Store, LoadStop>
     requires { 0 < length buffer.old }
-    ensures ok { IfOk result (λ s. FilesMake (F.files folder.old) (record { model = names.entry.model.now; entities = names.entry.entities.now }) (Loaded s.world s.customs)) }
+    ensures ok { IfOk result (λ s. FilesMake (F.files folder.old) (record { model = names.entry.model.now; entities = names.entry.entities.now }) (Loaded s.world (readings s.customs))) }
     ensures stop { IfErr result (LoadStopSays (F.files folder.old) (record { model = names.entry.model.now; entities = names.entry.entities.now })) }
     ensures fault { IsErrOf result LoadStop.Fault → Rose (F.fault_count folder.old) (F.fault_count folder.new) }
     ensures steady { IsErrOf result LoadStop.Fault → F.is_steady folder.old → FilesMake (F.files folder.old) (record { model = names.entry.model.now; entities = names.entry.entities.now }) Missing }

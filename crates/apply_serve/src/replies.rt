@@ -2,6 +2,7 @@
 ghost use Rattle.std.specs.Prelude.{◌≡◌, IfOk, Some};
 ghost use Rattle.edm_model.specs.LookUps.{IsSet};
 ghost use Rattle.apply_grammar.specs.Requests.{asked_of};
+ghost use Rattle.context_typing.specs.Readings.{readings};
 ghost use Rattle.context_typing.specs.Shapes.{Shape};
 ghost use Rattle.apply_serve.specs.Replies.{IsReply, IsResponse, IsTyped};
 ghost use Rattle.apply_serve.specs.OutputBytes.{bytes_of, bytes_made};
@@ -38,9 +39,9 @@ fn response_with(
     asked: Sum<'_>,
 ) -> Result<Vec<u8>, AllocError>
     requires set { IsSet store.now.world.model set }
-    requires typed { (s : Shape) × IsTyped store.now.world store.now.customs (asked_of request.now) set s }
+    requires typed { (s : Shape) × IsTyped store.now.world (readings store.now.customs) (asked_of request.now) set s }
     requires asked { built.sum_asked (asked_of request.now).0 (asked_of request.now).2 ≡ Some (asked.entry.property.now, asked.entry.name.now) }
-    ensures { IfOk result (λ r. IsResponse store.now.world store.now.customs (asked_of request.now) r.items) }
+    ensures { IfOk result (λ r. IsResponse store.now.world (readings store.now.customs) (asked_of request.now) r.items) }
 {
     let Some(number) = number_named(store.model(), set, asked.property) else {
         unreachable!();
@@ -57,8 +58,8 @@ fn typed_response(
     request: &Request,
 ) -> Result<Vec<u8>, AllocError>
     requires set { IsSet store.now.world.model set }
-    requires typed { (s : Shape) × IsTyped store.now.world store.now.customs (asked_of request.now) set s }
-    ensures { IfOk result (λ r. IsResponse store.now.world store.now.customs (asked_of request.now) r.items) }
+    requires typed { (s : Shape) × IsTyped store.now.world (readings store.now.customs) (asked_of request.now) set s }
+    ensures { IfOk result (λ r. IsResponse store.now.world (readings store.now.customs) (asked_of request.now) r.items) }
 {
     match sum_asked(request) {
         Some(asked) => response_with(alloc, store, set, request, asked),
@@ -68,7 +69,7 @@ fn typed_response(
 
 /// The response to a request.
 fn response_to(alloc: Global, store: &Store, request: &Request) -> Result<Vec<u8>, AllocError>
-    ensures { IfOk result (λ r. IsResponse store.now.world store.now.customs (asked_of request.now) r.items) }
+    ensures { IfOk result (λ r. IsResponse store.now.world (readings store.now.customs) (asked_of request.now) r.items) }
 {
     let set_name = request.set.text();
     let Some(set) = store.model().set_named(set_name) else {
@@ -83,7 +84,7 @@ fn response_to(alloc: Global, store: &Store, request: &Request) -> Result<Vec<u8
 
 /// The reply to a line that is not empty.
 pub fn reply_to(alloc: Global, store: &Store, line: &[u8]) -> Output
-    ensures { IsReply store.now.world store.now.customs line.now (bytes_of result) }
+    ensures { IsReply store.now.world (readings store.now.customs) line.now (bytes_of result) }
 {
     match read_request(alloc, line) {
         Ok(request) => made(response_to(alloc, store, &request)),

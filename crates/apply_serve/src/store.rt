@@ -1,6 +1,6 @@
 //! What requests are answered over.
 ghost use Rattle.std.specs.Prelude.{◌≡◌};
-ghost use Rattle.context_typing.specs.Readings.{readings, AreTypedOver};
+ghost use Rattle.context_typing.specs.Readings.{AreTypedOver};
 
 use context_typing::Customs;
 use edm_data::Data;
@@ -14,12 +14,16 @@ pub struct Store {
 }
 
 impl Model for Store {
-    ghost use Rattle.context_typing.specs.Readings.{readings, AreTypedOver};
+    ghost use Rattle.std.specs.Coded.{codes};
+    ghost use Rattle.apply_ast.specs.contracts.expressions.Expr as of_expr;
+    ghost use Rattle.context_typing.specs.Readings.{AreTypedOver};
     ghost use Rattle.apply_serve.specs.Stores as seen;
 
     ghost Value = { seen.Store };
 
-    ghost view = { λ s. record { world = s.loaded; customs = readings s.customs } };
+    ghost coded = { Prim.hlevel (codes, of_expr.the_row.coded) };
+
+    ghost view = { λ s. record { world = s.loaded; customs = s.customs } };
 
     ghost invariant = { λ s. AreTypedOver s.loaded.model s.customs };
 }
@@ -28,7 +32,7 @@ impl Store {
     /// The data with the custom aggregates of its model.
     pub fn new(loaded: Data, customs: Customs) -> Store
         requires { AreTypedOver loaded.model customs }
-        ensures { result ≡ record { world = loaded; customs = readings customs } }
+        ensures { result ≡ record { world = loaded; customs = customs } }
     {
         Store { loaded, customs }
     }
@@ -49,7 +53,7 @@ impl Store {
 
     /// The custom aggregates of the model.
     pub fn customs(&self) -> &Customs
-        ensures readings { readings result.now ≡ self.now.customs }
+        ensures value { result.now ≡ self.now.customs }
         ensures typed { AreTypedOver self.now.world.model result.now }
     {
         &self.customs

@@ -24,12 +24,12 @@ returns-in-Some-clause-stop c =
     let are : AreRead (custom_list c.args.m.now) c.in-Ok.list.items = rw c.customs-customs.ensures.value at c.in-Ok.ensures in
     let count : c.len-read.result ≡ length c.in-Ok.list.items = omega (arith, c.len-read.ensures, c.in-Ok.list.ok.0) in
     let stands : slice_get (custom_list c.args.m.now) (length c.in-Ok.list.items) ≡ Some c.in-Some.unread.now =
-        (λ i. slice_get (sym c.customs-customs.ensures.value i) (sym count i)) ∙ item_get c.customs-customs.result.now c.len-read.result c.in-Some.unread.now c.in-Some.ensures.lookup.3.0 c.in-Some.ensures.lookup.1 in
+    (λ i. slice_get (sym c.customs-customs.ensures.value i) (sym count i)) ∙ item_get c.customs-customs.result.now c.len-read.result c.in-Some.unread.now c.in-Some.ensures.lookup.3.0 c.in-Some.ensures.lookup.1 in
     refused-first c.args.m.now c.refusal.result c.in-Some.unread.now (first-unread c.args.m.now c.sets-sets.ensures.sound _ are c.in-Ok-type_customs.typed c.in-Some.unread.now c.in-Ok-type_customs.ensures.reads c.in-Ok-type_customs.ensures.typed stands) c.refusal.ensures
 
 pub returns-in-None-clause-all : goal.returns-in-None-clause-all
 returns-in-None-clause-all c =
     let are : AreRead (custom_list c.args.m.now) c.in-Ok.list.items = rw c.customs-customs.ensures.value at c.in-Ok.ensures in
     let past : length (custom_list c.args.m.now) ≤ length c.in-Ok.list.items =
-        omega (arith, c.len-read.ensures, c.in-Ok.list.ok.0, ap length c.customs-customs.ensures.value, c.in-None.ensures.lookup.3) in
+    omega (arith, c.len-read.ensures, c.in-Ok.list.ok.0, ap length c.customs-customs.ensures.value, c.in-None.ensures.lookup.3) in
     all-typed c.args.m.now c.sets-sets.ensures.sound _ are c.in-Ok-type_customs.typed c.in-Ok-type_customs.ensures.reads c.in-Ok-type_customs.ensures.typed past

@@ -1,4 +1,5 @@
 use Rattle.std.proofs.Common.{refl, sym, ap, Err, inl, inr}
+use Rattle.context_typing.specs.Readings.{readings}
 use Rattle.apply_serve.specs.OutputBytes.{bytes_of}
 use Rattle.apply_serve.specs.Service.{in_model_line, in_data_line, in_responses}
 use Rattle.apply_serve.proofs.Ends.{served_says, model_refused_says, data_refused_says, read_fault_says, overrun_says, write_fault_says, memory_says}
@@ -41,7 +42,7 @@ pub returns-in-Err-Limit : goal.returns-in-Err-Limit
 returns-in-Err-Limit g c =
     overrun_says _ _ _ _ _ _ (sym c.in-Some.ensures) refl (record {
       world = c.in-Ok-load.store.world;
-      customs = c.in-Ok-load.store.customs;
+      customs = readings c.in-Ok-load.store.customs;
       loaded = HasOutcome-files _ _ _ _ (sym c.in-Some.ensures) c.in-Ok-load.ensures.ok;
       taken = rw c.requires at (c.in-Err-Limit.ensures.limit (ap Err c.in-Err-Limit.field-0-is));
     }) refl
@@ -53,7 +54,7 @@ pub returns-in-Ok-answer_lines : goal.returns-in-Ok-answer_lines
 returns-in-Ok-answer_lines g c =
     served_says _ _ _ _ _ _ (sym c.in-Some.ensures) refl (record {
       world = c.in-Ok-load.store.world;
-      customs = c.in-Ok-load.store.customs;
+      customs = readings c.in-Ok-load.store.customs;
       loaded = HasOutcome-files _ _ _ _ (sym c.in-Some.ensures) c.in-Ok-load.ensures.ok;
       bytes = c.in-Ok-read_input.bytes.items;
       taken = rw c.requires at c.in-Ok-read_input.ensures.ok;
