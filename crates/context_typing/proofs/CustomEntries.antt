@@ -73,12 +73,14 @@ abbrev typing_for : Model → Custom → ReadCustom → Option (Name × EdmType 
 typing_for m u r = option_map {U = Name × EdmType × Bool} (λ k. (u.name, k, custom_risky m (custom_of u) (reading_for u r))) (custom_kind m (custom_of u) (reading_for u r))
 
 typing-parts : (n n' : Name) (k : EdmType) (b b' : Bool) (o : Option EdmType) → Some (n, k, b) ≡ option_map {U = Name × EdmType × Bool} (λ k. (n', k, b')) o → (o ≡ Some k) × (n' ≡ n) × (b' ≡ b)
-typing-parts n n' k b b' None e = none_or (n, k, b) (sym e)
-typing-parts n n' k b b' (Some j) e = let s = some_value e in (ap Some (ap (λ x. x.1) (sym s)), ap (λ x. x.0) (sym s), ap (λ x. x.2) (sym s))
+typing-parts n n' k b b' None e = none_or _ (sym e)
+typing-parts n n' k b b' (Some j) e =
+    let s = sym (some_value e) in
+    ((λ i. Some ((s i).1)), (λ i. (s i).0), (λ i. (s i).2))
 
 typing-none : (n : Name) (b : Bool) (o : Option EdmType) → None ≡ option_map {U = Name × EdmType × Bool} (λ k. (n, k, b)) o → o ≡ None
 typing-none n b None e = refl
-typing-none n b (Some j) e = none_or (n, j, b) e
+typing-none n b (Some j) e = none_or _ e
 
 pub answers-typed : (m : Model) (u : Custom) (r : ReadCustom) (n : Name) (k : EdmType) (risky : Bool) → IsEntry m u → r.id ≡ u.id → Some (n, k, risky) ≡ typing_for m u r
     → AnswersCustom m r (Ok (record { read = r; owner = u.owner; name = n; kind = k; risky = risky }))
@@ -107,6 +109,18 @@ pub id-at : {X Y Z : Type 0} (f : X → Z) (g : Y → Z) (xs : List X) (ys : Lis
 id-at f g xs ys i x y h e =
     let within = ids-within f g xs ys e in
     sym (get_or-map f xs i x (f x) h) ∙ ap (λ l. get_or l i (f x)) e ∙ get_or-take (length xs) (map g ys) i (f x) h ∙ get_or-map g ys i y (f x) (omega (arith, within))
+
+-- the custom aggregate of the model at the place of a reading
+pub entry-at : (m : Model) → IsSound m → (list : List ReadCustom) (us : List Custom) (i j : ℕ) (u : Custom) → map (λ r. r.id) list ≡ take (length list) (map (λ u. u.id) (custom_list m)) → us ≡ custom_list m → i < length list → j ≡ i → u ≡ get_or us j u → IsEntry m u
+entry-at m sound list us i j u e us-is h ji u-is =
+    let within = ids-within (λ r. r.id) (λ u. u.id) list (custom_list m) e in
+    let k : i < length (custom_list m) = omega (arith, within) in
+    subst (IsEntry m) (sym (u-is ∙ (λ n. get_or (us-is n) (ji n) u))) (All-get_or (IsEntry m) (custom_list m) i u k (entries m sound))
+
+-- it has the id of the reading
+pub same-ids : (m : Model) (list : List ReadCustom) (us : List Custom) (i j : ℕ) (r : ReadCustom) (u : Custom) → map (λ r. r.id) list ≡ take (length list) (map (λ u. u.id) (custom_list m)) → us ≡ custom_list m → i < length list → j ≡ i → r ≡ get_or list i r → u ≡ get_or us j u → r.id ≡ u.id
+same-ids m list us i j r u e us-is h ji r-is u-is =
+    ap (λ r. r.id) r-is ∙ id-at (λ r. r.id) (λ u. u.id) list (custom_list m) i r u h e ∙ ap (λ u. u.id) (sym (u-is ∙ (λ n. get_or (us-is n) (ji n) u)))
 
 pub reads-next : (all : List TypedCustom) (list : List ReadCustom) (i : ℕ) (x : TypedCustom) (r : ReadCustom) → map (λ x. x.read) all ≡ take i list → i < length list → x.read ≡ r → r ≡ get_or list i r → map (λ x. x.read) (all ++ x ∷ []) ≡ take (i + 1) list
 reads-next all list i x r before h read is =
@@ -167,8 +181,8 @@ per-none m t ps e =
     no-some true x e = cc
     no-some false x e = refl
 
-pub refused-first : {X : Type 0} (m : Model) (all : List TypedCustom) (list : List ReadCustom) (i : ℕ) (r : ReadCustom) (e : CustomRefused) → map (λ x. x.read) all ≡ take i list → All (λ x. read_kind m x.read ≡ Some x.kind) all → i < length list → length all ≡ i → r ≡ get_or list i r
+pub refused-first : (X : Type 0) (m : Model) (all : List TypedCustom) (list : List ReadCustom) (i : ℕ) (r : ReadCustom) (e : CustomRefused) → map (λ x. x.read) all ≡ take i list → All (λ x. read_kind m x.read ≡ Some x.kind) all → i < length list → length all ≡ i → r ≡ get_or list i r
     → AnswersCustom m r (Err e) → IfUntyped {X = X} (Err e) (λ id. option_map (λ r. r.id) (find (λ r. is_none (read_kind m r)) list) ≡ Some id)
-refused-first m all list i r (custom.At id) reads typed h count is a =
+refused-first X m all list i r (custom.At id) reads typed h count is a =
     first-untyped m all list i r reads typed h count is a.1 ∙ ap Some (sym a.0)
-refused-first m all list i r custom.Memory reads typed h count is a = tt
+refused-first X m all list i r custom.Memory reads typed h count is a = tt
