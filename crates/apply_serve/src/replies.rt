@@ -40,7 +40,7 @@ fn response_with(
 ) -> Result<Vec<u8>, AllocError>
     requires set { IsSet store.now.world.model set }
     requires typed { (s : Shape) × IsTyped store.now.world (readings store.now.customs) (asked_of request.now) set s }
-    requires asked { built.sum_asked (asked_of request.now).0 (asked_of request.now).2 ≡ Some (asked.entry.property.now, asked.entry.name.now) }
+    requires asked { built.sum_asked (asked_of request.now).0 (asked_of request.now).2 ≡ Some (asked.property.now, asked.name.now) }
     ensures { IfOk result (λ r. IsResponse store.now.world (readings store.now.customs) (asked_of request.now) r.items) }
 {
     let Some(number) = number_named(store.model(), set, asked.property) else {
