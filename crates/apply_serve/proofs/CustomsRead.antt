@@ -196,10 +196,10 @@ module _ (m : Model) where
   first-at : (us : List Custom) (list : List ReadCustom) (id : Part) → All (IsEntry m) us → AllZip IsRead (take (length list) us) list → option_map (λ r. r.id) (find (λ r. is_none (read_kind m r)) list) ≡ Some id → FirstAt us id
   first-at us [] id es z e = none_or id e
   first-at [] (r ∷ list) id es z e = absurd z
-  first-at (u ∷ us) (r ∷ list) id es z e = by (read_kind m r) refl e
+  first-at (u ∷ us) (r ∷ list) id es z e = by (first-at us list id (All-tail (IsEntry m) u us es) z.1) (read_kind m r) refl e
     where
-      by : (k : Option EdmType) → read_kind m r ≡ k → option_map (λ r. r.id) (cond (is_none k) (Some r) (find (λ r. is_none (read_kind m r)) list)) ≡ Some id → FirstAt (u ∷ us) id
-      by None k f = record {
+      by : (option_map (λ r. r.id) (find (λ r. is_none (read_kind m r)) list) ≡ Some id → FirstAt us id) → (k : Option EdmType) → read_kind m r ≡ k → option_map (λ r. r.id) (cond (is_none k) (Some r) (find (λ r. is_none (read_kind m r)) list)) ≡ Some id → FirstAt (u ∷ us) id
+      by more None k f = record {
         place = 0;
         before = [];
         typed = tt;
@@ -209,8 +209,8 @@ module _ (m : Model) where
         entry = All-head (IsEntry m) u us es;
         untyped = no-kind-reading u r (All-head (IsEntry m) u us es) z.0 k;
       }
-      by (Some k) h f =
-          let rest = first-at us list id (All-tail (IsEntry m) u us es) z.1 f in
+      by more (Some k) h f =
+          let rest = more f in
           record {
             place = suc rest.place;
             before = reading_for u r ∷ rest.before;
@@ -251,23 +251,27 @@ module _ (m : Model) where
 
   found-id : (us : List Custom) (k : ℕ) (u : Custom) (id : Part) → slice_get us k ≡ Some u → u.id ≡ id → (v : Custom) × (find (λ u. same_part u.id id) us ≡ Some v)
   found-id [] k u id e is = none_or u e
-  found-id (x ∷ us) k u id e is = by k (same_part x.id id) refl e
+  found-id (x ∷ us) zero u id e is = by (same_part x.id id) refl
     where
-      by : (k : ℕ) (b : Bool) → same_part x.id id ≡ b → slice_get (x ∷ us) k ≡ Some u → (v : Custom) × (cond b (Some x) (find (λ u. same_part u.id id) us) ≡ Some v)
-      by k true h f = (x, refl)
-      by zero false h f =
-          let same : x.id ≡ id = ap (λ (u : Custom). u.id) (some_value f) ∙ is in
-          let no : false ≡ true = sym h ∙ id-same x.id id same in
-          absurd cc
-      by (suc k) false h f = found-id us k u id f is
+      same : x.id ≡ id
+      same = ap (λ (u : Custom). u.id) (some_value e) ∙ is
+
+      by : (b : Bool) → same_part x.id id ≡ b → (v : Custom) × (cond b (Some x) (find (λ u. same_part u.id id) us) ≡ Some v)
+      by true h = (x, refl)
+      by false h = let no : false ≡ true = sym h ∙ id-same x.id id same in absurd cc
+  found-id (x ∷ us) (suc k) u id e is = by (found-id us k u id e is) (same_part x.id id)
+    where
+      by : (v : Custom) × (find (λ u. same_part u.id id) us ≡ Some v) → (b : Bool) → (v : Custom) × (cond b (Some x) (find (λ u. same_part u.id id) us) ≡ Some v)
+      by more true = (x, refl)
+      by more false = more
 
   entry-found : (us : List Custom) (t : Custom → Bool) (u : Custom) → All (IsEntry m) us → find t us ≡ Some u → IsEntry m u
   entry-found [] t u es e = none_or u e
-  entry-found (x ∷ us) t u es e = by (t x) e
+  entry-found (x ∷ us) t u es e = by (entry-found us t u (All-tail (IsEntry m) x us es)) (t x) e
     where
-      by : (b : Bool) → cond b (Some x) (find t us) ≡ Some u → IsEntry m u
-      by true f = let P : Custom → Type 0 = IsEntry m in subst P (some_value f) (All-head (IsEntry m) x us es)
-      by false f = entry-found us t u (All-tail (IsEntry m) x us es) f
+      by : (find t us ≡ Some u → IsEntry m u) → (b : Bool) → cond b (Some x) (find t us) ≡ Some u → IsEntry m u
+      by more true f = let P : Custom → Type 0 = IsEntry m in subst P (some_value f) (All-head (IsEntry m) x us es)
+      by more false f = more f
 
   owned-same : (u v : Custom) → IsEntry m u → IsEntry m v → u.id ≡ v.id → owned u ≡ owned v
   owned-same u v a b e =
@@ -315,9 +319,9 @@ module _ (m : Model) where
           first = subst P same (first-from f.place f.before f.custom f.typed f.stands f.untyped);
         }
 
-    pub names-first : {X : Type 0} (r : CustomRefused) → IfUntyped {X = X} (Err r) (λ id. option_map (λ r. r.id) (find (λ r. is_none (read_kind m r)) list) ≡ Some id) → NamesFirst m r
-    names-first (custom.At id) h = first-untyped id h
-    names-first custom.Memory h = tt
+    pub names-first : (X : Type 0) (r : CustomRefused) → IfUntyped {X = X} (Err r) (λ id. option_map (λ r. r.id) (find (λ r. is_none (read_kind m r)) list) ≡ Some id) → NamesFirst m r
+    names-first X (custom.At id) h = first-untyped id h
+    names-first X custom.Memory h = tt
 
   -- the type of a custom aggregate of the model
   pub owner-there : IsSound m → (us : List Custom) (i : ℕ) (u : Custom) → us ≡ custom_list m → i < length us → u ≡ get_or us i u → IsType m u.owner

@@ -7,7 +7,7 @@ use Rattle.edm_values.specs.declared.Method.{Method}
 use Rattle.edm_values.specs.declared.Method.TheVariants as method
 use Rattle.edm_values.specs.Lists.{all_some, is_nonempty}
 use Rattle.edm_values.specs.Literals.{is_number_kind}
-use Rattle.edm_values.specs.Names.{Name}
+use Rattle.edm_values.specs.Names.{Name, Path}
 use Rattle.edm_values.proofs.OptionFacts.{none_or, some_value, mapped, chained, all_some-parts, then_some-parts}
 use Rattle.edm_model.specs.Models.{Model, Property}
 use Rattle.edm_model.specs.LookUps.{property_named, set_type}
@@ -17,7 +17,7 @@ use Rattle.apply_grammar.specs.FrameReading.{Asked}
 use Rattle.context_typing.specs.Shapes.{Shape, ColumnShape}
 use Rattle.context_typing.specs.Typing.{Customs, Types, aggregate_shape, columns_differ, expr_kind, item_column, method_kind, new_column, no_shape, path_property, shape_of_set, step_shape, steps_shape, widened, is_sum, is_sure}
 use Rattle.context_typing.proofs.TypingEquations.{steps_shape-Then, step_shape-Aggregate}
-use Rattle.apply_serve.specs.Built.{sum_item, sum_step, sum_pipe, sum_asked}
+use Rattle.apply_serve.specs.Built.{only_name, named_sum, sum_item, sum_step, sum_pipe, sum_asked}
 use Rattle.apply_serve.specs.Replies.{IsTyped}
 use Rattle.apply_serve.specs.SumResponses.{number_named}
 
@@ -40,6 +40,13 @@ number-there m set n y found number = (
       ∙ ap (λ b. if b then Some (y.0, (y.1).kind) else None) number,
 )
 
+-- an item over a path of no or of many names asks for no sum
+unnamed : (f : Method) (path : Path) (a : Name) → only_name path ≡ None → sum_item (AggItem.Standard (Expr.Path' path) f a) ≡ None
+unnamed method.Sum path a h = ap (named_sum a) h
+unnamed method.Min path a h = refl
+unnamed method.Max path a h = refl
+unnamed method.CountDistinct path a h = refl
+
 module _ (m : Model) (c : Customs) (set : ℕ) where
   summed : (n a : Name) (col : ColumnShape) → item_column m c (shape_of_set m set) (AggItem.Standard (Expr.Path' (n ∷ [])) method.Sum a) ≡ Some col → Number m set n
   summed n a col e =
@@ -58,6 +65,8 @@ module _ (m : Model) (c : Customs) (set : ℕ) where
       let col = all_some-parts (item_column m c (shape_of_set m set) item) [] cs.0 cs.1 in
       let P : Name × Name → Type 0 = λ z. Number m set z.0 in
       subst P (some_value e) (summed n a col.0 col.1)
+  of_item (AggItem.Standard (Expr.Path' []) f a) x s e t = none_or x (sym (unnamed f [] a refl) ∙ e)
+  of_item (AggItem.Standard (Expr.Path' (n ∷ k ∷ p)) f a) x s e t = none_or x (sym (unnamed f (n ∷ k ∷ p) a refl) ∙ e)
   of_item item x s e t = none_or x e
 
   of_step : (step : Step) (x : Name × Name) (s : Shape) → sum_step step ≡ Some x → step_shape m c (shape_of_set m set) step ≡ Some s → Number m set x.0

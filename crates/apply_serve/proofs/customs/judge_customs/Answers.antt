@@ -1,6 +1,7 @@
-use Rattle.std.proofs.Common.{◌≡◌, ◌≤◌, Some, arith, ap, length, sym, ◌∙◌}
+use Rattle.std.proofs.Common.{◌≡◌, ◌≤◌, List, Some, arith, ap, length, sym, ◌∙◌}
 use Rattle.std.specs.Prelude.{slice_get}
 use Rattle.edm_model.specs.IdLists.{custom_list}
+use Rattle.context_typing.specs.declared.customs.TypedCustom.{TypedCustom}
 use Rattle.apply_serve.specs.ReadCustoms.{AreRead}
 use Rattle.apply_serve.proofs.CustomsRead.{first-ids, owner-there, names-first, refused-first, first-unread, all-typed, item_get}
 use Rattle.apply_serve.proofs.customs.judge_customs.Goals as goal
@@ -17,7 +18,7 @@ refusal-requires c =
 pub untyped-requires : goal.untyped-requires
 untyped-requires c =
     let are : AreRead (custom_list c.args.m.now) c.in-Ok.list.items = rw c.customs-customs.ensures.value at c.in-Ok.ensures in
-    names-first c.args.m.now c.sets-sets.ensures.sound _ are c.in-Err.refused c.in-Err.ensures.untyped
+    names-first c.args.m.now c.sets-sets.ensures.sound _ are (List TypedCustom) c.in-Err.refused c.in-Err.ensures.untyped
 
 pub returns-in-Some-clause-stop : goal.returns-in-Some-clause-stop
 returns-in-Some-clause-stop c =
