@@ -87,28 +87,28 @@ module _ (r : Run) (is_steady same_folder same_input same_output : Type 0) (h : 
   model_comes line t = by r.status refl
     where
       by : (s : Status) → r.status ≡ s → (r.status ≡ status.ModelRefused) ⊎ IsFault r.status
-      by status.Served e = let o : 4 ≡ 2 = one_kind r.files r.words _ (RefusedModel line) (h.served e).loaded t in absurd (omega arith)
-      by status.Usage e = let o : 0 ≡ 2 = no_words r.files r.words (RefusedModel line) (h.usage e).0 t in absurd (omega arith)
+      by status.Served e = let o : ◌≡◌ {A = ℕ} 4 2 = one_kind r.files r.words _ (RefusedModel line) (h.served e).loaded t in absurd (omega arith)
+      by status.Usage e = let o : ◌≡◌ {A = ℕ} 0 2 = no_words r.files r.words (RefusedModel line) (h.usage e).0 t in absurd (omega arith)
       by status.ModelRefused e = inl e
-      by status.DataRefused e = let o : 3 ≡ 2 = one_kind r.files r.words _ (RefusedModel line) (h.data_refused e).0.judged t in absurd (omega arith)
+      by status.DataRefused e = let o : ◌≡◌ {A = ℕ} 3 2 = one_kind r.files r.words _ (RefusedModel line) (h.data_refused e).0.judged t in absurd (omega arith)
       by status.ReadFault e = inr (inl e)
       by status.WriteFault e = inr (inr (inl e))
       by status.Memory e = inr (inr (inr e))
-      by status.InputLimit e = let o : 4 ≡ 2 = one_kind r.files r.words _ (RefusedModel line) (h.overrun e).0.loaded t in absurd (omega arith)
+      by status.InputLimit e = let o : ◌≡◌ {A = ℕ} 4 2 = one_kind r.files r.words _ (RefusedModel line) (h.overrun e).0.loaded t in absurd (omega arith)
 
   -- a refused data file
   pub data_comes : (line : List ℕ) → Tells r.files r.words (RefusedData line) → (r.status ≡ status.DataRefused) ⊎ IsFault r.status
   data_comes line t = by r.status refl
     where
       by : (s : Status) → r.status ≡ s → (r.status ≡ status.DataRefused) ⊎ IsFault r.status
-      by status.Served e = let o : 4 ≡ 3 = one_kind r.files r.words _ (RefusedData line) (h.served e).loaded t in absurd (omega arith)
-      by status.Usage e = let o : 0 ≡ 3 = no_words r.files r.words (RefusedData line) (h.usage e).0 t in absurd (omega arith)
-      by status.ModelRefused e = let o : 2 ≡ 3 = one_kind r.files r.words _ (RefusedData line) (h.model_refused e).0.judged t in absurd (omega arith)
+      by status.Served e = let o : ◌≡◌ {A = ℕ} 4 3 = one_kind r.files r.words _ (RefusedData line) (h.served e).loaded t in absurd (omega arith)
+      by status.Usage e = let o : ◌≡◌ {A = ℕ} 0 3 = no_words r.files r.words (RefusedData line) (h.usage e).0 t in absurd (omega arith)
+      by status.ModelRefused e = let o : ◌≡◌ {A = ℕ} 2 3 = one_kind r.files r.words _ (RefusedData line) (h.model_refused e).0.judged t in absurd (omega arith)
       by status.DataRefused e = inl e
       by status.ReadFault e = inr (inl e)
       by status.WriteFault e = inr (inr (inl e))
       by status.Memory e = inr (inr (inr e))
-      by status.InputLimit e = let o : 4 ≡ 3 = one_kind r.files r.words _ (RefusedData line) (h.overrun e).0.loaded t in absurd (omega arith)
+      by status.InputLimit e = let o : ◌≡◌ {A = ℕ} 4 3 = one_kind r.files r.words _ (RefusedData line) (h.overrun e).0.loaded t in absurd (omega arith)
 
   -- an input past its limit
   pub limit_comes : (w : World) (c : Customs) (bytes : List ℕ) → Tells r.files r.words (Loaded w c) → r.left ≡ Some bytes → input_limit < length bytes → (r.status ≡ status.InputLimit) ⊎ IsFault r.status
@@ -118,9 +118,9 @@ module _ (r : Run) (is_steady same_folder same_input same_output : Type 0) (h : 
       by status.Served e =
           let s = h.served e in
           absurd (omega (arith, long, taken_within r.left r.left_after input_limit bytes s.bytes tells s.taken.taken s.taken.ended s.taken.within))
-      by status.Usage e = let o : 0 ≡ 4 = no_words r.files r.words (Loaded w c) (h.usage e).0 t in absurd (omega arith)
-      by status.ModelRefused e = let o : 2 ≡ 4 = one_kind r.files r.words _ (Loaded w c) (h.model_refused e).0.judged t in absurd (omega arith)
-      by status.DataRefused e = let o : 3 ≡ 4 = one_kind r.files r.words _ (Loaded w c) (h.data_refused e).0.judged t in absurd (omega arith)
+      by status.Usage e = let o : ◌≡◌ {A = ℕ} 0 4 = no_words r.files r.words (Loaded w c) (h.usage e).0 t in absurd (omega arith)
+      by status.ModelRefused e = let o : ◌≡◌ {A = ℕ} 2 4 = one_kind r.files r.words _ (Loaded w c) (h.model_refused e).0.judged t in absurd (omega arith)
+      by status.DataRefused e = let o : ◌≡◌ {A = ℕ} 3 4 = one_kind r.files r.words _ (Loaded w c) (h.data_refused e).0.judged t in absurd (omega arith)
       by status.ReadFault e = inr (inl e)
       by status.WriteFault e = inr (inr (inl e))
       by status.Memory e = inr (inr (inr e))
@@ -132,13 +132,13 @@ module _ (r : Run) (is_steady same_folder same_input same_output : Type 0) (h : 
     where
       no_read : ReadFailed r is_steady → ⊥
       no_read (inl rose) = u.no_read_failed rose
-      no_read (inr f) = let o : 1 ≡ 4 = one_kind r.files r.words _ (Loaded u.world u.customs) (f.1 u.steady) u.loads in omega arith
+      no_read (inr f) = let o : ◌≡◌ {A = ℕ} 1 4 = one_kind r.files r.words _ (Loaded u.world u.customs) (f.1 u.steady) u.loads in omega arith
 
       by : (s : Status) → r.status ≡ s → (r.status ≡ status.Served) ⊎ (r.status ≡ status.Memory)
       by status.Served e = inl e
-      by status.Usage e = let o : 0 ≡ 4 = no_words r.files r.words (Loaded u.world u.customs) (h.usage e).0 u.loads in absurd (omega arith)
-      by status.ModelRefused e = let o : 2 ≡ 4 = one_kind r.files r.words _ (Loaded u.world u.customs) (h.model_refused e).0.judged u.loads in absurd (omega arith)
-      by status.DataRefused e = let o : 3 ≡ 4 = one_kind r.files r.words _ (Loaded u.world u.customs) (h.data_refused e).0.judged u.loads in absurd (omega arith)
+      by status.Usage e = let o : ◌≡◌ {A = ℕ} 0 4 = no_words r.files r.words (Loaded u.world u.customs) (h.usage e).0 u.loads in absurd (omega arith)
+      by status.ModelRefused e = let o : ◌≡◌ {A = ℕ} 2 4 = one_kind r.files r.words _ (Loaded u.world u.customs) (h.model_refused e).0.judged u.loads in absurd (omega arith)
+      by status.DataRefused e = let o : ◌≡◌ {A = ℕ} 3 4 = one_kind r.files r.words _ (Loaded u.world u.customs) (h.data_refused e).0.judged u.loads in absurd (omega arith)
       by status.ReadFault e = absurd (no_read (h.read_fault e).0)
       by status.WriteFault e = absurd (u.no_write_failed (h.write_fault e).0)
       by status.Memory e = inr e
