@@ -1,4 +1,8 @@
 mod BuiltForms
+mod FirstCustoms
+mod CustomsRead
+mod TypedSums
+mod Responding
 mod Fronts
 mod Known
 mod Loading

@@ -24,7 +24,7 @@ module _ {X : Type 0} (test : X → Bool) where
   found_at n [] y h = absurd cc
   found_at n (x ∷ xs) y h = found_by (test x) n x xs y (found_at (n + 1) xs y) h
 
-item_at : {X : Type 0} (name : X → List ℕ) (n : List ℕ) (xs : List X) (y : ℕ × X) → item_named name n xs ≡ Some y → slice_get xs y.0 ≡ Some y.1
+pub item_at : {X : Type 0} (name : X → List ℕ) (n : List ℕ) (xs : List X) (y : ℕ × X) → item_named name n xs ≡ Some y → slice_get xs y.0 ≡ Some y.1
 item_at name n xs y h =
     let f = found_at (λ x. same_text (name x) n) 0 xs y h in
     let same : y.0 ≡ f.0 = omega (arith, f.1) in

@@ -10,6 +10,7 @@ use Rattle.edm_model.specs.Models.{Model, EntitySet}
 use Rattle.edm_model.specs.LookUps.{set_name}
 use Rattle.edm_data.specs.Worlds.{entity_at}
 use Rattle.edm_data.specs.DataFile.{DataReading}
+use Rattle.context_typing.specs.Typing.{Customs}
 use Rattle.apply_serve.specs.Loads.{RefusedData, judged_data}
 use Rattle.apply_serve.specs.DataRefusals.{IsLineOf}
 use Rattle.apply_serve.specs.Responses.{data_line, fault_line, json_string}
@@ -61,19 +62,19 @@ module _ (names : List (List ℕ)) (line : List ℕ) where
 pub ruleset line_forms = (too_long_line, json_line, set_line, shape_line, twice_key_line, dangling_line)
 
 -- a refusal that tells the reading has its line
-judged : (m : Model) (e : DataRefused) (reading : DataReading) → (e ≡ refused.Memory → ⊥) → Tells e reading → judged_data m reading ≡ RefusedData (data_line m reading)
-judged m refused.TooLong reading some t = rw t refl
-judged m refused.Json reading some t = rw t refl
-judged m (refused.Set name) reading some t = rw t refl
-judged m (refused.Shape s k) reading some t = rw t refl
-judged m (refused.TwiceKey s k) reading some t = rw t refl
-judged m (refused.Dangling s k) reading some t = rw t refl
-judged m refused.Memory reading some t = absurd (some refl)
+judged : (m : Model) (c : Customs) (e : DataRefused) (reading : DataReading) → (e ≡ refused.Memory → ⊥) → Tells e reading → judged_data m c reading ≡ RefusedData (data_line m reading)
+judged m c refused.TooLong reading some t = rw t refl
+judged m c refused.Json reading some t = rw t refl
+judged m c (refused.Set name) reading some t = rw t refl
+judged m c (refused.Shape s k) reading some t = rw t refl
+judged m c (refused.TwiceKey s k) reading some t = rw t refl
+judged m c (refused.Dangling s k) reading some t = rw t refl
+judged m c refused.Memory reading some t = absurd (some refl)
 
 -- the line of a refusal is that of the reading
-pub line_told : (m : Model) (names : List (List ℕ)) (e : DataRefused) (line : List ℕ) (reading : DataReading) → names ≡ map (λ (s : EntitySet). s.name) m.sets → IsLineOf names e line → Tells e reading → judged_data m reading ≡ RefusedData line
-line_told m names e line reading h l t =
-    judged m e reading l.no_memory t ∙ ap RefusedData (sym (l.told m reading (sym h) t))
+pub line_told : (m : Model) (c : Customs) (names : List (List ℕ)) (e : DataRefused) (line : List ℕ) (reading : DataReading) → names ≡ map (λ (s : EntitySet). s.name) m.sets → IsLineOf names e line → Tells e reading → judged_data m c reading ≡ RefusedData line
+line_told m c names e line reading h l t =
+    judged m c e reading l.no_memory t ∙ ap RefusedData (sym (l.told m reading (sym h) t))
 
 -- the set at a place
 pub set_at : (n k s : ℕ) (xs : List ℕ) → xs ≡ places n → k < length xs → s ≡ get_or xs k s → (s ≡ k) × (k < n)

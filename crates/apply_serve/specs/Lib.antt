@@ -1,12 +1,15 @@
 pub mod Answers
 pub mod Built
+pub mod CustomReadings
 pub mod ExitCodes
 pub mod Loads
 pub mod Replies
-pub mod ReplyBytes
+pub mod ReadCustoms
+pub mod OutputBytes
 pub mod Requests
 pub mod Responses
 pub mod Service
+pub mod Stores
 pub mod SumResponses
 pub mod Transfers
 pub mod Words

@@ -4,7 +4,10 @@ use Rattle.std.specs.declared.option.Option.{Option}
 use Rattle.apply_io.specs.Files.{Files}
 use Rattle.edm_model.specs.Models.{Model}
 use Rattle.apply_serve.specs.Words.{FileNames}
-use Rattle.apply_serve.specs.Loads.{RefusedModel, RefusedData, FilesMake, RefusesModel, RefusesData}
+use Rattle.apply_serve.specs.Loads.{RefusedModel, RefusedData, FilesMake, RefusesModel, RefusesCustom, RefusesData}
+use Rattle.apply_serve.specs.OutputBytes.{bytes_of}
+use Rattle.apply_serve.specs.ReadCustoms.{IfRefused}
+use Rattle.apply_serve.specs.declared.customs.CustomStop.{CustomStop}
 use Rattle.apply_serve.specs.declared.load.ModelStop.{ModelStop}
 use Rattle.apply_serve.specs.declared.load.ModelStop.TheVariants as model_stop
 use Rattle.apply_serve.specs.declared.load.DataStop.{DataStop}
@@ -18,6 +21,10 @@ ModelStopSays told name model_stop.Fault = ⊤
 ModelStopSays told name model_stop.Memory = ⊤
 ModelStopSays told name (model_stop.Refused line) = RefusesModel told name line.now
 
+-- a refused custom aggregate has its line
+abbrev pub CustomStopSays : Model → CustomStop → Type 0
+CustomStopSays m stop = IfRefused stop (RefusesCustom m)
+
 -- a refused data file has its line
 abbrev pub DataStopSays : Option Files → List ℕ → Model → DataStop → Type 0
 DataStopSays told name m data_stop.Fault = ⊤
@@ -28,5 +35,5 @@ DataStopSays told name m (data_stop.Refused line) = RefusesData told name m line
 abbrev pub LoadStopSays : Option Files → FileNames → LoadStop → Type 0
 LoadStopSays told names load_stop.Fault = ⊤
 LoadStopSays told names load_stop.Memory = ⊤
-LoadStopSays told names (load_stop.Model line) = FilesMake told names (RefusedModel line.now)
+LoadStopSays told names (load_stop.Model line) = FilesMake told names (RefusedModel (bytes_of line))
 LoadStopSays told names (load_stop.Data line) = FilesMake told names (RefusedData line.items)

@@ -66,6 +66,10 @@ model_line ModelReading.TooLong = codes "model TooLong\n"
 model_line ModelReading.NoJson = codes "model Json\n"
 model_line ModelReading.NoModel = codes "model Model\n"
 
+-- the line of a model file with a custom aggregate that has no reading or no typing: the name of its type, and its own
+abbrev pub custom_line : List ℕ → List ℕ → List ℕ
+custom_line type name = codes "model Custom " ++ json_string type ++ codes " " ++ json_string name ++ codes "\n"
+
 -- the line of an entity at fault: what is wrong, the name of its set and its place
 abbrev pub fault_line : List ℕ → List ℕ → ℕ → List ℕ
 fault_line word name at = codes "data " ++ word ++ codes " " ++ json_string name ++ codes " " ++ decimal at ++ codes "\n"

@@ -5,11 +5,12 @@ use Rattle.std.specs.Io.KnownBytes.{Appends}
 use Rattle.apply_io.specs.Causes.{Rose}
 use Rattle.apply_io.specs.Files.{Files}
 use Rattle.edm_data.specs.Worlds.{World}
+use Rattle.context_typing.specs.Typing.{Customs}
 use Rattle.apply_serve.specs.Requests.{request_lines}
 use Rattle.apply_serve.specs.Answers.{Responds, RespondsInPart, WritesFront}
 use Rattle.apply_serve.specs.Transfers.{TakesAll, TakesOneMore}
 use Rattle.apply_serve.specs.Words.{file_names}
-use Rattle.apply_serve.specs.Loads.{Outcome, Missing, RefusedModel, RefusedData, Loaded, outcome, HasOutcome}
+use Rattle.apply_serve.specs.Loads.{Outcome, Missing, RefusedModel, RefusedData, Loaded, IsOutcome, HasOutcome}
 use Rattle.apply_serve.specs.declared.service.Status.{Status}
 use Rattle.apply_serve.specs.declared.service.Status.TheVariants.{Served, Usage, ModelRefused, DataRefused, ReadFault, WriteFault, Memory, InputLimit}
 
@@ -36,10 +37,11 @@ pub record Run : Type 0 where
 -- The files make a world, the source's bytes were taken to their end, and the responses to their lines were written in order.
 pub record ServesAll (told : Option Files) (words : List (List ℕ)) (limit : ℕ) (left0 left1 held0 held1 : Option (List ℕ)) : Type 0 where
   pub world : World
-  pub loaded : HasOutcome told words (Loaded world)
+  pub customs : Customs
+  pub loaded : HasOutcome told words (Loaded world customs)
   pub bytes : List ℕ
   pub taken : TakesAll left0 left1 limit bytes
-  pub answered : Responds world (request_lines bytes) held0 held1
+  pub answered : Responds world customs (request_lines bytes) held0 held1
 
 -- a file is refused, and its line was written
 pub record Refuses (told : Option Files) (words : List (List ℕ)) (refused : List ℕ → Outcome) (held0 held1 : Option (List ℕ)) : Type 0 where
@@ -50,14 +52,15 @@ pub record Refuses (told : Option Files) (words : List (List ℕ)) (refused : Li
 -- the files make a world, and the source had more bytes than the limit
 pub record Overruns (told : Option Files) (words : List (List ℕ)) (limit : ℕ) (left0 left1 : Option (List ℕ)) : Type 0 where
   pub world : World
-  pub loaded : HasOutcome told words (Loaded world)
+  pub customs : Customs
+  pub loaded : HasOutcome told words (Loaded world customs)
   pub taken : TakesOneMore left0 left1 limit
 
 -- the writing broke off in the line of a refused file, or in the responses
 pub data BreaksOff (told : Option Files) (words : List (List ℕ)) (limit : ℕ) (left0 left1 held0 held1 : Option (List ℕ)) : Type 0 where
   in_model_line : {line : List ℕ} → HasOutcome told words (RefusedModel line) → WritesFront line held0 held1 → BreaksOff told words limit left0 left1 held0 held1
   in_data_line : {line : List ℕ} → HasOutcome told words (RefusedData line) → WritesFront line held0 held1 → BreaksOff told words limit left0 left1 held0 held1
-  in_responses : {world : World} {bytes : List ℕ} → HasOutcome told words (Loaded world) → TakesAll left0 left1 limit bytes → RespondsInPart world (request_lines bytes) held0 held1 → BreaksOff told words limit left0 left1 held0 held1
+  in_responses : {world : World} {customs : Customs} {bytes : List ℕ} → HasOutcome told words (Loaded world customs) → TakesAll left0 left1 limit bytes → RespondsInPart world customs (request_lines bytes) held0 held1 → BreaksOff told words limit left0 left1 held0 held1
 
 -- a read of the source failed; or one of the folder, which is to blame only where it lacks a file, if it is steady
 abbrev pub ReadFailed : Run → Type 0 → Type 0
@@ -90,12 +93,13 @@ IsFault status = (status ≡ ReadFault) ⊎ ((status ≡ WriteFault) ⊎ (status
 
 -- the folder tells its files, and the outcome is this
 abbrev pub Tells : Option Files → List (List ℕ) → Outcome → Type 0
-Tells told words o = (files : Files) × (told ≡ Some files) × (outcome words files ≡ o)
+Tells told words o = (files : Files) × (told ≡ Some files) × IsOutcome words files o
 
 -- The files make a world and the folder is steady, the source tells its bytes and they keep the limit, and no count of the source or the sink rose.
 pub record IsUndisturbed (told : Option Files) (is_steady : Type 0) (words : List (List ℕ)) (limit : ℕ) (left : Option (List ℕ)) (input0 input1 output0 output1 : ℕ) : Type 0 where
   pub world : World
-  pub loads : Tells told words (Loaded world)
+  pub customs : Customs
+  pub loads : Tells told words (Loaded world customs)
   pub steady : is_steady
   pub bytes : List ℕ
   pub tells : left ≡ Some bytes

@@ -2,13 +2,14 @@
 ghost use Rattle.std.specs.Prelude.{◌≡◌, ℕ, ◌+◌, OnOk, OnErr, position};
 ghost use Rattle.std.specs.Str.Lines.{strip_carriage_return};
 ghost use Rattle.apply_io.specs.Causes.{HasCause};
+ghost use Rattle.context_typing.specs.Readings.{readings};
 ghost use Rattle.apply_serve.specs.Requests.{is_line_feed, shown, request_lines};
 ghost use Rattle.apply_serve.specs.Answers.{Responds, RespondsInPart};
 
 use crate::replies::reply_to;
+use crate::store::Store;
 use crate::write::write_whole;
 use apply_io::{Failed, Sink};
-use edm_data::Data;
 use std::alloc::Global;
 
 /// The place of the first LF.
@@ -32,13 +33,13 @@ fn without_cr(line: &[u8]) -> &[u8]
 #[tactic(auto, using(crate::proofs::Answering::replies))]
 fn answer_line<K: Sink>(
     alloc: Global,
-    store: &Data,
+    store: &Store,
     line: &[u8],
     output: &mut K,
 ) -> Result<(), Failed>
     ensures cause { HasCause (K.fault_count output.old) (K.fault_count output.new) result }
-    ensures ok { OnOk result (Responds store.now (shown line.now) (K.held output.old) (K.held output.new)) }
-    ensures err { OnErr result (RespondsInPart store.now (shown line.now) (K.held output.old) (K.held output.new)) }
+    ensures ok { OnOk result (Responds store.now.world (readings store.now.customs) (shown line.now) (K.held output.old) (K.held output.new)) }
+    ensures err { OnErr result (RespondsInPart store.now.world (readings store.now.customs) (shown line.now) (K.held output.old) (K.held output.new)) }
 {
     if line.is_empty() {
         return Ok(());
@@ -51,13 +52,13 @@ fn answer_line<K: Sink>(
 #[tactic(auto, using(crate::proofs::Answering::streams))]
 pub fn answer_lines<K: Sink>(
     alloc: Global,
-    store: &Data,
+    store: &Store,
     bytes: &[u8],
     output: &mut K,
 ) -> Result<(), Failed>
     ensures cause { HasCause (K.fault_count output.old) (K.fault_count output.new) result }
-    ensures ok { OnOk result (Responds store.now (request_lines bytes.now) (K.held output.old) (K.held output.new)) }
-    ensures err { OnErr result (RespondsInPart store.now (request_lines bytes.now) (K.held output.old) (K.held output.new)) }
+    ensures ok { OnOk result (Responds store.now.world (readings store.now.customs) (request_lines bytes.now) (K.held output.old) (K.held output.new)) }
+    ensures err { OnErr result (RespondsInPart store.now.world (readings store.now.customs) (request_lines bytes.now) (K.held output.old) (K.held output.new)) }
 {
     let mut rest = bytes;
     while let Some(end) = line_end(rest) {

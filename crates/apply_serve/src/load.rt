@@ -4,11 +4,15 @@ ghost use Rattle.apply_io.specs.Causes.{Rose};
 ghost use Rattle.apply_io.specs.Files.{KeepsFiles};
 ghost use Rattle.edm_model.specs.ModelFile.{model_limit};
 ghost use Rattle.edm_data.specs.DataFile.{data_limit};
+ghost use Rattle.context_typing.specs.Readings.{readings};
 ghost use Rattle.apply_serve.specs.Loads.{Loaded, Missing, FilesMake, MakesModel, MakesWorld, Lacks};
 ghost use Rattle.apply_serve.specs.LoadStops.{ModelStopSays, DataStopSays, LoadStopSays};
 
+use crate::customs::{CustomStop, judge_customs};
 use crate::file::{FileFault, read_file};
+use crate::output::Output;
 use crate::refusals::{data_line, set_names};
+use crate::store::Store;
 use crate::words::FileNames;
 use apply_io::Folder;
 use edm_data::{DATA_LIMIT, Data, read_data};
@@ -37,15 +41,15 @@ pub enum DataStop {
     Refused(Vec<u8>),
 }
 
-/// Why the files make no data.
+/// Why the files make no store.
 #[derive(Debug, Drop)]
 pub enum LoadStop {
     /// A read of the folder failed.
     Fault,
     /// Memory ran out.
     Memory,
-    /// The model file is refused, with this line.
-    Model(&'static [u8]),
+    /// The model file or one of its custom aggregates is refused, with this line.
+    Model(Output),
     /// The data file is refused, with this line.
     Data(Vec<u8>),
 }
@@ -95,6 +99,7 @@ fn load_data<F: Folder>(
     requires room { 0 < length buffer.old }
     ensures later { F.fault_count folder.old ≤ F.fault_count folder.new }
     ensures ok { IfOk result (MakesWorld (F.files folder.old) name.now model) }
+    ensures model { IfOk result (λ d. d.model ≡ model) }
     ensures stop { IfErr result (DataStopSays (F.files folder.old) name.now model) }
     ensures fault { IsErrOf result DataStop.Fault → Rose (F.fault_count folder.old) (F.fault_count folder.new) }
     ensures steady { IsErrOf result DataStop.Fault → F.is_steady folder.old → Lacks (F.files folder.old) name.now }
@@ -116,15 +121,15 @@ fn load_data<F: Folder>(
     }
 }
 
-/// Reads the two files, the model file first.
+/// Reads the two files, the model file first, whose custom aggregates are judged before the data file is read.
 pub fn load<F: Folder>(
     alloc: Global,
     folder: &mut F,
     names: FileNames<'_>,
     buffer: &mut [u8],
-) -> Result<Data, LoadStop>
+) -> Result<Store, LoadStop>
     requires { 0 < length buffer.old }
-    ensures ok { IfOk result (λ d. FilesMake (F.files folder.old) (record { model = names.entry.model.now; entities = names.entry.entities.now }) (Loaded d)) }
+    ensures ok { IfOk result (λ s. FilesMake (F.files folder.old) (record { model = names.entry.model.now; entities = names.entry.entities.now }) (Loaded s.world (readings s.customs))) }
     ensures stop { IfErr result (LoadStopSays (F.files folder.old) (record { model = names.entry.model.now; entities = names.entry.entities.now })) }
     ensures fault { IsErrOf result LoadStop.Fault → Rose (F.fault_count folder.old) (F.fault_count folder.new) }
     ensures steady { IsErrOf result LoadStop.Fault → F.is_steady folder.old → FilesMake (F.files folder.old) (record { model = names.entry.model.now; entities = names.entry.entities.now }) Missing }
@@ -133,10 +138,15 @@ pub fn load<F: Folder>(
         Ok(model) => model,
         Err(ModelStop::Fault) => return Err(LoadStop::Fault),
         Err(ModelStop::Memory) => return Err(LoadStop::Memory),
-        Err(ModelStop::Refused(line)) => return Err(LoadStop::Model(line)),
+        Err(ModelStop::Refused(line)) => return Err(LoadStop::Model(Output::Constant(line))),
+    };
+    let customs = match judge_customs(alloc, &model) {
+        Ok(customs) => customs,
+        Err(CustomStop::Memory) => return Err(LoadStop::Memory),
+        Err(CustomStop::Refused(line)) => return Err(LoadStop::Model(Output::Made(line))),
     };
     match load_data(alloc, folder, names.entities, DATA_LIMIT, model, buffer) {
-        Ok(data) => Ok(data),
+        Ok(data) => Ok(Store::new(data, customs)),
         Err(DataStop::Fault) => Err(LoadStop::Fault),
         Err(DataStop::Memory) => Err(LoadStop::Memory),
         Err(DataStop::Refused(line)) => Err(LoadStop::Data(line)),

@@ -1,6 +1,7 @@
-//! The lines of refused data files.
+//! The lines of refused custom aggregates and data files.
 ghost use Rattle.std.specs.Prelude.{◌≡◌, ◌++◌, ℕ, IfOk, map, slice_get, unwrap_or, string_bytes, codes, []};
 ghost use Rattle.apply_serve.specs.Responses.{json_string, fault_line};
+ghost use Rattle.apply_serve.specs.Responses as spec;
 ghost use Rattle.apply_serve.specs.DataRefusals.{IsLineOf};
 
 use edm_data::DataRefused;
@@ -35,6 +36,21 @@ fn json_text(alloc: Global, name: &str) -> Result<String, AllocError>
     ensures { IfOk result (λ s. string_bytes s ≡ json_string name.now) }
 {
     json!(in alloc; name)?.to_string(alloc)
+}
+
+/// The line of a custom aggregate of a type that has no reading or no typing.
+pub fn custom_line(alloc: Global, of: &str, name: &str) -> Result<Vec<u8>, AllocError>
+    ensures { IfOk result (λ l. l.items ≡ spec.custom_line of.now name.now) }
+{
+    let mut line = Vec::new(alloc);
+    line.extend_from_slice(b"model Custom ")?;
+    let of = json_text(alloc, of)?;
+    line.extend_from_slice(of.as_bytes())?;
+    line.extend_from_slice(b" ")?;
+    let name = json_text(alloc, name)?;
+    line.extend_from_slice(name.as_bytes())?;
+    line.extend_from_slice(b"\n")?;
+    Ok(line)
 }
 
 /// The line of an entity at fault.

@@ -1,6 +1,7 @@
 //! The top call: from the words to the status.
 ghost use Rattle.std.specs.Prelude.{◌≡◌, ◌⊎◌, ℕ, ◌<◌, List, length, Some};
 ghost use Rattle.edm_data.specs.Worlds.{World};
+ghost use Rattle.context_typing.specs.Typing.{Customs};
 ghost use Rattle.apply_serve.specs.Words.{texts_of};
 ghost use Rattle.apply_serve.specs.Loads.{RefusedModel, RefusedData, Loaded};
 ghost use Rattle.apply_serve.specs.Service.{Run, Says, input_limit, IsFault, Tells, IsUndisturbed};
@@ -79,7 +80,7 @@ fn run<F: Folder, S: Source, K: Sink>(
         Ok(store) => store,
         Err(LoadStop::Fault) => return Status::ReadFault,
         Err(LoadStop::Memory) => return Status::Memory,
-        Err(LoadStop::Model(line)) => match write_whole(output, line) {
+        Err(LoadStop::Model(line)) => match write_whole(output, line.bytes()) {
             Ok(()) => return Status::ModelRefused,
             Err(_) => return Status::WriteFault,
         },
@@ -102,8 +103,8 @@ fn run<F: Folder, S: Source, K: Sink>(
 
 /// Answers the request lines of the input over the files that the words name.
 ///
-/// The words are `--model`, a file name, `--data`, a file name, in this order. The model file is read and judged first,
-/// then the data file, then the input is read whole, and then its lines are answered in order. A refused file writes its
+/// The words are `--model`, a file name, `--data`, a file name, in this order. The model file is read and judged first, and
+/// its custom aggregates, then the data file, then the input is read whole, and then its lines are answered in order. A refused file writes its
 /// one line to the output.
 pub fn serve<R: Threads + Sync, F: Folder, S: Source, K: Sink, L: Ledger>(
     rt: &R,
@@ -140,7 +141,7 @@ pub fn serve<R: Threads + Sync, F: Folder, S: Source, K: Sink, L: Ledger>(
         (result ≡ Status.DataRefused) ⊎ IsFault result }
 
     // An input that is longer than its limit is told so.
-    ensures limit_comes { (w : World) (bytes : List ℕ) → Tells (F.files folder.old) (texts_of words.now) (Loaded w) →
+    ensures limit_comes { (w : World) (c : Customs) (bytes : List ℕ) → Tells (F.files folder.old) (texts_of words.now) (Loaded w c) →
         S.left input.old ≡ Some bytes → input_limit < length bytes → (result ≡ Status.InputLimit) ⊎ IsFault result }
 
     // Where the files make a world and nothing is in the way, every line is answered, want of memory aside.

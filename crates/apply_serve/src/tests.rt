@@ -43,19 +43,23 @@ const RESPONSES: &[u8] =
 const FIRST: &[u8] =
     b"200 88\n{\"@context\":\"$metadata#Sales(Total)\",\"value\":[{\"Total@type\":\"Decimal\",\"Total\":\"26.00\"}]}\n";
 
+/// The definition of the sample's custom aggregate.
+const DEFINITION: &str =
+    "{\"Of\":\"Amount\",\"With\":\"sum\",\"Per\":[\"CustomerID\"],\"Then\":\"max\"}";
+
 /// What a run is given: the calls on the folder, the source and the sink with these numbers fail, where they are not 0.
 #[derive(Clone, Copy)]
-struct Case {
-    model: &'static str,
-    data: &'static str,
-    input: &'static [u8],
+struct Case<'a> {
+    model: &'a str,
+    data: &'a str,
+    input: &'a [u8],
     most: usize,
     folder_fails: u64,
     input_fails: u64,
     output_fails: u64,
 }
 
-const PLAIN: Case = Case {
+const PLAIN: Case<'static> = Case {
     model: MODEL,
     data: DATA,
     input: LINES,
@@ -91,7 +95,7 @@ fn words(alloc: Global) -> Result<Vec<String>, Fail> {
 }
 
 /// The two files of a case.
-fn files(alloc: Global, case: &Case) -> Result<Vec<(String, Vec<u8>)>, Fail> {
+fn files(alloc: Global, case: &Case<'_>) -> Result<Vec<(String, Vec<u8>)>, Fail> {
     let mut files = Vec::new(alloc);
     files.push((
         String::from_str(alloc, "m")?,
@@ -134,7 +138,7 @@ fn outcome_over<R: Threads + Sync, S: Source>(
 fn outcome_of<R: Threads + Sync>(
     rt: &R,
     alloc: Global,
-    case: &Case,
+    case: &Case<'_>,
     words: &[String],
     input: Vec<u8>,
 ) -> Result<RunResult, Fail> {
@@ -143,7 +147,7 @@ fn outcome_of<R: Threads + Sync>(
 }
 
 /// Runs the service over the case's input.
-fn outcome<R: Threads + Sync>(rt: &R, alloc: Global, case: &Case) -> Result<RunResult, Fail> {
+fn outcome<R: Threads + Sync>(rt: &R, alloc: Global, case: &Case<'_>) -> Result<RunResult, Fail> {
     let words = words(alloc)?;
     outcome_of(rt, alloc, case, words.as_slice(), case.input.to_vec(alloc)?)
 }
@@ -184,11 +188,47 @@ fn each_line_is_answered_by_the_first_reason_that_holds(rt: HostRuntime) -> Resu
         ),
         (
             b"Sales?$apply=filter(not ID eq 1)\n".as_slice(),
-            b"501 68\n{\"error\":{\"code\":\"NotBuilt\",\"message\":\"this form is not built yet\"}}\n".as_slice(),
+            b"400 81\n{\"error\":{\"code\":\"Type\",\"message\":\"the transformation has no type\",\"target\":\"1\"}}\n".as_slice(),
         ),
         (
             b"explain Sales?$apply=aggregate(Amount with sum as T)\n".as_slice(),
             b"501 68\n{\"error\":{\"code\":\"NotBuilt\",\"message\":\"this form is not built yet\"}}\n".as_slice(),
+        ),
+        (
+            b"explain Sales?$apply=filter(null)\n".as_slice(),
+            b"400 81\n{\"error\":{\"code\":\"Type\",\"message\":\"the transformation has no type\",\"target\":\"1\"}}\n".as_slice(),
+        ),
+        (
+            b"Sales?$apply=filter(null)\n".as_slice(),
+            b"400 81\n{\"error\":{\"code\":\"Type\",\"message\":\"the transformation has no type\",\"target\":\"1\"}}\n".as_slice(),
+        ),
+        (
+            b"Sales?$apply=compute(Amount as Amount)\n".as_slice(),
+            b"400 81\n{\"error\":{\"code\":\"Type\",\"message\":\"the transformation has no type\",\"target\":\"1\"}}\n".as_slice(),
+        ),
+        (
+            b"Sales?$apply=identity/filter(Nope eq 1)\n".as_slice(),
+            b"400 81\n{\"error\":{\"code\":\"Type\",\"message\":\"the transformation has no type\",\"target\":\"2\"}}\n".as_slice(),
+        ),
+        (
+            b"Sales?$apply=aggregate(Amount with sum as T)/aggregate(Amount with sum as T)\n".as_slice(),
+            b"400 81\n{\"error\":{\"code\":\"Type\",\"message\":\"the transformation has no type\",\"target\":\"2\"}}\n".as_slice(),
+        ),
+        (
+            b"Sales?$apply=concat(identity,aggregate($count as N))/filter(N eq 6)\n".as_slice(),
+            b"501 68\n{\"error\":{\"code\":\"NotBuilt\",\"message\":\"this form is not built yet\"}}\n".as_slice(),
+        ),
+        (
+            b"Sales?$apply=aggregate(Best)\n".as_slice(),
+            b"501 68\n{\"error\":{\"code\":\"NotBuilt\",\"message\":\"this form is not built yet\"}}\n".as_slice(),
+        ),
+        (
+            b"Customers?$apply=aggregate(Best)\n".as_slice(),
+            b"400 81\n{\"error\":{\"code\":\"Type\",\"message\":\"the transformation has no type\",\"target\":\"1\"}}\n".as_slice(),
+        ),
+        (
+            b"Shops?$apply=filter(null)\n".as_slice(),
+            b"404 77\n{\"error\":{\"code\":\"NotFound\",\"message\":\"no such entity set\",\"target\":\"Shops\"}}\n".as_slice(),
         ),
         (
             b"Shops?$apply=identity\n".as_slice(),
@@ -365,6 +405,65 @@ fn a_refused_file_has_its_line(rt: HostRuntime) -> Result<(), Fail> {
         )?;
         assert_eq!(rt; ran.status, status);
         assert_eq!(rt; ran.output.as_slice(), output);
+    }
+    Ok(())
+}
+
+#[test]
+fn the_first_custom_aggregate_without_a_typing_is_told_before_the_data_is_read(
+    rt: HostRuntime,
+) -> Result<(), Fail> {
+    let alloc = rt.alloc();
+    for (definition, output) in [
+        (
+            "{\"Of\":\"Nope\",\"With\":\"sum\",\"Per\":[\"CustomerID\"],\"Then\":\"max\"}",
+            "model Custom \"Sale\" \"Best\"\n",
+        ),
+        (
+            "{\"Of\":\"Amount add\",\"With\":\"sum\",\"Per\":[\"CustomerID\"],\"Then\":\"max\"}",
+            "model Custom \"Sale\" \"Best\"\n",
+        ),
+        (
+            "{\"Of\":\"Amount\",\"With\":\"sum\",\"Per\":[\"Customer//ID\"],\"Then\":\"max\"}",
+            "model Custom \"Sale\" \"Best\"\n",
+        ),
+        (
+            "{\"Of\":\"Amount\",\"With\":\"sum\",\"Per\":[\"Customer\"],\"Then\":\"max\"}",
+            "model Custom \"Sale\" \"Best\"\n",
+        ),
+        (
+            "{\"Of\":\"true\",\"With\":\"sum\"}",
+            "model Custom \"Sale\" \"Best\"\n",
+        ),
+        (
+            "{\"Of\":\"Nope\",\"With\":\"sum\"},\"@Org.OData.Aggregation.V1.CustomAggregate#Able\":\"Edm.Decimal\",\"@Local.Apply.V1.Definition#Able\":{\"Of\":\"1 add\",\"With\":\"sum\"}",
+            "model Custom \"Sale\" \"Able\"\n",
+        ),
+        (
+            "{\"Of\":\"1 add\",\"With\":\"sum\"},\"@Org.OData.Aggregation.V1.CustomAggregate#Able\":\"Edm.Decimal\",\"@Local.Apply.V1.Definition#Able\":{\"Of\":\"Nope\",\"With\":\"sum\"}",
+            "model Custom \"Sale\" \"Able\"\n",
+        ),
+        (
+            "{\"Of\":\"1 add\",\"With\":\"sum\"},\"@Org.OData.Aggregation.V1.CustomAggregate#Able\":\"Edm.Decimal\",\"@Local.Apply.V1.Definition#Able\":{\"Of\":\"1\",\"With\":\"sum\"}",
+            "model Custom \"Sale\" \"Best\"\n",
+        ),
+        (
+            "{\"Of\":\"Amount\",\"With\":\"sum\",\"Then\":\"max\"}",
+            "model Model\n",
+        ),
+    ] {
+        let model = SAMPLE_MODEL.replace(alloc, DEFINITION, definition)?;
+        let ran = outcome(
+            &rt,
+            alloc,
+            &Case {
+                model: model.as_str(),
+                data: "{",
+                ..PLAIN
+            },
+        )?;
+        assert_eq!(rt; ran.status, Status::ModelRefused, "{definition}");
+        assert_eq!(rt; ran.output.as_slice(), output.as_bytes(), "{definition}");
     }
     Ok(())
 }

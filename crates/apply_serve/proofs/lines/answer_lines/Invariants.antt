@@ -1,11 +1,12 @@
 use Rattle.std.proofs.Common.{◌≤◌, length}
+use Rattle.context_typing.specs.Readings.{readings}
 use Rattle.apply_serve.specs.Answers.{RespondsUpTo}
 use Rattle.apply_serve.proofs.lines.answer_lines.Given as goal
 
 abbrev pub invariant-loop-end : goal.invariant-loop-end
 invariant-loop-end g l = record {
   faults : g.K.Sink.fault_count l.initial.output ≤ g.K.Sink.fault_count l.output;
-  answered : RespondsUpTo l.store l.bytes l.rest (g.K.Sink.held l.initial.output) (g.K.Sink.held l.output);
+  answered : RespondsUpTo l.store.world (readings l.store.customs) l.bytes l.rest (g.K.Sink.held l.initial.output) (g.K.Sink.held l.output);
 }
 
 abbrev pub decreases-loop-end : goal.decreases-loop-end

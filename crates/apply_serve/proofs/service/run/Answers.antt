@@ -1,4 +1,6 @@
 use Rattle.std.proofs.Common.{refl, sym, ap, Err, inl, inr}
+use Rattle.context_typing.specs.Readings.{readings}
+use Rattle.apply_serve.specs.OutputBytes.{bytes_of}
 use Rattle.apply_serve.specs.Service.{in_model_line, in_data_line, in_responses}
 use Rattle.apply_serve.proofs.Ends.{served_says, model_refused_says, data_refused_says, read_fault_says, overrun_says, write_fault_says, memory_says}
 use Rattle.apply_serve.proofs.Loading.{HasOutcome-files}
@@ -11,14 +13,14 @@ returns-in-Err-Fault g c =
 pub returns-in-Ok-write_whole : goal.returns-in-Ok-write_whole
 returns-in-Ok-write_whole g c =
     model_refused_says _ _ _ _ _ _ (sym c.in-Some.ensures) refl (record {
-      line = c.in-Err-Model.line.now;
+      line = bytes_of c.in-Err-Model.line;
       judged = HasOutcome-files _ _ _ _ (sym c.in-Some.ensures) (rw c.in-Err-Model.field-0-is at c.in-Err-Model.ensures.stop);
-      written = rw c.in-Err-Model.line-is at c.in-Ok-write_whole.ensures.ok;
+      written = rw (c.bytes.ensures, c.in-Err-Model.line-is) at c.in-Ok-write_whole.ensures.ok;
     }) refl
 
 pub returns-in-Err : goal.returns-in-Err
 returns-in-Err g c =
-    write_fault_says _ _ _ _ _ _ (sym c.in-Some.ensures) refl c.in-Err.ensures.cause.failed (in_model_line (HasOutcome-files _ _ _ _ (sym c.in-Some.ensures) (rw c.in-Err-Model.field-0-is at c.in-Err-Model.ensures.stop)) (rw c.in-Err-Model.line-is at c.in-Err.ensures.err))
+    write_fault_says _ _ _ _ _ _ (sym c.in-Some.ensures) refl c.in-Err.ensures.cause.failed (in_model_line (HasOutcome-files _ _ _ _ (sym c.in-Some.ensures) (rw c.in-Err-Model.field-0-is at c.in-Err-Model.ensures.stop)) (rw (c.bytes.ensures, c.in-Err-Model.line-is) at c.in-Err.ensures.err))
 
 pub returns-in-Ok-write_whole-2 : goal.returns-in-Ok-write_whole-2
 returns-in-Ok-write_whole-2 g c =
@@ -39,7 +41,8 @@ returns-in-Err-Fault-read_input g c =
 pub returns-in-Err-Limit : goal.returns-in-Err-Limit
 returns-in-Err-Limit g c =
     overrun_says _ _ _ _ _ _ (sym c.in-Some.ensures) refl (record {
-      world = c.in-Ok-load.store;
+      world = c.in-Ok-load.store.world;
+      customs = readings c.in-Ok-load.store.customs;
       loaded = HasOutcome-files _ _ _ _ (sym c.in-Some.ensures) c.in-Ok-load.ensures.ok;
       taken = rw c.requires at (c.in-Err-Limit.ensures.limit (ap Err c.in-Err-Limit.field-0-is));
     }) refl
@@ -50,7 +53,8 @@ returns-in-Err-Memory-read_input g c = memory_says _ _ _ _ _ _ (sym c.in-Some.en
 pub returns-in-Ok-answer_lines : goal.returns-in-Ok-answer_lines
 returns-in-Ok-answer_lines g c =
     served_says _ _ _ _ _ _ (sym c.in-Some.ensures) refl (record {
-      world = c.in-Ok-load.store;
+      world = c.in-Ok-load.store.world;
+      customs = readings c.in-Ok-load.store.customs;
       loaded = HasOutcome-files _ _ _ _ (sym c.in-Some.ensures) c.in-Ok-load.ensures.ok;
       bytes = c.in-Ok-read_input.bytes.items;
       taken = rw c.requires at c.in-Ok-read_input.ensures.ok;

@@ -1,12 +1,12 @@
--- The bytes that the program has for a reply.
+-- The bytes that the program has for the output.
 use Rattle.std.specs.Prelude.{ℕ, List, Result, Ok, Err, Vec}
 use Rattle.std.specs.declared.alloc.Global.{Global}
-use Rattle.apply_serve.specs.declared.replies.Reply.{Reply}
-use Rattle.apply_serve.specs.declared.replies.Reply.TheVariants.{Made, Constant}
+use Rattle.apply_serve.specs.declared.output.Output.{Output}
+use Rattle.apply_serve.specs.declared.output.Output.TheVariants.{Made, Constant}
 use Rattle.apply_serve.specs.Responses.{Memory, refused}
 
--- the bytes of a reply
-abbrev pub bytes_of : Reply → List ℕ
+-- the bytes
+abbrev pub bytes_of : Output → List ℕ
 bytes_of (Made bytes) = bytes.items
 bytes_of (Constant bytes) = bytes.now
 
