@@ -1,11 +1,11 @@
 -- From what was read of a model's custom aggregates to their typed readings, or to the first that has none.
 use Rattle.std.proofs.Common.{◌≡◌, ℕ, zero, suc, ◌+◌, ◌<◌, ◌≤◌, ◌&&◌, Bool, true, false, List, [], ◌∷◌, ◌++◌, Option, Some, None, Err, refl, sym, ap, subst, ◌∙◌, map, take, length, get_or, arith, cond}
-use Rattle.std.specs.Prelude.{All, find, is_none, is_some, slice_get, option_map, option_and_then, unwrap_or, ◌==◌}
+use Rattle.std.specs.Prelude.{All, find, is_none, is_some, slice_get, option_map, unwrap_or, ◌==◌}
 use Rattle.std.specs.List.{AllZip, enumerate_from}
 use Rattle.std.proofs.lemmas.Bool.{and_parts, eqb-true, eq-eqb}
 use Rattle.std.proofs.lemmas.List.{take_more, take-map, take_all}
 use Rattle.std.proofs.lemmas.List.Elements.{All-get_or, All-head, All-tail, All-take}
-use Rattle.std.proofs.lemmas.Option.{slice_get-get_or, slice_get_past, slice_get_within}
+use Rattle.std.proofs.lemmas.Option.{slice_get-get_or, slice_get_past}
 use Rattle.edm_values.specs.declared.EdmType.{EdmType}
 use Rattle.edm_values.specs.Lists.{same_text}
 use Rattle.edm_values.specs.Names.{Path}
@@ -14,25 +14,23 @@ use Rattle.edm_values.proofs.SameTexts.{same_texts}
 use Rattle.edm_values.proofs.SearchFacts.{found-passes}
 use Rattle.edm_model.specs.Models.{EntityType, Model, Part}
 use Rattle.edm_model.specs.Models as seen
-use Rattle.edm_model.specs.LookUps.{all_customs, custom_named, customs_of_type, item_named, type_at}
+use Rattle.edm_model.specs.LookUps.{custom_named, customs_of_type, item_named, type_at}
 use Rattle.edm_model.specs.IdLists.{custom_list}
 use Rattle.edm_model.specs.Soundness.{IsSound}
 use Rattle.edm_model.specs.declared.parts.Custom.{Custom}
 use Rattle.apply_ast.specs.Trees.{Expr}
 use Rattle.apply_ast.specs.Views.{expr_of}
-use Rattle.apply_grammar.specs.Gives.{Fails, Gives}
 use Rattle.apply_grammar.specs.Limits.{ExprTextIn, PathText}
 use Rattle.apply_grammar.specs.declared.refusals.ExprRefused.TheVariants as refused
 use Rattle.context_typing.specs.Answers.{IfUntyped, IsEntry, custom_of, reading_for}
-use Rattle.context_typing.specs.Readings.{AreTypedOver, IsTypedCustom, custom_typing, read_kind, reading_of, readings, same_part}
+use Rattle.context_typing.specs.Readings.{AreTypedOver, IsTypedCustom, read_kind, reading_of, readings, same_part}
 use Rattle.context_typing.specs.Typing.{Customs, Reading, custom_kind, custom_risky}
 use Rattle.context_typing.specs.declared.customs.ReadCustom.{ReadCustom}
 use Rattle.context_typing.specs.declared.definitions.CustomRefused.{CustomRefused}
 use Rattle.context_typing.specs.declared.definitions.CustomRefused.TheVariants as custom
 use Rattle.context_typing.specs.declared.customs.TypedCustom.{TypedCustom}
 use Rattle.context_typing.proofs.CustomEntries.{entries, read-kind-is}
-use Rattle.apply_serve.specs.CustomReadings.{AreOfTexts, IsTypedReading, AreCustoms, IsFirstUntyped}
-use Rattle.apply_serve.specs.Loads.{RefusesCustom}
+use Rattle.apply_serve.specs.CustomReadings.{IsTypedReading, AreCustoms, IsFirstUntyped}
 use Rattle.apply_serve.specs.LoadStops.{CustomStopSays}
 use Rattle.apply_serve.specs.ReadCustoms.{ArePathsOf, IsRead, HasNoReading, AreRead, IfRefused, IsFirstId, NamesFirst, owned}
 use Rattle.apply_serve.specs.Responses.{custom_line}

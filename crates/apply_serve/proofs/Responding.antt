@@ -1,5 +1,5 @@
 -- From the response that was made to the response to a request.
-use Rattle.std.proofs.Common.{◌≡◌, ℕ, List, Ok, Err, IfOk, Vec, Global, Some, sym, ap, subst, ◌∙◌}
+use Rattle.std.proofs.Common.{◌≡◌, ℕ, List, Ok, Err, IfOk, Vec, Global, Some, sym, subst}
 use Rattle.std.specs.declared.result.Result.{Result}
 use Rattle.edm_model.specs.Models.{Model}
 use Rattle.edm_model.specs.LookUps.{set_named}

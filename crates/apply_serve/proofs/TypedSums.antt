@@ -1,6 +1,6 @@
 -- A request for a sum that has a typing sums a property that is a number.
 use Rattle.std.proofs.Common.{◌≡◌, ℕ, Bool, true, false, ◌&&◌, List, [], ◌∷◌, Option, Some, None, refl, sym, ap, subst, ◌∙◌, map}
-use Rattle.std.specs.Prelude.{option_and_then, option_map, if◌then◌else◌}
+use Rattle.std.specs.Prelude.{option_and_then, if◌then◌else◌}
 use Rattle.std.specs.Bool.{then_some}
 use Rattle.edm_values.specs.declared.EdmType.{EdmType}
 use Rattle.edm_values.specs.declared.Method.{Method}
@@ -15,7 +15,7 @@ use Rattle.edm_data.specs.Worlds.{World}
 use Rattle.apply_ast.specs.Trees.{Expr, AggItem, Step, Pipe}
 use Rattle.apply_grammar.specs.Requests.{Asked}
 use Rattle.context_typing.specs.Shapes.{Shape, ColumnShape}
-use Rattle.context_typing.specs.Typing.{Customs, Types, aggregate_shape, columns_differ, expr_kind, item_column, method_kind, new_column, no_shape, path_property, shape_of_set, step_shape, steps_shape, widened, is_sum, is_sure}
+use Rattle.context_typing.specs.Typing.{Customs, Types, aggregate_shape, columns_differ, expr_kind, item_column, method_kind, new_column, no_shape, path_property, shape_of_set, step_shape, steps_shape, widened, is_sum}
 use Rattle.context_typing.proofs.TypingEquations.{steps_shape-Then, step_shape-Aggregate}
 use Rattle.apply_serve.specs.Built.{only_name, named_sum, sum_item, sum_step, sum_pipe, sum_asked}
 use Rattle.apply_serve.specs.Replies.{IsTyped}
