@@ -8,7 +8,7 @@ returns-in-Err-Refused-clause-stop g c =
 
 pub returns-in-Err-Refused-judge_customs-clause-stop : goal.returns-in-Err-Refused-judge_customs-clause-stop
 returns-in-Err-Refused-judge_customs-clause-stop g c =
-    FilesMake-refused_custom _ None _ _ _ c.in-Ok.ensures.ok (rw c.in-Err-Refused-judge_customs.field-0-is at c.in-Err-Refused-judge_customs.ensures.stop)
+    rw c.in-Err-Refused-judge_customs.line-is (FilesMake-refused_custom _ None _ _ _ c.in-Ok.ensures.ok (rw c.in-Err-Refused-judge_customs.field-0-is at c.in-Err-Refused-judge_customs.ensures.stop))
 
 pub returns-in-Ok-load_data-clause-ok : goal.returns-in-Ok-load_data-clause-ok
 returns-in-Ok-load_data-clause-ok g c =
@@ -20,4 +20,4 @@ returns-in-Err-Fault-load_data-clause-steady g c =
 
 pub returns-clause-stop : goal.returns-clause-stop
 returns-clause-stop g c =
-    FilesMake-refused_data _ _ _ _ _ c.in-Ok.ensures.keeps c.in-Ok.ensures.ok c.in-Ok-judge_customs.ensures.all _ (rw c.in-Err-Refused-load_data.field-0-is at c.in-Err-Refused-load_data.ensures.stop)
+    rw c.in-Err-Refused-load_data.line-is (FilesMake-refused_data _ _ _ _ _ c.in-Ok.ensures.keeps c.in-Ok.ensures.ok c.in-Ok-judge_customs.ensures.all _ (rw c.in-Err-Refused-load_data.field-0-is at c.in-Err-Refused-load_data.ensures.stop))

@@ -14,4 +14,4 @@ typed_response-requires-clause-typed c =
 
 pub returns-in-Err-At : goal.returns-in-Err-At
 returns-in-Err-At c =
-    respond c.untyped.result _ _ _ _ (no_type c.in-Some.set c.in-Err-At.k (sym (rw (c.model.ensures, c.text-set_name.ensures) at c.in-Some.ensures.value)) (untyped-over c.args.store.now.world (asked_of c.args.request.now) c.in-Some.set _ _ _ c.model-2.ensures c.customs.ensures.value c.in-Err-At.k (rw c.in-Err-At.field-0-is at c.in-Err-At.ensures.untyped))) c.untyped.ensures
+    respond c.untyped.result _ _ _ _ (no_type c.in-Some.set c.in-Err-At.k (sym (rw (c.model.ensures, c.text-set_name.ensures) at c.in-Some.ensures.value)) (untyped-over c.args.store.now.world (asked_of c.args.request.now) c.in-Some.set _ _ _ c.model-2.ensures c.customs.ensures.value c.in-Err-At.k (rw c.in-Err-At.field-0-is at c.in-Err-At.ensures.untyped))) (rw c.in-Err-At.k-is at c.untyped.ensures)
