@@ -21,7 +21,6 @@ use Rattle.edm_model.specs.declared.parts.Custom.{Custom}
 use Rattle.apply_ast.specs.Trees.{Expr}
 use Rattle.apply_ast.specs.Views.{expr_of}
 use Rattle.apply_grammar.specs.Limits.{ExprTextIn, PathText}
-use Rattle.apply_grammar.specs.declared.refusals.ExprRefused.TheVariants as refused
 use Rattle.context_typing.specs.Answers.{IfUntyped, IsEntry, custom_of, reading_for}
 use Rattle.context_typing.specs.Readings.{AreTypedOver, IsTypedCustom, read_kind, reading_of, readings, same_part}
 use Rattle.context_typing.specs.Typing.{Customs, Reading, custom_kind, custom_risky}

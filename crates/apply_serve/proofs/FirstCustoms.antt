@@ -9,7 +9,6 @@ use Rattle.std.proofs.lemmas.List.{append-nil}
 use Rattle.edm_values.specs.Lists.{places}
 use Rattle.edm_values.proofs.OptionFacts.{none_or, some_value}
 use Rattle.edm_model.specs.Models.{Custom, EntityType, Model}
-use Rattle.edm_model.specs.Models as seen
 use Rattle.edm_model.specs.LookUps.{all_customs, customs_of_type}
 use Rattle.edm_model.specs.IdLists.{custom_entry, custom_list, customs_in}
 use Rattle.edm_model.proofs.Counted.{enumerate_more, flat_places_more}
