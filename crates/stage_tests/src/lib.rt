@@ -3,6 +3,8 @@
 #![tactic(auto)]
 
 #[cfg(test)]
+mod rows;
+#[cfg(test)]
 mod stock_requests;
 #[cfg(test)]
 mod typed_requests;

@@ -47,7 +47,7 @@ pub(crate) fn set_of(m: &Model, of: TypeId) -> &'static str {
 }
 
 /// Appends the names of a path with slashes between them.
-fn push_path(text: &mut String, path: &Path) -> Done {
+pub(crate) fn push_path(text: &mut String, path: &Path) -> Done {
     for (i, name) in path.names().iter().enumerate() {
         if i > 0 {
             text.push('/')?;
