@@ -4,9 +4,10 @@ ghost use Rattle.std.specs.Prelude.{◌≡◌, ◌+◌, ◌<◌, ◌∷◌, [], 
 ghost use Rattle.edm_values.specs.declared.Value.{Value};
 ghost use Rattle.apply_meaning.specs.RowViews.{is_of};
 
+use crate::names::{longer_path, path};
 use crate::typing_models::{CYCLE_DATA, SALES_DATA, SAMPLE};
 use crate::typing_table::push_path;
-use apply_ast::{Name, Path};
+use apply_ast::Path;
 use apply_grammar::{read_expr, read_path};
 use apply_meaning::{Row, Steps, eval, lookup};
 use edm_data::{Data, EntityRef, read_data};
@@ -120,32 +121,6 @@ fn world(alloc: Global, data: &str) -> Result<Data, Fail> {
     Ok(read_data(alloc, model, data.as_bytes())?)
 }
 
-fn name(alloc: Global, text: &str) -> Made<Name>
-    ensures { IfOk result (λ n. n ≡ text.now) }
-{
-    match Name::new(alloc, text)? {
-        Some(name) => Ok(name),
-        None => Err(AllocError),
-    }
-}
-
-/// The path of one name.
-fn one(alloc: Global, text: &str) -> Made<Path>
-    ensures { IfOk result (λ p. p ≡ text.now ∷ []) }
-{
-    let name = name(alloc, text)?;
-    Ok(Path::new(vec![in alloc; name]?))
-}
-
-/// The path of two names.
-fn two(alloc: Global, first: &str, second: &str) -> Made<Path>
-    ensures { IfOk result (λ p. p ≡ first.now ∷ second.now ∷ []) }
-{
-    let first = name(alloc, first)?;
-    let second = name(alloc, second)?;
-    Ok(Path::new(vec![in alloc; first, second]?))
-}
-
 /// Prefixes of one name and of two, and one without an entity.
 fn prefixes(
     alloc: Global,
@@ -154,9 +129,9 @@ fn prefixes(
 ) -> Made<Vec<(Path, Option<EntityRef>)>>
     ensures { IfOk result (λ ps. ps.items ≡ (codes "S" ∷ [], Some sale) ∷ (codes "S" ∷ codes "T" ∷ [], Some customer) ∷ (codes "N" ∷ [], None) ∷ []) }
 {
-    let own = one(alloc, "S")?;
-    let below = two(alloc, "S", "T")?;
-    let none = one(alloc, "N")?;
+    let own = path(alloc, "S")?;
+    let below = longer_path(alloc, "S", "T")?;
+    let none = path(alloc, "N")?;
     Ok(vec![in alloc; (own, Some(sale)), (below, Some(customer)), (none, None)]?)
 }
 
@@ -164,8 +139,8 @@ fn prefixes(
 fn columns(alloc: Global) -> Made<Vec<(Path, Value)>>
     ensures { IfOk result (λ cs. cs.items ≡ (codes "P" ∷ [], Value.Int 7) ∷ (codes "Customer" ∷ codes "Country" ∷ [], Value.Text (codes "XX")) ∷ []) }
 {
-    let new = one(alloc, "P")?;
-    let country = two(alloc, "Customer", "Country")?;
+    let new = path(alloc, "P")?;
+    let country = longer_path(alloc, "Customer", "Country")?;
     let text = Seen::Text("XX").own(alloc)?;
     Ok(vec![in alloc; (new, Value::Int(7)), (country, text)]?)
 }
@@ -189,7 +164,7 @@ fn sale_row<L: Ledger>(alloc: Global, store: &Data, at: u32, steps: &mut Steps<L
     let prefixes = prefixes(alloc, sale, customer)?;
     let root = Some(EntityRef { set: sales, at });
     let row = Row::make(alloc, prefixes, root, columns(alloc)?, steps)?;
-    let added = one(alloc, "B")?;
+    let added = path(alloc, "B")?;
     row.extend(vec![in alloc; (added, Value::Null)]?, steps)
 }
 
