@@ -1,6 +1,6 @@
 //! The values of expressions on rows, and rows as they are read back. The expected texts come from the rules and from a
 //! program that was written apart from this one.
-ghost use Rattle.std.specs.Prelude.{◌≡◌, ◌+◌, ◌<◌, ◌∷◌, [], IfOk, OnOk, IsTrue, Some, None, codes};
+ghost use Rattle.std.specs.Prelude.{◌≡◌, ◌+◌, ◌<◌, ◌∷◌, [], IfOk, OnOk, IsTrue, Some, None, codes, pos};
 ghost use Rattle.edm_values.specs.declared.Value.{Value};
 ghost use Rattle.apply_meaning.specs.RowViews.{is_of};
 
@@ -137,7 +137,7 @@ fn prefixes(
 
 /// A new column, and one in the place of a property.
 fn columns(alloc: Global) -> Made<Vec<(Path, Value)>>
-    ensures { IfOk result (λ cs. cs.items ≡ (codes "P" ∷ [], Value.Int 7) ∷ (codes "Customer" ∷ codes "Country" ∷ [], Value.Text (codes "XX")) ∷ []) }
+    ensures { IfOk result (λ cs. cs.items ≡ (codes "P" ∷ [], Value.Int (pos 7)) ∷ (codes "Customer" ∷ codes "Country" ∷ [], Value.Text (codes "XX")) ∷ []) }
 {
     let new = path(alloc, "P")?;
     let country = longer_path(alloc, "Customer", "Country")?;
@@ -163,9 +163,12 @@ fn sale_row<L: Ledger>(alloc: Global, store: &Data, at: u32, steps: &mut Steps<L
     };
     let prefixes = prefixes(alloc, sale, customer)?;
     let root = Some(EntityRef { set: sales, at });
-    let row = Row::make(alloc, prefixes, root, columns(alloc)?, steps)?;
+    let columns = columns(alloc)?;
+    let made = Row::make(alloc, prefixes, root, columns, steps)?;
     let added = path(alloc, "B")?;
-    row.extend(vec![in alloc; (added, Value::Null)]?, steps)
+    let more = vec![in alloc; (added, Value::Null)]?;
+    let row = made.extend(more, steps)?;
+    Ok(row)
 }
 
 /// The plain text of a value, or a word for what has none.
