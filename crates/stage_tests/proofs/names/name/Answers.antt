@@ -1,4 +1,4 @@
-use Rattle.std.proofs.Common.{◌≡◌, sym, ◌∙◌}
+use Rattle.std.proofs.Common.{sym, ◌∙◌}
 use Rattle.edm_values.specs.Names.{is_name}
 use Rattle.stage_tests.proofs.RowFacts.{named-text}
 use Rattle.stage_tests.proofs.names.name.Goals as goal
