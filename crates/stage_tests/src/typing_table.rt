@@ -9,10 +9,12 @@ ghost use Rattle.context_typing.specs.Shapes.{set_shape};
 ghost use Rattle.context_typing.specs.Readings.{AreTypedOver};
 
 use crate::typing_customs::read_customs;
+use crate::typing_models::{SAMPLE, STOCK, WORDS};
+use crate::{stock_requests, typed_requests, untyped_requests};
 use apply_ast::{Path, Pipe};
 use apply_grammar::{GrammarRefused, read_request};
 use context_typing::{
-    ColumnList, ColumnShape, Customs, PrefixList, RootShape, Shape, TypeRefused, is_quiet,
+    ColumnList, ColumnShape, Customs, PrefixList, RootShape, Shape, TypeRefused, Typed, is_quiet,
     type_customs, type_pipe,
 };
 use edm_model::{Model, SetId, TypeId, read_model};
@@ -22,6 +24,19 @@ use std::process::Abort;
 use std::test::Fail;
 
 type Done = Result<(), AllocError>;
+
+/// The tables, each with its model.
+const TABLES: &[(&str, &[(&str, &str)])] = &[
+    (SAMPLE, typed_requests::VALUES),
+    (SAMPLE, typed_requests::TRANSFORMATIONS),
+    (SAMPLE, untyped_requests::VALUES),
+    (SAMPLE, untyped_requests::TRANSFORMATIONS),
+    (SAMPLE, untyped_requests::NO_TEXT),
+    (STOCK, stock_requests::TYPED),
+    (STOCK, stock_requests::UNTYPED),
+    (WORDS, stock_requests::WORDS_TYPED),
+    (WORDS, stock_requests::WORDS_UNTYPED),
+];
 
 /// The name of the entity set whose type this is.
 pub(crate) fn set_of(m: &Model, of: TypeId) -> &'static str {
@@ -47,7 +62,7 @@ pub(crate) fn set_of(m: &Model, of: TypeId) -> &'static str {
 }
 
 /// Appends the names of a path with slashes between them.
-fn push_path(text: &mut String, path: &Path) -> Done {
+pub(crate) fn push_path(text: &mut String, path: &Path) -> Done {
     for (i, name) in path.names().iter().enumerate() {
         if i > 0 {
             text.push('/')?;
@@ -112,7 +127,7 @@ fn shape_text(alloc: Global, m: &Model, shape: &Shape) -> Result<String, AllocEr
 }
 
 /// The shape of a set's own entities.
-fn own_shape(alloc: Global, of: TypeId) -> Shape
+pub(crate) fn own_shape(alloc: Global, of: TypeId) -> Shape
     ensures { result ≡ set_shape of }
 {
     Shape {
@@ -122,7 +137,12 @@ fn own_shape(alloc: Global, of: TypeId) -> Shape
     }
 }
 
-/// What typing says of a pipeline over a set.
+/// Whether two typed pipelines are over one set and have as many steps.
+fn is_copy(a: &Typed, b: &Typed) -> bool {
+    a.set == b.set && a.pipe.steps().len() == b.pipe.steps().len()
+}
+
+/// What typing says of a pipeline over a set. The shape is that of a copy.
 pub(crate) fn typing_of(
     alloc: Global,
     m: &Model,
@@ -135,10 +155,12 @@ pub(crate) fn typing_of(
 {
     match type_pipe(alloc, m, c, set, pipe) {
         Ok(typed) => {
-            let mut text = shape_text(alloc, m, &typed.shape)?;
+            let copy = typed.copy(alloc)?;
+            let mut text = shape_text(alloc, m, &copy.shape)?;
             let own = own_shape(alloc, m.set_type(set));
             let quiet = is_quiet(alloc, m, c, &own, pipe)?;
             push_if(&mut text, !quiet, " (may be refused)")?;
+            push_if(&mut text, !is_copy(&typed, &copy), " (no copy)")?;
             Ok(text)
         }
         Err(TypeRefused::At(k)) => Ok(format!(in alloc; "at {k}")?),
@@ -161,7 +183,7 @@ fn answer(alloc: Global, m: &Model, c: &Customs, line: &str) -> Result<String, F
 }
 
 /// Compares what is said of each line over a model.
-pub(crate) fn expect_rows(
+fn expect_rows(
     rt: &impl Abort,
     alloc: Global,
     model: &str,
@@ -173,6 +195,14 @@ pub(crate) fn expect_rows(
     for (line, wanted) in rows {
         let said = answer(alloc, &m, &c, line)?;
         assert_eq!(rt; said.as_str(), *wanted, "{line}");
+    }
+    Ok(())
+}
+
+#[test]
+fn requests_have_a_typing_or_none(rt: HostRuntime) -> Result<(), Fail> {
+    for (model, rows) in TABLES {
+        expect_rows(&rt, rt.alloc(), model, rows)?;
     }
     Ok(())
 }
