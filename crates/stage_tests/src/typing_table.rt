@@ -25,19 +25,6 @@ use std::test::Fail;
 
 type Done = Result<(), AllocError>;
 
-/// The tables, each with its model.
-const TABLES: &[(&str, &[(&str, &str)])] = &[
-    (SAMPLE, typed_requests::VALUES),
-    (SAMPLE, typed_requests::TRANSFORMATIONS),
-    (SAMPLE, untyped_requests::VALUES),
-    (SAMPLE, untyped_requests::TRANSFORMATIONS),
-    (SAMPLE, untyped_requests::NO_TEXT),
-    (STOCK, stock_requests::TYPED),
-    (STOCK, stock_requests::UNTYPED),
-    (WORDS, stock_requests::WORDS_TYPED),
-    (WORDS, stock_requests::WORDS_UNTYPED),
-];
-
 /// The name of the entity set whose type this is.
 pub(crate) fn set_of(m: &Model, of: TypeId) -> &'static str {
     for name in [
@@ -200,9 +187,46 @@ fn expect_rows(
 }
 
 #[test]
-fn requests_have_a_typing_or_none(rt: HostRuntime) -> Result<(), Fail> {
-    for (model, rows) in TABLES {
-        expect_rows(&rt, rt.alloc(), model, rows)?;
-    }
-    Ok(())
+fn values_of_the_sample_have_a_typing(rt: HostRuntime) -> Result<(), Fail> {
+    expect_rows(&rt, rt.alloc(), SAMPLE, typed_requests::VALUES)
+}
+
+#[test]
+fn transformations_of_the_sample_have_a_typing(rt: HostRuntime) -> Result<(), Fail> {
+    expect_rows(&rt, rt.alloc(), SAMPLE, typed_requests::TRANSFORMATIONS)
+}
+
+#[test]
+fn values_of_the_sample_without_a_typing(rt: HostRuntime) -> Result<(), Fail> {
+    expect_rows(&rt, rt.alloc(), SAMPLE, untyped_requests::VALUES)
+}
+
+#[test]
+fn transformations_of_the_sample_without_a_typing(rt: HostRuntime) -> Result<(), Fail> {
+    expect_rows(&rt, rt.alloc(), SAMPLE, untyped_requests::TRANSFORMATIONS)
+}
+
+#[test]
+fn numbers_that_no_text_has(rt: HostRuntime) -> Result<(), Fail> {
+    expect_rows(&rt, rt.alloc(), SAMPLE, untyped_requests::NO_TEXT)
+}
+
+#[test]
+fn items_have_a_typing(rt: HostRuntime) -> Result<(), Fail> {
+    expect_rows(&rt, rt.alloc(), STOCK, stock_requests::TYPED)
+}
+
+#[test]
+fn items_without_a_typing(rt: HostRuntime) -> Result<(), Fail> {
+    expect_rows(&rt, rt.alloc(), STOCK, stock_requests::UNTYPED)
+}
+
+#[test]
+fn words_of_the_grammar_have_a_typing(rt: HostRuntime) -> Result<(), Fail> {
+    expect_rows(&rt, rt.alloc(), WORDS, stock_requests::WORDS_TYPED)
+}
+
+#[test]
+fn words_of_the_grammar_without_a_typing(rt: HostRuntime) -> Result<(), Fail> {
+    expect_rows(&rt, rt.alloc(), WORDS, stock_requests::WORDS_UNTYPED)
 }
