@@ -1,2 +1,1 @@
-pub mod RowFacts
 pub mod TypingFacts

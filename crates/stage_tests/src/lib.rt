@@ -3,10 +3,6 @@
 #![tactic(auto)]
 
 #[cfg(test)]
-mod names;
-#[cfg(test)]
-mod rows;
-#[cfg(test)]
 mod stock_requests;
 #[cfg(test)]
 mod typed_requests;

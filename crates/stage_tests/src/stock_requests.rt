@@ -1,7 +1,10 @@
 //! Requests over models with more types, more hierarchies and more custom aggregates.
+use crate::typing_models::{STOCK, WORDS};
+use crate::typing_table::expect_rows;
+use std::test::Fail;
 
 /// Requests over items, shops and people that have a typing.
-pub(crate) const TYPED: &[(&str, &str)] = &[
+const TYPED: &[(&str, &str)] = &[
     // Scales: whole numbers stay whole, a decimal of scale 0 does not.
     (
         "Items?$apply=compute(Weight add Code as A,Code mul Code as B,Weight mul Ratio as C,Price add Ratio as D,Price mul Weight as E,Ratio mul 0.1234567 as F)",
@@ -192,7 +195,7 @@ pub(crate) const TYPED: &[(&str, &str)] = &[
 ];
 
 /// Requests over them that have none.
-pub(crate) const UNTYPED: &[(&str, &str)] = &[
+const UNTYPED: &[(&str, &str)] = &[
     // Scales.
     ("Items?$apply=compute(Price mul Ratio as A)", "at 1"),
     ("Items?$apply=compute(Price mul 0.5 as A)", "at 1"),
@@ -314,7 +317,7 @@ pub(crate) const UNTYPED: &[(&str, &str)] = &[
 ];
 
 /// Requests whose names are words of the grammar, with a typing.
-pub(crate) const WORDS_TYPED: &[(&str, &str)] = &[
+const WORDS_TYPED: &[(&str, &str)] = &[
     // Names that are words of the grammar.
     ("count?$apply=filter(filter)", "count"),
     (
@@ -348,7 +351,7 @@ pub(crate) const WORDS_TYPED: &[(&str, &str)] = &[
 ];
 
 /// Such requests without one.
-pub(crate) const WORDS_UNTYPED: &[(&str, &str)] = &[
+const WORDS_UNTYPED: &[(&str, &str)] = &[
     // Names that are words of the grammar.
     ("count?$apply=filter(top)", "at 1"),
     ("count?$apply=filter(filter gt true)", "at 1"),
@@ -370,3 +373,23 @@ pub(crate) const WORDS_UNTYPED: &[(&str, &str)] = &[
     ),
     ("count?$apply=aggregate(start)/aggregate(start)", "at 2"),
 ];
+
+#[test]
+fn items_have_a_typing(rt: HostRuntime) -> Result<(), Fail> {
+    expect_rows(&rt, rt.alloc(), STOCK, TYPED)
+}
+
+#[test]
+fn items_without_a_typing(rt: HostRuntime) -> Result<(), Fail> {
+    expect_rows(&rt, rt.alloc(), STOCK, UNTYPED)
+}
+
+#[test]
+fn words_of_the_grammar_have_a_typing(rt: HostRuntime) -> Result<(), Fail> {
+    expect_rows(&rt, rt.alloc(), WORDS, WORDS_TYPED)
+}
+
+#[test]
+fn words_of_the_grammar_without_a_typing(rt: HostRuntime) -> Result<(), Fail> {
+    expect_rows(&rt, rt.alloc(), WORDS, WORDS_UNTYPED)
+}

@@ -1,7 +1,10 @@
 //! Requests over the sample that have a typing.
+use crate::typing_models::SAMPLE;
+use crate::typing_table::expect_rows;
+use std::test::Fail;
 
 /// Expressions, orders, selections, computed columns and aggregates.
-pub(crate) const VALUES: &[(&str, &str)] = &[
+const VALUES: &[(&str, &str)] = &[
     // Comparisons, with null on one or both sides.
     ("Sales?$apply=filter(null eq null)", "Sales"),
     (
@@ -148,7 +151,7 @@ pub(crate) const VALUES: &[(&str, &str)] = &[
 ];
 
 /// Groups, concatenations, joins, hierarchies, and pipelines that may be refused.
-pub(crate) const TRANSFORMATIONS: &[(&str, &str)] = &[
+const TRANSFORMATIONS: &[(&str, &str)] = &[
     // Keys of groups.
     ("Sales?$apply=groupby((OrgID))", "-; OrgID: String declared"),
     (
@@ -446,17 +449,14 @@ pub(crate) const TRANSFORMATIONS: &[(&str, &str)] = &[
         "Sales?$apply=groupby((rolluprecursive($root/Orgs,OrgTree,OrgID,compute(length(ID) add 1 as X))),aggregate(Amount add 1 with sum as T))",
         "-; T: Decimal(2,18) risky; OrgID: String declared",
     ),
-    // Columns that some instances lack.
-    (
-        "Customers?$apply=outerjoin(Sales as S,compute(Amount add 1 as More))",
-        "Customers; S: Sales absent; S/More: Decimal(2,18) absent risky",
-    ),
-    (
-        "Sales?$apply=groupby((rollup($all,Customer/Country,CustomerID)),aggregate(Amount with sum as T))",
-        "-; T: Decimal(2,18) risky; Customer/Country: String declared absent; CustomerID: String declared absent",
-    ),
-    (
-        "Sales?$apply=concat(compute(1 as One),groupby((ID)))",
-        "Sales absent; One: Int64 absent; ID: Int64 declared absent",
-    ),
 ];
+
+#[test]
+fn expressions_and_columns_have_a_typing(rt: HostRuntime) -> Result<(), Fail> {
+    expect_rows(&rt, rt.alloc(), SAMPLE, VALUES)
+}
+
+#[test]
+fn groups_and_joins_have_a_typing(rt: HostRuntime) -> Result<(), Fail> {
+    expect_rows(&rt, rt.alloc(), SAMPLE, TRANSFORMATIONS)
+}

@@ -1,16 +1,8 @@
-//! The model files of the tables, and data of the sample.
+//! The model files of the tables of typings.
 
 /// The sample: sales to customers by organisations, which form a hierarchy.
 pub(crate) const SAMPLE: &str =
     "{\"$Version\":\"4.01\",\"$EntityContainer\":\"W.C\",\"W\":{\"Sale\":{\"$Kind\":\"EntityType\",\"$Key\":[\"ID\"],\"ID\":{\"$Type\":\"Edm.Int64\"},\"Amount\":{\"$Type\":\"Edm.Decimal\",\"$Precision\":16,\"$Scale\":2,\"$Nullable\":true},\"CustomerID\":{},\"OrgID\":{\"$Nullable\":true},\"Customer\":{\"$Kind\":\"NavigationProperty\",\"$Type\":\"W.Customer\",\"$Partner\":\"Sales\",\"$ReferentialConstraint\":{\"CustomerID\":\"ID\"}},\"Org\":{\"$Kind\":\"NavigationProperty\",\"$Type\":\"W.Org\",\"$Nullable\":true,\"$ReferentialConstraint\":{\"OrgID\":\"ID\"}},\"@Org.OData.Aggregation.V1.CustomAggregate#Best\":\"Edm.Decimal\",\"@Local.Apply.V1.Definition#Best\":{\"Of\":\"Amount\",\"With\":\"sum\",\"Per\":[\"CustomerID\"],\"Then\":\"max\"}},\"Customer\":{\"$Kind\":\"EntityType\",\"$Key\":[\"ID\"],\"ID\":{},\"Name\":{},\"Country\":{},\"Since\":{\"$Type\":\"Edm.Date\",\"$Nullable\":true},\"Sales\":{\"$Kind\":\"NavigationProperty\",\"$Collection\":true,\"$Type\":\"W.Sale\",\"$Partner\":\"Customer\"}},\"Org\":{\"$Kind\":\"EntityType\",\"$Key\":[\"ID\"],\"ID\":{},\"ParentID\":{\"$Nullable\":true},\"Superordinate\":{\"$Kind\":\"NavigationProperty\",\"$Type\":\"W.Org\",\"$Nullable\":true,\"$ReferentialConstraint\":{\"ParentID\":\"ID\"}},\"@Org.OData.Aggregation.V1.RecursiveHierarchy#OrgTree\":{\"NodeProperty\":\"ID\",\"ParentNavigationProperty\":\"Superordinate\"}},\"C\":{\"$Kind\":\"EntityContainer\",\"Sales\":{\"$Collection\":true,\"$Type\":\"W.Sale\"},\"Customers\":{\"$Collection\":true,\"$Type\":\"W.Customer\"},\"Orgs\":{\"$Collection\":true,\"$Type\":\"W.Org\"}}}}";
-
-/// Six sales, the fourth without an amount and the fifth without an organisation.
-pub(crate) const SALES_DATA: &str =
-    "{\"Customers\":[{\"ID\":\"C1\",\"Name\":\"Joe\",\"Country\":\"US\",\"Since\":\"2019-05-01\"},{\"ID\":\"C2\",\"Name\":\"Sue\",\"Country\":\"NL\",\"Since\":\"2020-02-29\"},{\"ID\":\"C3\",\"Name\":\"Luc\",\"Country\":\"FR\"},{\"ID\":\"C4\",\"Name\":\"Ann\",\"Country\":\"FR\",\"Since\":\"2020-12-31\"}],\"Orgs\":[{\"ID\":\"Corp\"},{\"ID\":\"EMEA\",\"ParentID\":\"Corp\"},{\"ID\":\"US\",\"ParentID\":\"Corp\"},{\"ID\":\"West\",\"ParentID\":\"US\"},{\"ID\":\"East\",\"ParentID\":\"US\"},{\"ID\":\"Lab\"}],\"Sales\":[{\"ID\":1,\"Amount\":\"10.00\",\"CustomerID\":\"C1\",\"OrgID\":\"West\"},{\"ID\":\"2\",\"Amount\":\"5.50\",\"CustomerID\":\"C1\",\"OrgID\":\"East\"},{\"ID\":\"3\",\"Amount\":\"7.25\",\"CustomerID\":\"C2\",\"OrgID\":\"EMEA\"},{\"ID\":\"4\",\"Amount\":null,\"CustomerID\":\"C3\",\"OrgID\":\"West\"},{\"ID\":\"5\",\"Amount\":1,\"CustomerID\":\"C2\"},{\"ID\":\"6\",\"Amount\":\"2.25\",\"CustomerID\":\"C1\",\"OrgID\":\"US\"}]}";
-
-/// Two organisations, each the parent of the other.
-pub(crate) const CYCLE_DATA: &str =
-    "{\"Orgs\":[{\"ID\":\"A\",\"ParentID\":\"B\"},{\"ID\":\"B\",\"ParentID\":\"A\"}]}";
 
 /// Items, which are parts of one another, shops and people: four hierarchies over keys of three types, decimals of the scales 0, 2 and 9,
 /// Booleans, days, and custom aggregates of each method.

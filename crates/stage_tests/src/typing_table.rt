@@ -9,12 +9,10 @@ ghost use Rattle.context_typing.specs.Shapes.{set_shape};
 ghost use Rattle.context_typing.specs.Readings.{AreTypedOver};
 
 use crate::typing_customs::read_customs;
-use crate::typing_models::{SAMPLE, STOCK, WORDS};
-use crate::{stock_requests, typed_requests, untyped_requests};
 use apply_ast::{Path, Pipe};
 use apply_grammar::{GrammarRefused, read_request};
 use context_typing::{
-    ColumnList, ColumnShape, Customs, PrefixList, RootShape, Shape, TypeRefused, Typed, is_quiet,
+    ColumnList, ColumnShape, Customs, PrefixList, RootShape, Shape, TypeRefused, is_quiet,
     type_customs, type_pipe,
 };
 use edm_model::{Model, SetId, TypeId, read_model};
@@ -24,19 +22,6 @@ use std::process::Abort;
 use std::test::Fail;
 
 type Done = Result<(), AllocError>;
-
-/// The tables, each with its model.
-const TABLES: &[(&str, &[(&str, &str)])] = &[
-    (SAMPLE, typed_requests::VALUES),
-    (SAMPLE, typed_requests::TRANSFORMATIONS),
-    (SAMPLE, untyped_requests::VALUES),
-    (SAMPLE, untyped_requests::TRANSFORMATIONS),
-    (SAMPLE, untyped_requests::NO_TEXT),
-    (STOCK, stock_requests::TYPED),
-    (STOCK, stock_requests::UNTYPED),
-    (WORDS, stock_requests::WORDS_TYPED),
-    (WORDS, stock_requests::WORDS_UNTYPED),
-];
 
 /// The name of the entity set whose type this is.
 pub(crate) fn set_of(m: &Model, of: TypeId) -> &'static str {
@@ -62,7 +47,7 @@ pub(crate) fn set_of(m: &Model, of: TypeId) -> &'static str {
 }
 
 /// Appends the names of a path with slashes between them.
-pub(crate) fn push_path(text: &mut String, path: &Path) -> Done {
+fn push_path(text: &mut String, path: &Path) -> Done {
     for (i, name) in path.names().iter().enumerate() {
         if i > 0 {
             text.push('/')?;
@@ -127,7 +112,7 @@ fn shape_text(alloc: Global, m: &Model, shape: &Shape) -> Result<String, AllocEr
 }
 
 /// The shape of a set's own entities.
-pub(crate) fn own_shape(alloc: Global, of: TypeId) -> Shape
+fn own_shape(alloc: Global, of: TypeId) -> Shape
     ensures { result ≡ set_shape of }
 {
     Shape {
@@ -137,12 +122,7 @@ pub(crate) fn own_shape(alloc: Global, of: TypeId) -> Shape
     }
 }
 
-/// Whether two typed pipelines are over one set and have as many steps.
-fn is_copy(a: &Typed, b: &Typed) -> bool {
-    a.set == b.set && a.pipe.steps().len() == b.pipe.steps().len()
-}
-
-/// What typing says of a pipeline over a set. The shape is that of a copy.
+/// What typing says of a pipeline over a set.
 pub(crate) fn typing_of(
     alloc: Global,
     m: &Model,
@@ -155,12 +135,10 @@ pub(crate) fn typing_of(
 {
     match type_pipe(alloc, m, c, set, pipe) {
         Ok(typed) => {
-            let copy = typed.copy(alloc)?;
-            let mut text = shape_text(alloc, m, &copy.shape)?;
+            let mut text = shape_text(alloc, m, &typed.shape)?;
             let own = own_shape(alloc, m.set_type(set));
             let quiet = is_quiet(alloc, m, c, &own, pipe)?;
             push_if(&mut text, !quiet, " (may be refused)")?;
-            push_if(&mut text, !is_copy(&typed, &copy), " (no copy)")?;
             Ok(text)
         }
         Err(TypeRefused::At(k)) => Ok(format!(in alloc; "at {k}")?),
@@ -183,7 +161,7 @@ fn answer(alloc: Global, m: &Model, c: &Customs, line: &str) -> Result<String, F
 }
 
 /// Compares what is said of each line over a model.
-fn expect_rows(
+pub(crate) fn expect_rows(
     rt: &impl Abort,
     alloc: Global,
     model: &str,
@@ -195,14 +173,6 @@ fn expect_rows(
     for (line, wanted) in rows {
         let said = answer(alloc, &m, &c, line)?;
         assert_eq!(rt; said.as_str(), *wanted, "{line}");
-    }
-    Ok(())
-}
-
-#[test]
-fn requests_have_a_typing_or_none(rt: HostRuntime) -> Result<(), Fail> {
-    for (model, rows) in TABLES {
-        expect_rows(&rt, rt.alloc(), model, rows)?;
     }
     Ok(())
 }

@@ -1,10 +1,9 @@
 //! Steps that no text of the grammar has: a literal with a sign or without digits behind its point, a number past its limit,
 //! a list with too few elements. They have no typing.
-use crate::names::{name, path};
 use crate::typing_models::SAMPLE;
 use crate::typing_table::typing_of;
 use apply_ast::{
-    AggList, BinOp, ClimbStep, Expr, HierName, KeyItem, KeyList, Limit, NamedList, Number,
+    AggList, BinOp, ClimbStep, Expr, HierName, KeyItem, KeyList, Limit, Name, NamedList, Number,
     OrderList, Path, PathList, Pipe, PipeList, Step, TopStep,
 };
 use context_typing::type_customs;
@@ -17,6 +16,15 @@ type Made<T> = Result<T, AllocError>;
 
 /// One more than the greatest number of instances, or distance, that a text has.
 const PAST: u64 = 9_223_372_036_854_775_808;
+
+fn name(alloc: Global, text: &str) -> Made<Name> {
+    Name::new(alloc, text)?.ok_or(AllocError)
+}
+
+fn path(alloc: Global, text: &str) -> Made<Path> {
+    let name = name(alloc, text)?;
+    Ok(Path::new(vec![in alloc; name]?))
+}
 
 fn dec(mantissa: i64, scale: u8) -> Made<Dec> {
     Dec::new(mantissa, scale).ok_or(AllocError)

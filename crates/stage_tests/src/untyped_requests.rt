@@ -1,7 +1,10 @@
 //! Requests over the sample that have no typing, with the first step that has none.
+use crate::typing_models::SAMPLE;
+use crate::typing_table::expect_rows;
+use std::test::Fail;
 
 /// Expressions, paths, names, and the operands of methods.
-pub(crate) const VALUES: &[(&str, &str)] = &[
+const VALUES: &[(&str, &str)] = &[
     // Null stands elsewhere than beside a comparison.
     ("Sales?$apply=filter(null)", "at 1"),
     ("Sales?$apply=filter(not null)", "at 1"),
@@ -173,7 +176,7 @@ pub(crate) const VALUES: &[(&str, &str)] = &[
 ];
 
 /// Groups, concatenations, joins, selections and hierarchies.
-pub(crate) const TRANSFORMATIONS: &[(&str, &str)] = &[
+const TRANSFORMATIONS: &[(&str, &str)] = &[
     // Keys.
     ("Sales?$apply=groupby((Nope))", "at 1"),
     ("Sales?$apply=groupby((Customer))", "at 1"),
@@ -399,7 +402,7 @@ pub(crate) const TRANSFORMATIONS: &[(&str, &str)] = &[
 ];
 
 /// Lines that are no requests, so that typing is not asked.
-pub(crate) const NO_TEXT: &[(&str, &str)] = &[
+const NO_TEXT: &[(&str, &str)] = &[
     // Numbers and lists that no text has.
     ("Sales?$apply=topsum(-1,Amount)", "no text at 1"),
     ("Sales?$apply=bottomsum(-0.5,Amount)", "no text at 1"),
@@ -427,3 +430,18 @@ pub(crate) const NO_TEXT: &[(&str, &str)] = &[
     ),
     ("Sales?$apply=identity/skip(1)/aggregate()", "no text at 3"),
 ];
+
+#[test]
+fn expressions_and_columns_without_a_typing(rt: HostRuntime) -> Result<(), Fail> {
+    expect_rows(&rt, rt.alloc(), SAMPLE, VALUES)
+}
+
+#[test]
+fn groups_and_joins_without_a_typing(rt: HostRuntime) -> Result<(), Fail> {
+    expect_rows(&rt, rt.alloc(), SAMPLE, TRANSFORMATIONS)
+}
+
+#[test]
+fn numbers_that_no_text_has(rt: HostRuntime) -> Result<(), Fail> {
+    expect_rows(&rt, rt.alloc(), SAMPLE, NO_TEXT)
+}
