@@ -5,7 +5,6 @@ pub mod ListFacts
 pub mod MadeValues
 pub mod NumberLaws
 pub mod OptionFacts
-pub mod Permutations
 pub mod PrintLaws
 pub mod Reorderings
 pub mod SameTexts

@@ -104,6 +104,10 @@ answer PastRange = Err ReadRefused.Range
 
 -- ---- plain texts
 
+-- the most digits of a number of 64 bits
+abbrev pub digits_max : ℕ
+digits_max = 20
+
 -- the decimal digits of n, with zeros in front up to this many
 abbrev pub padded_decimal : ℕ → ℕ → List ℕ
 padded_decimal width n = replicate (width - length (decimal n)) 48 ++ decimal n

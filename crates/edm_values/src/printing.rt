@@ -2,7 +2,7 @@
 ghost use Rattle.std.specs.Prelude.{◌≡◌, ◌<◌, ◌≤◌, ◌^◌, ◌+◌, ◌++◌, IsFalse, OnOk, OnErr, drop, replicate, int_lt, pos, nat_abs};
 ghost use Rattle.std.specs.List.{flat_map};
 ghost use Rattle.std.specs.Fmt.{sign_text, signed_decimal};
-ghost use Rattle.edm_values.specs.Literals.{decimal_text, day_text, padded_decimal, plain_text, with_point};
+ghost use Rattle.edm_values.specs.Literals.{decimal_text, day_text, digits_max, padded_decimal, plain_text, with_point};
 ghost use Rattle.edm_values.specs.Values.{is_beyond, is_null, seen_value};
 
 use crate::{Day, Dec, Seen};
@@ -84,9 +84,9 @@ fn print_day(d: Day, out: &mut Vec<u8>) -> Result<(), AllocError>
 
 /// Writes the digits at the end of a row of zeros, and says where they begin with zeros up to the width.
 fn write_padded(number: u64, width: usize, room: &mut [u8; DIGITS_MAX]) -> usize
-    requires zeros { room.old ≡ replicate DIGITS_MAX 48 }
-    requires width { width ≤ DIGITS_MAX }
-    ensures start { result + width ≤ DIGITS_MAX }
+    requires zeros { room.old ≡ replicate digits_max 48 }
+    requires width { width ≤ digits_max }
+    ensures start { result + width ≤ digits_max }
     ensures digits { drop result room.new ≡ padded_decimal width number }
 {
     let start = write_digits(number, room, DIGITS_MAX);

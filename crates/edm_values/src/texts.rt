@@ -32,11 +32,18 @@ impl Text {
         self.text.as_str()
     }
 
-    /// A copy of the text.
+    /// A text of a copy of this string. A refusal is want of memory.
+    pub fn of(alloc: Global, text: &str) -> Result<Text, AllocError>
+        ensures value { IfOk result (λ t. t ≡ text.now) }
+    {
+        Text::new(String::from_str(alloc, text)?)
+    }
+
+    /// A copy of the text. A refusal is want of memory.
     pub fn copy(&self, alloc: Global) -> Result<Text, AllocError>
         ensures value { IfOk result (λ t. t ≡ self.now) }
     {
-        Text::new(String::from_str(alloc, self.as_str())?)
+        Text::of(alloc, self.as_str())
     }
 }
 

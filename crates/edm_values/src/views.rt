@@ -33,7 +33,7 @@ impl<'a> Seen<'a> {
             Seen::Bool(b) => Ok(Value::Bool(b)),
             Seen::Int(n) => Ok(Value::Int(n)),
             Seen::Dec(d) => Ok(Value::Dec(d)),
-            Seen::Text(t) => Ok(Value::Text(Text::new(String::from_str(alloc, t)?)?)),
+            Seen::Text(t) => Ok(Value::Text(Text::of(alloc, t)?)),
             Seen::Day(d) => Ok(Value::Day(d)),
             Seen::Beyond => Ok(Value::Beyond),
         }
