@@ -1,34 +1,27 @@
 -- Tests at each place of a list.
-use Rattle.std.proofs.Common.{◌≡◌, ℕ, zero, suc, ◌+◌, ◌<◌, Bool, true, false, List, [], ◌∷◌, ◌++◌, refl, sym, ◌∙◌, ap, arith, add-one, inl, inr, map, take, length, get_or, Some, append-nil, length-append}
+use Rattle.std.proofs.Common.{◌≡◌, ℕ, zero, suc, ◌+◌, ◌<◌, Bool, false, List, [], ◌∷◌, ◌++◌, refl, sym, ◌∙◌, ap, arith, add-one, inl, inr, map, take, length, get_or, Some, append-nil, length-append}
 use Rattle.std.specs.Prelude.{◌&&◌, flat_map, slice_get}
 use Rattle.std.specs.List.{list_all, enumerate_from}
 use Rattle.std.proofs.lemmas.List.Folds.{list_all-append}
 use Rattle.std.proofs.lemmas.Bool.{cases_lt}
+use Rattle.std.proofs.Math.Bool.{and-true, and-false}
 use Rattle.std.proofs.lemmas.Grind.{flat_map-append}
 use Rattle.std.proofs.lemmas.List.{map-append}
 use Rattle.edm_schema.proofs.Mapped.{length-mapped}
 use Rattle.edm_values.specs.Lists.{places}
 
-and_true : (b : Bool) → (b && true) ≡ b
-and_true true = refl
-and_true false = refl
-
-and_false : (b : Bool) → (b && false) ≡ false
-and_false true = refl
-and_false false = refl
-
 -- one place more
 pub all_places_more : (p : ℕ → Bool) (k : ℕ) → list_all p (places (k + 1)) ≡ (list_all p (places k) && p k)
-all_places_more p k = rw add-one (list_all-append p (places k) (k ∷ []) ∙ ap (λ b. list_all p (places k) && b) (and_true (p k)))
+all_places_more p k = rw add-one (list_all-append p (places k) (k ∷ []) ∙ ap (λ b. list_all p (places k) && b) (and-true (p k)))
 
 -- a place that does not pass
 pub all_places_at : (p : ℕ → Bool) (n k : ℕ) → k < n → p k ≡ false → list_all p (places n) ≡ false
 all_places_at p zero k h fails = absurd (omega arith)
 all_places_at p (suc n) k h fails =
-    let last = list_all-append p (places n) (n ∷ []) ∙ ap (λ b. list_all p (places n) && b) (and_true (p n)) in
+    let last = list_all-append p (places n) (n ∷ []) ∙ ap (λ b. list_all p (places n) && b) (and-true (p n)) in
     elim (cases_lt k n) [
       | inl below ↦ last ∙ ap (λ b. b && p n) (all_places_at p n k below fails)
-      | inr above ↦ (let here : k ≡ n = omega arith in last ∙ (ap (λ b. list_all p (places n) && b) (ap p (sym here) ∙ fails) ∙ and_false (list_all p (places n))))
+      | inr above ↦ (let here : k ≡ n = omega arith in last ∙ (ap (λ b. list_all p (places n) && b) (ap p (sym here) ∙ fails) ∙ and-false (list_all p (places n))))
     ]
 
 pub ruleset counted = (all_places_more, all_places_at)

@@ -1,5 +1,5 @@
 -- The items of an array, as the program holds them.
-use Rattle.std.proofs.Common.{◌≡◌, ℕ, zero, suc, ◌+◌, ◌<◌, Bool, List, [], ◌∷◌, ◌++◌, refl, ap, map, length, take, get_or, Some, None, arith, add-one}
+use Rattle.std.proofs.Common.{◌≡◌, ℕ, zero, suc, ◌+◌, ◌<◌, Bool, List, [], ◌∷◌, ◌++◌, refl, ap, length, take, get_or, Some, None, arith, add-one}
 use Rattle.std.specs.Option.{option_to_list}
 use Rattle.std.specs.Prelude.{filter_map, Option}
 use Rattle.std.specs.List.{list_all, cons_option}
@@ -8,11 +8,6 @@ use Rattle.serde_json.specs.Data.{Data}
 use Rattle.serde_json.specs.View.{view, items_view}
 use Rattle.serde_json.specs.declared.value.Value.{Value}
 use Rattle.edm_schema.specs.JsonTrees.{item_list}
-
--- the items are seen one by one
-pub items_seen : (vs : List Value) → item_list (items_view vs) ≡ map view vs
-items_seen [] = refl
-items_seen (v ∷ vs) = ap (λ ds. view v ∷ ds) (items_seen vs)
 
 -- as many are seen
 pub length_seen : (vs : List Value) → length (item_list (items_view vs)) ≡ length vs

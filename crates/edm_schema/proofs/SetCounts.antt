@@ -40,11 +40,6 @@ counted_more is_for xs i x p old n counts within is for below size before counte
     apart : (a b : ℕ) → a ≢ b → nat_eq a b ≡ false
     apart a b h = grind (arith, nat_tests)
 
--- an item that is for no place
-pub uncounted_more : {X : Type 0} (is_for : ℕ → X → Bool) (xs : List X) (i : ℕ) (x : X) (n : ℕ) (counts : List ℕ) → i < length xs → x ≡ get_or xs i x → ((k : ℕ) → is_for k x ≡ false)
-    → ((k : ℕ) → k < n → get_or counts k 0 ≡ count_by (is_for k) (take i xs)) → (k : ℕ) → k < n → get_or counts k 0 ≡ count_by (is_for k) (take (i + 1) xs)
-uncounted_more is_for xs i x n counts within is for counted k small = counted k small ∙ sym (count_by_more_no (is_for k) xs i x within (ap (is_for k) (sym is) ∙ for k))
-
 -- as many pass of what was made as make what passes
 pub count_by-map : {X Y : Type 0} (p : Y → Bool) (f : X → Y) (xs : List X) → count_by p (map f xs) ≡ count_by (λ x. p (f x)) xs
 count_by-map p f [] = refl
