@@ -219,6 +219,35 @@ aggregate-found kind b vs found k h n =
     ap (λ t. if t then Value.Beyond else (if is_nonempty (kept vs) then exact_sum (kept vs) else Value.Null)) (none_beyond kind b vs h)
     ∙ ap (λ t. if t then exact_sum (kept vs) else Value.Null) (nonempty-kept vs (scale_of kind) (all-at kind b vs k h) ∙ n)
 
+fits-from : (kind : EdmType) (v : Value) → is_of_kind kind v ≡ true → is_beyond v ≡ false → fits kind true v ≡ true
+fits-from kind Value.Null h b = refl
+fits-from kind (Value.Bool x) h b = and_from _ _ h refl
+fits-from kind (Value.Int x) h b = and_from _ _ h refl
+fits-from kind (Value.Dec x) h b = and_from _ _ h refl
+fits-from kind (Value.Text x) h b = and_from _ _ h refl
+fits-from kind (Value.Day x) h b = and_from _ _ h refl
+fits-from kind Value.Beyond h b = absurd (false≢true (sym b))
+
+all-fit-from : (kind : EdmType) (vs : List Value) → list_all (is_of_kind kind) vs ≡ true → list_any is_beyond vs ≡ false → list_all (fits kind true) vs ≡ true
+all-fit-from kind [] h b = refl
+all-fit-from kind (v ∷ vs) h b =
+    and_from _ _ (fits-from kind v (and_first _ _ h) (or_first (is_beyond v) _ b)) (all-fit-from kind vs (and_second (is_of_kind kind v) _ h) (or_second (is_beyond v) _ b))
+  where
+    or_first : (a b : Bool) → (a || b) ≡ false → a ≡ false
+    or_first false b h = refl
+    or_first true b h = h
+
+    or_second : (a b : Bool) → (a || b) ≡ false → b ≡ false
+    or_second false b h = h
+    or_second true b h = absurd (false≢true (sym h))
+
+-- the sum of numbers of one type, by whether one is there
+pub sum-there : (kind : EdmType) (vs : List Value) → IsTrue (is_number_kind kind) → list_all (is_of_kind kind) vs ≡ true → list_any is_beyond vs ≡ false → list_any is_number vs ≡ true → aggregate method.Sum vs ≡ number_in kind (amounts (pos 0) vs)
+sum-there kind vs k h b n = let f = all-fit-from kind vs h b in aggregate-found kind true vs true k f n ∙ exact_sum-kept kind true vs k f n
+
+pub sum-none : (kind : EdmType) (vs : List Value) → IsTrue (is_number_kind kind) → list_all (is_of_kind kind) vs ≡ true → list_any is_beyond vs ≡ false → list_any is_number vs ≡ false → aggregate method.Sum vs ≡ Value.Null
+sum-none kind vs k h b n = aggregate-found kind true vs false k (all-fit-from kind vs h b) n
+
 -- ---- the values of a property of a world
 
 value_fits : (ps : List Property) (q : Property) (vs : List Value) (p : ℕ) → are_values_of ps vs ≡ true → slice_get ps p ≡ Some q → is_value_of q (value_in vs p) ≡ true
