@@ -1,7 +1,8 @@
 -- What holds of a run from one transformation to the next.
-use Rattle.std.proofs.Common.{◌≡◌, ℕ, suc, ◌+◌, ◌<◌, refl, sym, ◌∙◌, ap, Bool, true, List, length, drop, map, get_or, Option, Some, None, drop-cons, add-one}
+use Rattle.std.proofs.Common.{◌≡◌, ℕ, suc, ◌+◌, ◌<◌, refl, sym, ◌∙◌, ap, Bool, true, ◌&&◌, List, [], ◌∷◌, length, drop, map, get_or, Option, Some, None, drop-cons, add-one}
 use Rattle.std.specs.Prelude.{option_and_then, unwrap_or, is_some}
 use Rattle.std.proofs.lemmas.Bool.{and_parts}
+use Rattle.std.specs.List.{list_all}
 use Rattle.edm_values.specs.Lists.{is_some_and}
 use Rattle.edm_values.specs.Names.{Path}
 use Rattle.edm_values.proofs.OptionFacts.{chained}
@@ -28,7 +29,7 @@ use Rattle.context_typing.specs.Answers.{IsTyping}
 use Rattle.context_typing.specs.declared.typed.Typed.{Typed}
 use Rattle.edm_model.specs.LookUps.{IsSet, set_type}
 use Rattle.std.proofs.Common.{IsTrue}
-use Rattle.apply_meaning.specs.Running.{Runs, StepRuns, all_of, all_free, new_columns, Gives}
+use Rattle.apply_meaning.specs.Running.{Runs, StepRuns, all_steps, all_of, all_free, new_columns, Gives}
 use Rattle.apply_meaning.specs.declared.refusals.RunRefused.{RunRefused}
 use Rattle.apply_meaning.specs.declared.refusals.RunRefused.TheVariants.{Range, Memory}
 use Rattle.std.proofs.Common.{Err}
@@ -108,6 +109,19 @@ next-step ss i d h e =
     ap (λ t. pipe (map step_of t)) (drop-cons ss i d h)
     ∙ ap (λ x. Pipe.Then (step_of x) (pipe (map step_of (drop (suc i) ss)))) (sym e)
     ∙ ap (λ n. Pipe.Then (step_of d) (pipe (map step_of (drop n ss)))) (sym (add-one i))
+
+-- all transformations of a pipeline pass where each of the program's does
+pub steps-all : (q : Step → Bool) (ss : List code.Step) → list_all (λ s. q (step_of s)) ss ≡ all_steps q (pipe (map step_of ss))
+steps-all q [] = refl
+steps-all q (s ∷ ss) = ap (λ b. q (step_of s) && b) (steps-all q ss)
+
+-- the next one
+pub steps-here : (q : Step → Bool) (ss : List code.Step) (i : ℕ) (d : code.Step) → i < length ss → d ≡ get_or ss i d → all_steps q (pipe (map step_of (drop i ss))) ≡ true → q (step_of d) ≡ true
+steps-here q ss i d h e b = (and_parts (q (step_of d)) _ (sym (ap (all_steps q) (next-step ss i d h e)) ∙ b)).0
+
+-- and those after it
+pub steps-next : (q : Step → Bool) (ss : List code.Step) (i : ℕ) (d : code.Step) → i < length ss → d ≡ get_or ss i d → all_steps q (pipe (map step_of (drop i ss))) ≡ true → all_steps q (pipe (map step_of (drop (i + 1) ss))) ≡ true
+steps-next q ss i d h e b = (and_parts (q (step_of d)) _ (sym (ap (all_steps q) (next-step ss i d h e)) ∙ b)).1
 
 -- ---- the instances of a set
 

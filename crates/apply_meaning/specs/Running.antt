@@ -82,10 +82,14 @@ is_plain_step (Step.Top n) = true
 is_plain_step (Step.Aggregate items) = list_all is_standard items
 is_plain_step _ = false
 
--- a pipeline of such transformations
+-- all transformations of a pipeline pass
+abbrev pub all_steps : (Step → Bool) → Pipe → Bool
+all_steps passes Pipe.End = true
+all_steps passes (Pipe.Then s p) = passes s && all_steps passes p
+
+-- a pipeline of plain transformations
 abbrev pub is_plain : Pipe → Bool
-is_plain Pipe.End = true
-is_plain (Pipe.Then s p) = is_plain_step s && is_plain p
+is_plain = all_steps is_plain_step
 
 -- a pipeline that takes one shape to another, and instances that fit the first
 pub record Runs (w : World) (c : Customs) (S S' : Shape) (p : Pipe) (l : List Instance) : Type 0 where

@@ -141,6 +141,7 @@ pub fn run_plain<L: Ledger>(
 {
     let rows = set_rows(alloc, store, t.set, steps)?;
     typed_ready(store, c, t, &rows);
+    data_is_loaded(store);
     let mut rows = rows;
     let all = t.pipe.steps();
     for (i, step) in all.iter().enumerate() {

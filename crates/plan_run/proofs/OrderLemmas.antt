@@ -27,9 +27,9 @@ use Rattle.apply_ast.specs.Views.{item_of}
 use Rattle.apply_ast.specs.declared.items.OrderItem as code
 use Rattle.apply_meaning.specs.Instances.{Instance, val}
 use Rattle.apply_meaning.specs.Meaning.{order_before, item_before, order_values, refused_at_beyond, values}
-use Rattle.plan_run.specs.declared.RunRefused.{RunRefused}
-use Rattle.plan_run.specs.declared.RunRefused.TheVariants.{Range, Memory}
-use Rattle.plan_run.specs.Running.{Gives}
+use Rattle.apply_meaning.specs.declared.refusals.RunRefused.{RunRefused}
+use Rattle.apply_meaning.specs.declared.refusals.RunRefused.TheVariants.{Range, Memory}
+use Rattle.apply_meaning.specs.Running.{Gives}
 use Rattle.plan_run.specs.Orders.{GivesRanked, RankedRow, first_value, has_beyond, item_cmp, item_values, ranked, ranked_before, values_cmp}
 
 -- ---- the order of lists of values

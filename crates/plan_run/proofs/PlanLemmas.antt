@@ -11,8 +11,7 @@ use Rattle.apply_meaning.specs.MeaningLaws.{AllFit, IsLoaded}
 use Rattle.apply_meaning.proofs.MeaningProved.{loaded-rows}
 use Rattle.optimiser.specs.Plans.{IsPlan, own_of, written_of}
 use Rattle.optimiser.specs.declared.Plan.{Plan}
-use Rattle.plan_run.specs.Running.{Runs}
-use Rattle.plan_run.proofs.KeysApart.{keys_apart}
+use Rattle.apply_meaning.specs.Running.{Runs}
 
 -- the plan's own pipeline runs on the instances of its set
 pub plan-runs : (w : World) (c : Customs) (p : Plan) (l : List Instance) → IsLoaded w → IsTrue (customs_typed w.model c) → IsPlan w.model c p → IsSet w.model (written_of p).set
@@ -20,7 +19,6 @@ pub plan-runs : (w : World) (c : Customs) (p : Plan) (l : List Instance) → IsL
 plan-runs w c p l L customs P h e = record {
   customs = customs;
   lawful = own_is_lawful w.model (set_type w.model (own_of p).set);
-  apart = keys_apart w c L customs;
   typed = ap (λ s. steps_shape w.model c (shape_of_set w.model s) (pipe_of (own_of p).pipe)) P.set ∙ ap (steps_shape w.model c (shape_of_set w.model (written_of p).set)) P.pipe ∙ (P.typing).1 ∙ ap Some (sym P.shape);
   fit = subst (AllFit w (shape_of_set w.model (own_of p).set)) (sym e) (loaded-rows w (own_of p).set L (subst (λ s. s < length w.model.sets) (sym P.set) h));
 }

@@ -1,122 +1,44 @@
--- What holds of a run from one transformation to the next.
-use Rattle.std.proofs.Common.{◌≡◌, ℕ, suc, ◌+◌, ◌<◌, ◌≤◌, refl, sym, ◌∙◌, ap, Bool, true, List, [], ◌∷◌, length, drop, map, get_or, Option, Some, None, arith, drop-cons, add-one}
-use Rattle.std.specs.Prelude.{option_and_then, unwrap_or, is_some}
-use Rattle.std.proofs.lemmas.Bool.{and_parts}
-use Rattle.edm_values.specs.Lists.{is_some_and}
-use Rattle.edm_values.specs.Names.{Path}
-use Rattle.edm_values.proofs.OptionFacts.{chained}
-use Rattle.apply_meaning.proofs.FitLemmas.{fit-parts}
-use Rattle.edm_values.proofs.ListFacts.{all-each, all-of_mapped}
-use Rattle.edm_data.specs.Worlds.{World, Entity}
-use Rattle.edm_data.specs.References.{entity_type}
-use Rattle.apply_ast.specs.Trees.{Named, Pipe, Step, pipe}
-use Rattle.apply_ast.specs.Views.{step_of}
-use Rattle.apply_ast.specs.declared.steps.Step as code
-use Rattle.context_typing.specs.Paths.{is_none_or}
-use Rattle.context_typing.specs.Shapes.{Shape, PrefixShape}
-use Rattle.context_typing.specs.Typing.{Customs, after, is_lawful, prefix_at, step_shape, steps_shape}
-use Rattle.context_typing.proofs.TypingEquations.{steps_shape-End, steps_shape-Then}
-use Rattle.context_typing.proofs.TypingLaw.{typing_keeps_lawful}
-use Rattle.apply_meaning.specs.Instances.{Instance, fits, prefix_fits, prefix_fits_at, extended}
-use Rattle.apply_meaning.specs.Meaning.{Outcome, mean, step_mean}
-use Rattle.apply_meaning.specs.MeaningLaws.{AllFit, IsLoaded}
-use Rattle.apply_meaning.specs.RowViews.{is_of, columns_differ}
-use Rattle.apply_meaning.proofs.MeaningEquations.{mean-End, mean-Then, step_mean-Compute}
-use Rattle.apply_meaning.proofs.MeaningProved.{loaded-mean_fits}
-use Rattle.plan_run.specs.Costs.{cost, step_cost, result_length, inner_costs}
-use Rattle.plan_run.specs.Running.{Runs, StepRuns, all_of, all_free, new_columns, Gives}
-use Rattle.plan_run.specs.declared.RunRefused.{RunRefused}
-use Rattle.plan_run.specs.declared.RunRefused.TheVariants.{Range, Memory}
-use Rattle.std.proofs.Common.{Err}
-use Rattle.plan_run.proofs.CostEquations.{cost-Then, inner_costs-Compute}
+-- What a pipeline costs from one transformation to the next.
+use Rattle.std.proofs.Common.{◌≡◌, ◌+◌, ◌≤◌, refl, ◌∙◌, ap, suc, List, [], ◌∷◌, length, map, Some, None, arith}
+use Rattle.std.specs.Prelude.{unwrap_or}
+use Rattle.edm_data.specs.Worlds.{World}
+use Rattle.apply_ast.specs.Trees.{AggItem, Named, Pipe, Step}
+use Rattle.context_typing.specs.Shapes.{Shape}
+use Rattle.context_typing.specs.Typing.{Customs, after}
+use Rattle.apply_meaning.specs.Instances.{Instance, extended}
+use Rattle.apply_meaning.specs.Meaning.{step_mean}
+use Rattle.apply_meaning.specs.Running.{new_columns}
+use Rattle.apply_meaning.proofs.MeaningEquations.{step_mean-Aggregate, step_mean-Compute}
+use Rattle.apply_meaning.proofs.RunLemmas.{Turn}
+use Rattle.plan_run.specs.Costs.{cost, inner_costs, result_length, step_cost}
+use Rattle.plan_run.proofs.CostEquations.{cost-Then, inner_costs-Aggregate, inner_costs-Compute}
 
--- ---- what fits is of the world
+-- the cost of a pipeline is that of its first transformation and that of the rest
+pub turn-cost : (w : World) (c : Customs) (S S' : Shape) (P : Pipe) (s : Step) (p : Pipe) (l r : List Instance) → P ≡ Pipe.Then s p → (t : Turn w c S S' P s p l) → step_mean w c S s l ≡ Some r → cost w c S P l ≡ step_cost w c S s l + cost w c t.between p r
+turn-cost w c S S' P s p l r e t m =
+    ap (λ P. cost w c S P l) e ∙ cost-Then w c S s p l
+    ∙ ap (λ o. step_cost w c S s l + elim o [ None ↦ 0 | Some r ↦ cost w c (after w.model c S s) p r ]) m
+    ∙ ap (λ o. step_cost w c S s l + cost w c (unwrap_or o S) p r) t.first.typed
 
-some-there : {X : Type 0} (q : X → Bool) (o : Option X) → is_some_and q o ≡ true → is_some o ≡ true
-some-there q None h = absurd (cc)
-some-there q (Some x) h = refl
-
-prefix-of : (w : World) (S : Shape) (i : Instance) (p : Path) (e : Option Entity) (o : Option PrefixShape) → prefix_fits_at w S i (p, e) o ≡ true → is_none_or (λ e. is_some (entity_type w e)) e ≡ true
-prefix-of w S i p None o h = refl
-prefix-of w S i p (Some e) None h = absurd (cc)
-prefix-of w S i p (Some e) (Some y) h = some-there _ (entity_type w e) (and_parts _ _ h).0
-
-pub fits-of : (w : World) (S : Shape) (i : Instance) → fits w S i ≡ true → is_of w i ≡ true
-fits-of w S i h =
-    all-each (prefix_fits w S i) (λ x. is_none_or (λ e. is_some (entity_type w e)) x.1) i.prefixes (fit-parts w S i h).prefixes_fit (λ x. prefix-of w S i x.0 x.1 (prefix_at S x.0))
-
-pub fits-differ : (w : World) (S : Shape) (i : Instance) → fits w S i ≡ true → columns_differ i.columns ≡ true
-fits-differ w S i h = (fit-parts w S i h).columns_differ
-
-pub all-fit-of : (w : World) (S : Shape) (l : List Instance) → AllFit w S l → all_of w l ≡ true
-all-fit-of w S l h = all-each (fits w S) (is_of w) l h (fits-of w S)
-
--- ---- one transformation
-
-pub step-fits : (w : World) (c : Customs) (S S' : Shape) (s : Step) (l r : List Instance) → IsLoaded w → StepRuns w c S S' s l → step_mean w c S s l ≡ Some r → AllFit w S' r
-step-fits w c S S' s l r L R m =
-    loaded-mean_fits w c S S' (Pipe.Then s Pipe.End) l r L R.customs R.lawful (refl, steps_shape-Then w.model c S s Pipe.End ∙ ap (option_and_then (λ T. steps_shape w.model c T Pipe.End)) R.typed ∙ steps_shape-End w.model c S') R.fit
-    (mean-Then w c S s Pipe.End l ∙ ap (option_and_then (mean w c (after w.model c S s) Pipe.End)) m ∙ mean-End w c (after w.model c S s) r)
-
-pub step-lawful : (w : World) (c : Customs) (S S' : Shape) (s : Step) (l : List Instance) → StepRuns w c S S' s l → is_lawful w.model S' ≡ true
-step-lawful w c S S' s l R =
-    typing_keeps_lawful w.model c S S' (Pipe.Then s Pipe.End) tt R.lawful (refl, steps_shape-Then w.model c S s Pipe.End ∙ ap (option_and_then (λ T. steps_shape w.model c T Pipe.End)) R.typed ∙ steps_shape-End w.model c S')
-
--- what is typed as a computation has new columns that differ from the others
-pub compute-free : (w : World) (c : Customs) (S S' : Shape) (ns : List Named) (l : List Instance) → IsLoaded w → StepRuns w c S S' (Step.Compute ns) l → all_free w ns l ≡ true
-compute-free w c S S' ns l L R =
-    let made : List Instance = map (λ i. extended i (new_columns w ns i)) l in
-    let all : AllFit w S' made = step-fits w c S S' (Step.Compute ns) l made L R (step_mean-Compute w c S ns l) in
-    all-of_mapped (λ i. extended i (new_columns w ns i)) (λ i. columns_differ i.columns) l (all-each (fits w S') (λ i. columns_differ i.columns) made all (fits-differ w S'))
-
--- ---- from one transformation to the next
-
--- the first transformation of a pipeline that is run
-pub record Turn (w : World) (c : Customs) (S S' : Shape) (P : Pipe) (s : Step) (p : Pipe) (l : List Instance) : Type 0 where
-  pub between : Shape
-  pub first : StepRuns w c S between s l
-  pub next : (r : List Instance) → IsLoaded w → step_mean w c S s l ≡ Some r → Runs w c between S' p r
-  pub meaning : mean w c S P l ≡ option_and_then (mean w c between p) (step_mean w c S s l)
-  pub costs : (r : List Instance) → step_mean w c S s l ≡ Some r → cost w c S P l ≡ step_cost w c S s l + cost w c between p r
-  pub cost-least : step_cost w c S s l ≤ cost w c S P l
-
-pub turn : (w : World) (c : Customs) (S S' : Shape) (P : Pipe) (s : Step) (p : Pipe) (l : List Instance) → P ≡ Pipe.Then s p → Runs w c S S' P l → Turn w c S S' P s p l
-turn w c S S' P s p l e R =
-    let t = chained (λ T. steps_shape w.model c T p) (step_shape w.model c S s) S' (sym (steps_shape-Then w.model c S s p) ∙ ap (steps_shape w.model c S) (sym e) ∙ R.typed) in
-    let after-is : after w.model c S s ≡ t.0 = ap (λ o. unwrap_or o S) t.1 in
-    let first : StepRuns w c S t.0 s l = record { customs = R.customs; lawful = R.lawful; apart = R.apart; typed = t.1; fit = R.fit } in
+-- and no less than that of its first transformation
+pub turn-least : (w : World) (c : Customs) (S : Shape) (P : Pipe) (s : Step) (p : Pipe) (l : List Instance) → P ≡ Pipe.Then s p → step_cost w c S s l ≤ cost w c S P l
+turn-least w c S P s p l e =
     let whole : cost w c S P l ≡ step_cost w c S s l + elim (step_mean w c S s l) [ None ↦ 0 | Some r ↦ cost w c (after w.model c S s) p r ] = ap (λ P. cost w c S P l) e ∙ cost-Then w c S s p l in
-    record {
-      between = t.0;
-      first = first;
-      next = λ r L m. record { customs = R.customs; lawful = step-lawful w c S t.0 s l first; apart = R.apart; typed = t.2; fit = step-fits w c S t.0 s l r L first m };
-      meaning = ap (λ P. mean w c S P l) e ∙ mean-Then w c S s p l ∙ ap (λ T. option_and_then (mean w c T p) (step_mean w c S s l)) after-is;
-      costs = λ r m. whole ∙ ap (λ o. step_cost w c S s l + elim o [ None ↦ 0 | Some r ↦ cost w c (after w.model c S s) p r ]) m ∙ ap (λ T. step_cost w c S s l + cost w c T p r) after-is;
-      cost-least = omega (arith, whole);
-    }
-
--- a refusal of a part is one of the whole
-pub gives-err : (e : RunRefused) (m m' : Outcome) → Gives (Err e) m → (m ≡ None → m' ≡ None) → Gives (Err e) m'
-gives-err Range m m' h k = k h
-gives-err Memory m m' h k = tt
-
-pub gives-range : (e : RunRefused) (m : Outcome) → (e ≡ Range → m ≡ None) → Gives (Err e) m
-gives-range Range m k = k refl
-gives-range Memory m k = tt
+    omega (arith, whole)
 
 made-length : (f : Instance → Instance) (l : List Instance) → length (map f l) ≡ length l
 made-length f [] = refl
 made-length f (x ∷ l) = ap suc (made-length f l)
 
+-- a computation costs one step a row
 pub compute-cost : (w : World) (c : Customs) (S : Shape) (ns : List Named) (l : List Instance) → step_cost w c S (Step.Compute ns) l ≡ length l
 compute-cost w c S ns l =
     ap (λ o. result_length o + inner_costs w c S (Step.Compute ns) l) (step_mean-Compute w c S ns l)
     ∙ ap (λ n. length (map (λ i. extended i (new_columns w ns i)) l) + n) (inner_costs-Compute w c S ns l)
     ∙ (let e : length (map (λ i. extended i (new_columns w ns i)) l) ≡ length l = made-length (λ i. extended i (new_columns w ns i)) l in omega (arith, e))
 
--- the next transformation of a pipeline in the program
-pub next-step : (ss : List code.Step) (i : ℕ) (d : code.Step) → i < length ss → d ≡ get_or ss i d → pipe (map step_of (drop i ss)) ≡ Pipe.Then (step_of d) (pipe (map step_of (drop (i + 1) ss)))
-next-step ss i d h e =
-    ap (λ t. pipe (map step_of t)) (drop-cons ss i d h)
-    ∙ ap (λ x. Pipe.Then (step_of x) (pipe (map step_of (drop (suc i) ss)))) (sym e)
-    ∙ ap (λ n. Pipe.Then (step_of d) (pipe (map step_of (drop n ss)))) (sym (add-one i))
+-- an aggregation costs one step
+pub aggregate-cost : (w : World) (c : Customs) (S : Shape) (items : List AggItem) (l : List Instance) → step_cost w c S (Step.Aggregate items) l ≡ 1
+aggregate-cost w c S items l =
+    ap (λ o. result_length o + inner_costs w c S (Step.Aggregate items) l) (step_mean-Aggregate w c S items l)
+    ∙ ap (λ n. 1 + n) (inner_costs-Aggregate w c S items l)

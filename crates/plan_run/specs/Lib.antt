@@ -7,6 +7,8 @@ pub use Rattle.context_typing.specs.Typing
 pub use Rattle.apply_meaning.specs.Instances
 pub use Rattle.apply_meaning.specs.Meaning
 pub use Rattle.apply_meaning.specs.RowViews
+pub use Rattle.apply_meaning.specs.Running
+pub use Rattle.apply_meaning.specs.Aggregates
 pub mod Costs
+pub mod Forms
 pub mod Orders
-pub mod Running

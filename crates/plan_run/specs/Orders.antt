@@ -12,8 +12,8 @@ use Rattle.edm_values.specs.declared.Value.{Value}
 use Rattle.edm_values.specs.Values.{is_beyond, value_cmp}
 use Rattle.apply_ast.specs.Trees.{OrderItem}
 use Rattle.apply_meaning.specs.Instances.{Instance, val}
-use Rattle.plan_run.specs.declared.RunRefused.{RunRefused}
-use Rattle.plan_run.specs.declared.RunRefused.TheVariants.{Range, Memory}
+use Rattle.apply_meaning.specs.declared.refusals.RunRefused.{RunRefused}
+use Rattle.apply_meaning.specs.declared.refusals.RunRefused.TheVariants.{Range, Memory}
 
 -- the values of the items on an instance
 abbrev pub item_values : World → List OrderItem → Instance → List Value

@@ -1,62 +1,22 @@
 //! Running a plan over data.
 //!
-//! `run` makes the rows of a plan's entity set (`sets`) and passes them through its pipeline (`pipes`): filters and parts of
-//! lists, which make no row (`filters`), orders, which make none either (`orders`), computations (`computes`), and groupings
-//! by plain keys with a pipeline for each group (`groups`). The other forms are not run yet: they answer `Memory`, and so does
-//! every grouping, since `group_rows` has its contract alone.
+//! `run` makes the rows of a plan's entity set and passes them through its pipeline, one transformation after another
+//! (`pipes`). The plain transformations are those of `apply_meaning`; `orders` sorts rows by the values of items and makes no
+//! row. `is_built` says which pipelines are run: those of `identity`, `filter`, `compute`, `orderby`, `skip`, `top`, and
+//! `aggregate` without custom aggregates.
 //!
-//! It promises that what `run` answers is the meaning of the pipeline that was written (`specs/Running`), refused exactly where
-//! that is, and that the steps rise by no more than the pipeline that is run costs (`specs/Costs`).
+//! The crate stands on `apply_meaning` for rows, the plain transformations and the meaning of pipelines, on `optimiser` for
+//! plans, on `context_typing` for typed pipelines and custom aggregates, on `apply_ast` for pipelines, and on `edm_data` and
+//! `edm_model` for the data.
+//!
+//! It promises that what `run` answers is the meaning of the pipeline that was written, refused exactly where that is, and
+//! that the steps rise by no more than the pipeline that is run costs (`specs/Costs`). Rows that a transformation passes on
+//! are moved and not copied.
 #![tactic(auto)]
 
-use std::alloc::{AllocError, AllocFailed};
-
-mod computes;
-mod filters;
-mod groups;
 mod orders;
 mod pipes;
 mod runs;
-mod sets;
 
-pub use pipes::run_pipe;
+pub use pipes::is_built;
 pub use runs::run;
-
-/// Why a pipeline gave no rows.
-#[derive(Clone, Copy, Debug, PartialEq, Eq, Drop)]
-pub enum RunRefused {
-    /// `Beyond` is the value of an expression that a transformation needs.
-    Range,
-    /// There was not enough memory.
-    Memory,
-}
-
-impl From<AllocError> for RunRefused {
-    ghost use Rattle.std.specs.Prelude.{◌≡◌};
-    ghost use Rattle.plan_run.specs.declared.RunRefused.TheVariants.{Memory};
-
-    ghost from_gives = { λ _ e. e ≡ Memory };
-
-    fn from(_: AllocError) -> RunRefused {
-        RunRefused::Memory
-    }
-}
-
-impl<T: Drop> From<AllocFailed<T>> for RunRefused {
-    ghost use Rattle.std.specs.Prelude.{◌≡◌};
-    ghost use Rattle.plan_run.specs.declared.RunRefused.TheVariants.{Memory};
-
-    ghost from_gives = { λ _ e. e ≡ Memory };
-
-    fn from(_: AllocFailed<T>) -> RunRefused {
-        RunRefused::Memory
-    }
-}
-
-/// What only a type that threads may share is passed to.
-fn shared<T: Sync + Send>(_x: &T) {}
-
-/// Rows may be read by several threads.
-pub fn rows_are_shared(row: &apply_meaning::Row) {
-    shared(row)
-}

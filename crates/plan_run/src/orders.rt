@@ -7,11 +7,11 @@ ghost use Rattle.apply_meaning.specs.Meaning.{order_before, order_values, refuse
 ghost use Rattle.apply_meaning.specs.RowViews.{is_of};
 ghost use Rattle.plan_run.specs.Orders as spec;
 ghost use Rattle.plan_run.specs.Orders.{GivesValues, GivesRanked, first_value};
-ghost use Rattle.plan_run.specs.Running.{Gives, all_of};
+ghost use Rattle.apply_meaning.specs.Running.{Gives, all_of};
 
-use crate::RunRefused;
+
 use apply_ast::{OrderItem, OrderList};
-use apply_meaning::{Row, eval};
+use apply_meaning::{Row, RunRefused, eval};
 use edm_data::Data;
 use edm_values::{Seen, Value, order};
 use std::alloc::{AllocError, Global};

@@ -4,7 +4,7 @@ use Rattle.edm_values.specs.Lists.{sorted}
 use Rattle.apply_ast.specs.Views.{item_of}
 use Rattle.apply_ast.specs.declared.items.OrderItem as code
 use Rattle.apply_meaning.specs.Meaning.{order_before, order_values, refused_at_beyond}
-use Rattle.plan_run.specs.Running.{Gives}
+use Rattle.apply_meaning.specs.Running.{Gives}
 use Rattle.plan_run.proofs.OrderLemmas.{all-sure, beyond-refused, sorted-by_values}
 use Rattle.plan_run.proofs.orders.order_rows.Goals as goal
 

@@ -3,7 +3,7 @@ use Rattle.std.specs.List.{list_any}
 use Rattle.std.specs.Vec.Iter.{into_iter_items}
 use Rattle.apply_ast.specs.Views.{item_of}
 use Rattle.plan_run.specs.Orders.{has_beyond, ranked}
-use Rattle.plan_run.specs.Running.{all_of}
+use Rattle.apply_meaning.specs.Running.{all_of}
 use Rattle.plan_run.proofs.orders.ranked_rows.Given as goal
 
 -- the rows so far and those that are left are all; a row with `Beyond` is left

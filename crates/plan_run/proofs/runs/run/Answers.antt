@@ -8,7 +8,7 @@ use Rattle.apply_meaning.specs.Instances as instances
 use Rattle.apply_meaning.specs.Meaning.{mean}
 use Rattle.optimiser.specs.Plans.{own_of}
 use Rattle.plan_run.specs.Costs.{cost, total_cost}
-use Rattle.plan_run.specs.Running.{Gives, Runs}
+use Rattle.apply_meaning.specs.Running.{Gives, Runs}
 use Rattle.plan_run.proofs.PlanLemmas.{plan-means}
 use Rattle.plan_run.proofs.runs.run.Goals as goal
 
