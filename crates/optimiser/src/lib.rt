@@ -3,10 +3,16 @@
 //! A `Plan` holds the typing of the pipeline that was written, and that of the pipeline that is run in its place, which has the same
 //! entity set and the same shape (`specs/Plans`). `Plan::written` makes the plan that runs the pipeline as it was written. No call
 //! rewrites a pipeline yet.
+//!
+//! The crate stands on `context_typing` for typed pipelines and on `apply_ast` for pipelines. It promises that a typing makes a
+//! plan over its model and customs (`plan`), and that the plan runs that typing's pipeline.
 #![tactic(auto)]
 
 ghost use Rattle.std.specs.Prelude.{◌≡◌};
-ghost use Rattle.optimiser.specs.Plans.{own_of, written_of};
+ghost use Rattle.edm_model.specs.Models.{Model};
+ghost use Rattle.context_typing.specs.Answers.{IsTyping};
+ghost use Rattle.context_typing.specs.Typing.{Customs};
+ghost use Rattle.optimiser.specs.Plans.{own_of, written_of, IsPlan};
 
 use apply_ast::Pipe;
 use context_typing::Typed;
@@ -23,6 +29,7 @@ impl Plan {
     pub fn written(t: Typed) -> Plan
         ensures written { written_of result ≡ t }
         ensures own { own_of result ≡ t }
+        ensures plan { (m : Model) (c : Customs) → IsTyping m c t → IsPlan m c result }
     {
         Plan {
             written: t,
