@@ -1,14 +1,12 @@
-mod BuiltForms
 mod FirstCustoms
 mod CustomsRead
-mod TypedSums
 mod Responding
 mod Fronts
 mod Known
 mod Loading
-mod Named
 mod SetNames
 mod Answering
 mod Completeness
 mod Ends
 mod CutLines
+mod Named

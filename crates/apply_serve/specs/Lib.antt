@@ -1,5 +1,4 @@
 pub mod Answers
-pub mod Built
 pub mod CustomReadings
 pub mod ExitCodes
 pub mod Loads
@@ -10,7 +9,6 @@ pub mod Requests
 pub mod Responses
 pub mod Service
 pub mod Stores
-pub mod SumResponses
 pub mod Transfers
 pub mod Words
 pub mod DataRefusals

@@ -6,11 +6,13 @@ ghost use Rattle.context_typing.specs.Readings.{readings};
 ghost use Rattle.apply_serve.specs.Requests.{is_line_feed, shown, request_lines};
 ghost use Rattle.apply_serve.specs.Answers.{Responds, RespondsInPart};
 
+use crate::output::write_output;
 use crate::replies::reply_to;
 use crate::store::Store;
-use crate::write::write_whole;
 use apply_io::{Failed, Sink};
+use apply_meaning::Steps;
 use std::alloc::Global;
+use std::sync::ledger::Ledger;
 
 /// The place of the first LF.
 fn line_end(bytes: &[u8]) -> Option<usize>
@@ -31,11 +33,12 @@ fn without_cr(line: &[u8]) -> &[u8]
 
 /// Writes the reply to a line, and nothing for an empty one.
 #[tactic(auto, using(crate::proofs::Answering::replies))]
-fn answer_line<K: Sink>(
+fn answer_line<K: Sink, L: Ledger>(
     alloc: Global,
     store: &Store,
     line: &[u8],
     output: &mut K,
+    steps: &mut Steps<L>,
 ) -> Result<(), Failed>
     ensures cause { HasCause (K.fault_count output.old) (K.fault_count output.new) result }
     ensures ok { OnOk result (Responds store.now.world (readings store.now.customs) (shown line.now) (K.held output.old) (K.held output.new)) }
@@ -44,17 +47,18 @@ fn answer_line<K: Sink>(
     if line.is_empty() {
         return Ok(());
     }
-    let reply = reply_to(alloc, store, line);
-    write_whole(output, reply.bytes())
+    let reply = reply_to(alloc, store, line, steps);
+    write_output(output, &reply)
 }
 
 /// Writes the replies to the lines of these bytes, in order.
 #[tactic(auto, using(crate::proofs::Answering::streams))]
-pub fn answer_lines<K: Sink>(
+pub fn answer_lines<K: Sink, L: Ledger>(
     alloc: Global,
     store: &Store,
     bytes: &[u8],
     output: &mut K,
+    steps: &mut Steps<L>,
 ) -> Result<(), Failed>
     ensures cause { HasCause (K.fault_count output.old) (K.fault_count output.new) result }
     ensures ok { OnOk result (Responds store.now.world (readings store.now.customs) (request_lines bytes.now) (K.held output.old) (K.held output.new)) }
@@ -62,8 +66,8 @@ pub fn answer_lines<K: Sink>(
 {
     let mut rest = bytes;
     while let Some(end) = line_end(rest) {
-        answer_line(alloc, store, without_cr(&rest[..end]), output)?;
+        answer_line(alloc, store, without_cr(&rest[..end]), output, steps)?;
         rest = &rest[end + 1..];
     }
-    answer_line(alloc, store, rest, output)
+    answer_line(alloc, store, rest, output, steps)
 }

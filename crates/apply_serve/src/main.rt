@@ -29,8 +29,7 @@ use std::sync::ledger::{Blank, Ledger};
 use std::thread::Threads;
 use std::{env, io};
 
-pub mod built;
-mod customs;
+pub mod customs;
 mod file;
 mod input;
 mod lines;
@@ -41,7 +40,6 @@ mod replies;
 mod responses;
 pub mod service;
 mod store;
-mod sum;
 #[cfg(test)]
 mod tests;
 mod words;

@@ -1,95 +1,136 @@
 //! The reply to a line of the input.
-ghost use Rattle.std.specs.Prelude.{◌≡◌, IfOk, Some};
-ghost use Rattle.edm_model.specs.LookUps.{IsSet};
+ghost use Rattle.std.specs.Prelude.{◌≡◌, IfOk, IsTrue, Some, None, Err};
+ghost use Rattle.apply_ast.specs.Views.{pipe_of};
 ghost use Rattle.apply_grammar.specs.Requests.{asked_of};
+ghost use Rattle.edm_model.specs.LookUps.{IsSet};
+ghost use Rattle.plan_run.specs.Forms as forms;
+ghost use Rattle.context_typing.specs.Answers.{IsTyping};
 ghost use Rattle.context_typing.specs.Readings.{readings};
-ghost use Rattle.context_typing.specs.Shapes.{Shape};
 ghost use Rattle.apply_serve.specs.Replies.{IsReply, IsResponse, IsTyped};
+ghost use Rattle.apply_serve.specs.Replies as spec;
+ghost use Rattle.apply_serve.specs.Responses.{Syntax, refused};
 ghost use Rattle.apply_serve.specs.OutputBytes.{bytes_of, bytes_made};
-ghost use Rattle.apply_serve.specs.Built as built;
 
-use crate::built::{Sum, sum_asked};
 use crate::output::Output;
-use crate::responses::{no_pipeline, not_built, not_found, out_of_memory, too_long, untyped};
+use crate::responses::{
+    answered, no_pipeline, not_built, not_found, out_of_memory, past_range, too_long, untyped,
+};
 use crate::store::Store;
-use crate::sum::{number_named, sum_response};
 use apply_ast::Request;
 use apply_grammar::{GrammarRefused, read_request};
-use apply_meaning::first_sum;
-use context_typing::{TypeRefused, type_pipe};
-use edm_model::SetId;
+use apply_meaning::{RunRefused, Steps};
+use context_typing::{TypeRefused, Typed, type_pipe};
+use json_render::{RenderRefused, render};
+use optimiser::Plan;
+use plan_run::{is_built, run};
 use std::alloc::{AllocError, Global};
+use std::sync::ledger::Ledger;
 
 /// The bytes of a response that was made, or that memory was wanting.
-fn made(response: Result<Vec<u8>, AllocError>) -> Output
+fn made(response: Result<Output, AllocError>) -> Output
     ensures { bytes_of result ≡ bytes_made response }
 {
     match response {
-        Ok(bytes) => Output::Made(bytes),
+        Ok(output) => output,
         Err(_) => Output::Constant(out_of_memory()),
     }
 }
 
-/// The response with the sum that a request asks for, over its set.
-fn response_with(
-    alloc: Global,
-    store: &Store,
-    set: SetId,
-    request: &Request,
-    asked: Sum<'_>,
-) -> Result<Vec<u8>, AllocError>
-    requires set { IsSet store.now.world.model set }
-    requires typed { (s : Shape) × IsTyped store.now.world (readings store.now.customs) (asked_of request.now) set s }
-    requires asked { built.sum_asked (asked_of request.now).0 (asked_of request.now).2 ≡ Some (asked.property.now, asked.name.now) }
-    ensures { IfOk result (λ r. IsResponse store.now.world (readings store.now.customs) (asked_of request.now) r.items) }
+/// Whether the request asks for the rows of a pipeline that is built.
+pub fn is_run(request: &Request) -> bool
+    ensures { result ≡ spec.is_run (asked_of request.now) }
 {
-    let Some(number) = number_named(store.model(), set, asked.property) else {
-        unreachable!();
-    };
-    let sum = first_sum(store.data(), set, number.property);
-    sum_response(alloc, request.set.text(), asked.name, number.kind, &sum)
+    !request.explain && is_built(&request.pipe)
 }
 
-/// The response to a request that has a typing over its set.
-fn typed_response(
+/// The body of the rows that a typed pipeline gives.
+fn body_of<L: Ledger>(
     alloc: Global,
     store: &Store,
-    set: SetId,
-    request: &Request,
-) -> Result<Vec<u8>, AllocError>
-    requires set { IsSet store.now.world.model set }
-    requires typed { (s : Shape) × IsTyped store.now.world (readings store.now.customs) (asked_of request.now) set s }
-    ensures { IfOk result (λ r. IsResponse store.now.world (readings store.now.customs) (asked_of request.now) r.items) }
+    name: &str,
+    typed: Typed,
+    steps: &mut Steps<L>,
+) -> Result<Vec<u8>, RunRefused>
+    requires set { IsSet store.now.world.model typed.set }
+    requires typing { IsTyping store.now.world.model (readings store.now.customs) typed }
+    requires built { IsTrue (forms.is_built (pipe_of typed.pipe)) }
+    ensures ok { IfOk result (λ b. spec.answer_body store.now.world (readings store.now.customs) name.now typed.set (pipe_of typed.pipe) typed.shape ≡ Some b.items) }
+    ensures range { result ≡ Err RunRefused.Range → spec.answer_body store.now.world (readings store.now.customs) name.now typed.set (pipe_of typed.pipe) typed.shape ≡ None }
 {
-    match sum_asked(request) {
-        Some(asked) => response_with(alloc, store, set, request, asked),
-        None => not_built(alloc),
+    let plan = Plan::written(typed);
+    let rows = run(alloc, store.data(), store.customs(), &plan, steps)?;
+    let typed = plan.typed();
+    match render(alloc, store.data(), typed.set, &typed.shape, rows.as_slice()) {
+        Ok(body) => Ok(body),
+        Err(RenderRefused::Range) => Err(RunRefused::Range),
+        Err(RenderRefused::Memory) => Err(RunRefused::Memory),
+    }
+}
+
+/// The response to a request that has this typing.
+fn typed_response<L: Ledger>(
+    alloc: Global,
+    store: &Store,
+    request: &Request,
+    typed: Typed,
+    steps: &mut Steps<L>,
+) -> Result<Output, AllocError>
+    requires set { IsSet store.now.world.model typed.set }
+    requires typing { IsTyping store.now.world.model (readings store.now.customs) typed }
+    requires pipe { pipe_of typed.pipe ≡ pipe_of request.now.pipe }
+    requires typed { IsTyped store.now.world (readings store.now.customs) (asked_of request.now) typed.set typed.shape }
+    ensures { IfOk result (λ r. IsResponse store.now.world (readings store.now.customs) (asked_of request.now) (bytes_of r)) }
+{
+    if !is_run(request) {
+        return Ok(Output::Made(not_built(alloc)?));
+    }
+    match body_of(alloc, store, request.set.text(), typed, steps) {
+        Ok(body) => answered(alloc, body),
+        Err(RunRefused::Range) => Ok(Output::Made(past_range(alloc)?)),
+        Err(RunRefused::Memory) => Err(AllocError),
     }
 }
 
 /// The response to a request.
-fn response_to(alloc: Global, store: &Store, request: &Request) -> Result<Vec<u8>, AllocError>
-    ensures { IfOk result (λ r. IsResponse store.now.world (readings store.now.customs) (asked_of request.now) r.items) }
+fn response_to<L: Ledger>(
+    alloc: Global,
+    store: &Store,
+    request: &Request,
+    steps: &mut Steps<L>,
+) -> Result<Output, AllocError>
+    ensures { IfOk result (λ r. IsResponse store.now.world (readings store.now.customs) (asked_of request.now) (bytes_of r)) }
 {
     let set_name = request.set.text();
     let Some(set) = store.model().set_named(set_name) else {
-        return not_found(alloc, set_name);
+        return Ok(Output::Made(not_found(alloc, set_name)?));
     };
     match type_pipe(alloc, store.model(), store.customs(), set, &request.pipe) {
-        Ok(_typed) => typed_response(alloc, store, set, request),
-        Err(TypeRefused::At(k)) => untyped(alloc, k),
+        Ok(typed) => typed_response(alloc, store, request, typed, steps),
+        Err(TypeRefused::At(k)) => Ok(Output::Made(untyped(alloc, k)?)),
         Err(TypeRefused::Memory) => Err(AllocError),
     }
 }
 
+/// The response to a line that is no request from this step on.
+fn no_request(alloc: Global, step: u32) -> Result<Output, AllocError>
+    ensures { IfOk result (λ r. bytes_of r ≡ refused (Syntax step)) }
+{
+    Ok(Output::Made(no_pipeline(alloc, step)?))
+}
+
 /// The reply to a line that is not empty.
-pub fn reply_to(alloc: Global, store: &Store, line: &[u8]) -> Output
+pub fn reply_to<L: Ledger>(
+    alloc: Global,
+    store: &Store,
+    line: &[u8],
+    steps: &mut Steps<L>,
+) -> Output
     ensures { IsReply store.now.world (readings store.now.customs) line.now (bytes_of result) }
 {
     match read_request(alloc, line) {
-        Ok(request) => made(response_to(alloc, store, &request)),
+        Ok(request) => made(response_to(alloc, store, &request, steps)),
         Err(GrammarRefused::TooLong) => Output::Constant(too_long()),
-        Err(GrammarRefused::Syntax(k)) => made(no_pipeline(alloc, k)),
+        Err(GrammarRefused::Syntax(k)) => made(no_request(alloc, k)),
         Err(GrammarRefused::Memory) => Output::Constant(out_of_memory()),
     }
 }

@@ -2,8 +2,10 @@
 ghost use Rattle.std.specs.Prelude.{◌≡◌, ℕ, IfOk, string_bytes, decimal, codes};
 ghost use Rattle.serde_json.specs.Data.{string, object, member, no_members};
 ghost use Rattle.serde_json.specs.View.{view};
+ghost use Rattle.apply_serve.specs.OutputBytes.{bytes_of};
 ghost use Rattle.apply_serve.specs.Responses as spec;
 
+use crate::output::Output;
 use serde_json::{Value, json};
 use std::alloc::{AllocError, Global};
 
@@ -34,6 +36,20 @@ pub fn framed(alloc: Global, code: &str, body: &[u8]) -> Result<Vec<u8>, AllocEr
     response.extend_from_slice(body)?;
     response.push(b'\n')?;
     Ok(response)
+}
+
+/// The response with a body, which is not copied.
+pub fn answered(alloc: Global, body: Vec<u8>) -> Result<Output, AllocError>
+    ensures { IfOk result (λ r. bytes_of r ≡ spec.answered body.items) }
+{
+    let length = body.len().to_string(alloc)?;
+    let mut line = Vec::new(alloc);
+    line.extend_from_slice(b"200 ")?;
+    line.extend_from_slice(length.as_bytes())?;
+    line.push(b'\n')?;
+    let mut body = body;
+    body.push(b'\n')?;
+    Ok(Output::Framed(line, body))
 }
 
 /// What an error without a target is.

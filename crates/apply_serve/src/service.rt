@@ -9,6 +9,7 @@ ghost use Rattle.apply_serve.specs.Service.{Run, Says, input_limit, IsFault, Tel
 use crate::input::{InputFault, read_input};
 use crate::lines::answer_lines;
 use crate::load::{LoadStop, load};
+use crate::output::write_output;
 use crate::words::file_names;
 use crate::write::write_whole;
 use apply_io::{Folder, Sink, Source};
@@ -45,13 +46,14 @@ pub enum Status {
 }
 
 /// Loads the files, reads the input and answers its lines, at most `limit` bytes.
-fn run<F: Folder, S: Source, K: Sink>(
+fn run<F: Folder, S: Source, K: Sink, L: Ledger>(
     alloc: Global,
     words: &[String],
     limit: usize,
     folder: &mut F,
     input: &mut S,
     output: &mut K,
+    steps: &mut Steps<L>,
 ) -> Status
     requires { limit ≡ input_limit }
     ensures { Says (record {
@@ -80,7 +82,7 @@ fn run<F: Folder, S: Source, K: Sink>(
         Ok(store) => store,
         Err(LoadStop::Fault) => return Status::ReadFault,
         Err(LoadStop::Memory) => return Status::Memory,
-        Err(LoadStop::Model(line)) => match write_whole(output, line.bytes()) {
+        Err(LoadStop::Model(line)) => match write_output(output, &line) {
             Ok(()) => return Status::ModelRefused,
             Err(_) => return Status::WriteFault,
         },
@@ -95,7 +97,7 @@ fn run<F: Folder, S: Source, K: Sink>(
         Err(InputFault::Limit) => return Status::InputLimit,
         Err(InputFault::Memory) => return Status::Memory,
     };
-    match answer_lines(alloc, &store, bytes.as_slice(), output) {
+    match answer_lines(alloc, &store, bytes.as_slice(), output, steps) {
         Ok(()) => Status::Served,
         Err(_) => Status::WriteFault,
     }
@@ -115,8 +117,6 @@ pub fn serve<R: Threads + Sync, F: Folder, S: Source, K: Sink, L: Ledger>(
     output: &mut K,
     steps: &mut Steps<L>,
 ) -> Status
-    ensures steps { steps.new ≡ steps.old }
-
     // What each status says of the run.
     ensures says { Says (record {
       words = texts_of words.now;
@@ -150,5 +150,5 @@ pub fn serve<R: Threads + Sync, F: Folder, S: Source, K: Sink, L: Ledger>(
         (result ≡ Status.Served) ⊎ (result ≡ Status.Memory) }
 {
     let _threads = rt;
-    run(alloc, words, INPUT_LIMIT, folder, input, output)
+    run(alloc, words, INPUT_LIMIT, folder, input, output, steps)
 }
