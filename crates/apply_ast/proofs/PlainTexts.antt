@@ -1,14 +1,14 @@
 -- The plain texts of Booleans, numbers and days are ASCII.
 use Rattle.std.proofs.Common.{◌≡◌, ℕ, zero, suc, ◌+◌, ◌-◌, ◌/◌, ◌%◌, ◌<◌, ◌==◌, Bool, true, false, List, [], ◌∷◌, ◌++◌, length, replicate, take, drop, decimal, codes, arith, lit<, pos, negsuc, refl}
 use Rattle.std.specs.Prelude.{if◌then◌else◌, nat_lt, IsFalse, nat_abs, int_lt}
-use Rattle.std.specs.Fmt.{digit_glyph, digits, digits_onto, signed_decimal, sign_text}
+use Rattle.std.specs.Fmt.{digit_glyph, digits, digits_onto, sign_text}
 use Rattle.std.specs.Str.{IsAscii, IsUtf8}
 use Rattle.std.specs.List.{list_all}
 use Rattle.std.proofs.lemmas.Bool.{and_parts, ltb-true}
 use Rattle.std.proofs.lemmas.Str.{IsAscii-append, IsAscii-take, IsAscii-drop, IsUtf8-from_ascii}
 use Rattle.std.proofs.lemmas.Str.Ascii.{IsAscii-nil, IsAscii-cons}
 use Rattle.edm_values.specs.declared.Value.{Value}
-use Rattle.edm_values.specs.Literals.{decimal_text, day_text, padded_decimal, plain_text, with_point}
+use Rattle.edm_values.specs.Literals.{padded_decimal, plain_text, with_point}
 use Rattle.edm_values.specs.Values.{is_text}
 
 -- either of two texts

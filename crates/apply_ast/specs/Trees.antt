@@ -129,7 +129,7 @@ is_long (Pipe.Then s p) = true
 
 -- ---- which numbers stand in a request
 
--- an integer literal has no sign and at most 64 bits
+-- an integer literal has no sign and at most 63 bits
 abbrev pub is_int_literal : ℤ → Bool
 is_int_literal n = int_le (pos 0) n && int_le n (pos integer_max)
 
@@ -137,7 +137,7 @@ is_int_literal n = int_le (pos 0) n && int_le n (pos integer_max)
 abbrev pub is_dec_literal : ℤ → ℕ → Bool
 is_dec_literal m s = int_le (pos 0) m && int_le m (pos mantissa_max) && nat_le 1 s && nat_le s scale_max
 
--- a greatest distance is at least 1 and has at most 64 bits
+-- a greatest distance is at least 1 and has at most 63 bits
 abbrev pub is_distance : Option ℕ → Bool
 is_distance None = true
 is_distance (Some d) = nat_le 1 d && nat_le d integer_max

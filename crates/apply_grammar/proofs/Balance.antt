@@ -2,7 +2,7 @@
 use Rattle.std.proofs.Common.{◌≡◌, ℕ, suc, ◌+◌, ◌<◌, ◌≤◌, ◌==◌, nat_le, Bool, true, false, not, cond, ◌&&◌, List, [], ◌∷◌, ◌++◌, length, take, drop, get_or, IsUtf8, refl, sym, ap, subst, ◌∙◌, append_assoc, append-nil, arith, eqb-true}
 use Rattle.std.specs.Prelude.{count_by}
 use Rattle.std.specs.List.{list_all}
-use Rattle.std.proofs.lemmas.Bool.{leb-true}
+use Rattle.std.proofs.lemmas.Bool.{leb-true, and_from}
 use Rattle.std.proofs.lemmas.List.{length-append}
 use Rattle.std.proofs.lemmas.List.Sums.{sum_by-cons, sum_by-append}
 use Rattle.std.proofs.Math.Seq.{take-append_seam}
@@ -10,7 +10,7 @@ use Rattle.std.proofs.lemmas.Str.{IsUtf8-append, IsUtf8-take, IsUtf8-drop, IsUtf
 use Rattle.std.proofs.lemmas.Str.Ascii.{IsAscii-nil, IsAscii-cons}
 use Rattle.apply_ast.specs.Printing.{quoted}
 use Rattle.apply_grammar.specs.Limits.{outside, IsShallow}
-use Rattle.apply_grammar.proofs.Runs.{and_parts, not_true, both_true}
+use Rattle.apply_grammar.proofs.Runs.{and_parts, not_true}
 use Rattle.apply_grammar.proofs.Leaves.{doubled}
 
 -- ---- parentheses outside of string literals
@@ -174,7 +174,7 @@ plain_whole t h =
 
 list_all_front : (p : ℕ → Bool) (a b : List ℕ) → list_all p (a ++ b) ≡ true → list_all p a ≡ true
 list_all_front p [] b h = refl
-list_all_front p (x ∷ a) b h = let q = and_parts (p x) (list_all p (a ++ b)) h in both_true (p x) (list_all p a) q.0 (list_all_front p a b q.1)
+list_all_front p (x ∷ a) b h = let q = and_parts (p x) (list_all p (a ++ b)) h in and_from (p x) (list_all p a) q.0 (list_all_front p a b q.1)
 
 pub plain_shallow : (d : ℕ) (t : List ℕ) → list_all is_plain t ≡ true → IsShallow d t
 plain_shallow d t h a b e =

@@ -7,7 +7,7 @@ use Rattle.std.specs.Char.{digit_value, is_ascii_digit}
 use Rattle.std.specs.List.{list_all}
 use Rattle.apply_grammar.specs.Reading.{run, after, value_behind}
 use Rattle.apply_grammar.proofs.Values.{value_grows, value_append}
-use Rattle.apply_grammar.proofs.Runs.{stops, run_front, run_is, both_true, and_parts}
+use Rattle.apply_grammar.proofs.Runs.{stops, run_front, run_is, and_parts}
 
 stop_at : (p : ℕ → Bool) (t : List ℕ) (i : ℕ) → i < length t → p (get_or t i 0) ≡ false → stops p (drop i t) ≡ true
 stop_at p t i h e = rw (drop-cons t i 0 h) (ap not e)
@@ -17,14 +17,6 @@ run_at p t i h k e = ap (run p) (sym (take-append-drop i t)) ∙ run_front p (ta
 
 pub run_all : (p : ℕ → Bool) (t : List ℕ) → list_all p t ≡ true → run p t ≡ (t, [])
 run_all p t h = ap (run p) (sym (append-nil t)) ∙ run_front p t [] h refl
-
-pub pass_more : (p : ℕ → Bool) (t : List ℕ) (i : ℕ) → i < length t → list_all p (take i t) ≡ true → p (get_or t i 0) ≡ true → list_all p (take (i + 1) t) ≡ true
-pass_more p [] i h k e = absurd (omega arith)
-pass_more p (b ∷ t) zero h k e = both_true (p b) true e refl
-pass_more p (b ∷ t) (suc i) h k e =
-    let q = and_parts (p b) (list_all p (take i t)) k in
-    let e' : suc i + 1 ≡ suc (i + 1) = omega arith in
-    rw e' (both_true (p b) (list_all p (take (i + 1) t)) q.0 (pass_more p t i (omega arith) q.1 e))
 
 pub after_nothing : (a : ℕ) (t : List ℕ) → length t ≡ 0 → None ≡ after a t
 unfolding after

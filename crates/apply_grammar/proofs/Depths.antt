@@ -5,7 +5,7 @@ use Rattle.std.specs.List.{list_all}
 use Rattle.std.specs.Str.Parse.{digits_value, AllDigits}
 use Rattle.std.specs.Char.{is_ascii_digit, digit_value}
 use Rattle.std.specs.Int.{is_in_range}
-use Rattle.std.proofs.lemmas.Bool.{leb-true, le-leb}
+use Rattle.std.proofs.lemmas.Bool.{leb-true, le-leb, and_from}
 use Rattle.std.proofs.lemmas.Str.{is_utf8-from_IsUtf8}
 use Rattle.edm_values.specs.Names.{Name, Path, goes_on_name}
 use Rattle.edm_values.specs.Values.{integer_max}
@@ -16,12 +16,12 @@ use Rattle.apply_ast.specs.declared.expressions.Fun2.{Fun2}
 use Rattle.apply_ast.specs.Trees.{Expr}
 use Rattle.apply_ast.specs.Printing.{binop_word, binop_level, level, quoted, fun1_word, fun2_word}
 use Rattle.apply_ast.specs.Grammar as grammar
-use Rattle.apply_ast.specs.Grammar.{Language, word, ◌·◌, choice, given, empty, nothing, is_blank, bws, rws, comma, open_, close, in_parentheses, listed, each_behind, name_text, path_text, sign_text}
+use Rattle.apply_ast.specs.Grammar.{Language, word, ◌·◌, given, nothing, is_blank, bws, rws, comma, in_parentheses, listed, name_text, path_text, sign_text}
 use Rattle.apply_grammar.specs.Limits.{IsShallow, operations, is_small, Bounds}
 use Rattle.apply_grammar.specs.Reading.{is_literal}
 use Rattle.apply_grammar.proofs.Nested as nested
 use Rattle.apply_grammar.proofs.Nested.{inside, SmallExpr}
-use Rattle.apply_grammar.proofs.Runs.{and_parts, both_true}
+use Rattle.apply_grammar.proofs.Runs.{and_parts}
 use Rattle.apply_grammar.proofs.Leaves.{or_cases, name_parts, all_digits}
 use Rattle.std.proofs.lemmas.Str.Parse.{digit_at}
 use Rattle.std.proofs.Math.Dec.{leb-zero}
@@ -98,7 +98,7 @@ flat_join f g t h = subst (λ l. list_all is_plain l ≡ true) (sym h.cut) (plai
   where
     plain_append : (a b : List ℕ) → list_all is_plain a ≡ true → list_all is_plain b ≡ true → list_all is_plain (a ++ b) ≡ true
     plain_append [] b h k = k
-    plain_append (x ∷ a) b h k = let q = and_parts (is_plain x) (list_all is_plain a) h in both_true (is_plain x) (list_all is_plain (a ++ b)) q.0 (plain_append a b q.1 k)
+    plain_append (x ∷ a) b h k = let q = and_parts (is_plain x) (list_all is_plain a) h in and_from (is_plain x) (list_all is_plain (a ++ b)) q.0 (plain_append a b q.1 k)
 
 pub flat_word : (w : List ℕ) → list_all is_plain w ≡ true → Flat (word w)
 flat_word w h t e = subst (λ l. list_all is_plain l ≡ true) (sym e) h
@@ -122,7 +122,7 @@ blank_plain b h = elim (or_cases (b == 32) (b == 9) h) [ inl e ↦ ap is_plain (
 
 each_plain : (p : ℕ → Bool) → ((b : ℕ) → p b ≡ true → is_plain b ≡ true) → (t : List ℕ) → list_all p t ≡ true → list_all is_plain t ≡ true
 each_plain p f [] h = refl
-each_plain p f (b ∷ t) h = let q = and_parts (p b) (list_all p t) h in both_true (is_plain b) (list_all is_plain t) (f b q.0) (each_plain p f t q.1)
+each_plain p f (b ∷ t) h = let q = and_parts (p b) (list_all p t) h in and_from (is_plain b) (list_all is_plain t) (f b q.0) (each_plain p f t q.1)
 
 pub flat_bws : Flat bws
 flat_bws t h = each_plain is_blank blank_plain t h
@@ -169,15 +169,15 @@ flat_path p = flat_listed (flat_word (codes "/") refl) flat_name p
 -- ---- numbers
 
 digit_back : (b : ℕ) → digit_value b < 10 → is_ascii_digit b ≡ true
-digit_back b h = let r = digit_at (b ∷ []) 0 (h, tt) (omega arith) in both_true (nat_le 48 b) (nat_le b 57) (le-leb 48 b r.0) (le-leb b 57 r.1)
+digit_back b h = let r = digit_at (b ∷ []) 0 (h, tt) (omega arith) in and_from (nat_le 48 b) (nat_le b 57) (le-leb 48 b r.0) (le-leb b 57 r.1)
 
 ascii_digits : (t : List ℕ) → AllDigits 10 t → list_all is_ascii_digit t ≡ true
 ascii_digits [] h = refl
-ascii_digits (b ∷ t) h = both_true (is_ascii_digit b) (list_all is_ascii_digit t) (digit_back b h.0) (ascii_digits t h.1)
+ascii_digits (b ∷ t) h = and_from (is_ascii_digit b) (list_all is_ascii_digit t) (digit_back b h.0) (ascii_digits t h.1)
 
 -- a number within bounds, both ways
 pub digits_to : (most n : ℕ) (t : List ℕ) → Digits most n t → grammar.number_text 0 most n t
-digits_to most n t h = (both_true (nat_le 0 n) (nat_le n most) (leb-zero n) h.small, ((h.some, all_digits t h.digits), h.value))
+digits_to most n t h = (and_from (nat_le 0 n) (nat_le n most) (leb-zero n) h.small, ((h.some, all_digits t h.digits), h.value))
 
 pub digits_from : (most n : ℕ) (t : List ℕ) → grammar.number_text 0 most n t → Digits most n t
 digits_from most n t h =
@@ -206,7 +206,7 @@ flat_int (pos n) t h = digits_plain t h.digits
 flat_int (negsuc n) t h = absurd h
 
 plain_three : (a b : List ℕ) (c : ℕ) → list_all is_plain a ≡ true → is_plain c ≡ true → list_all is_plain b ≡ true → list_all is_plain (a ++ c ∷ b) ≡ true
-plain_three a b c h k l = flat_join (flat_word a h) (flat_word (c ∷ b) (both_true (is_plain c) (list_all is_plain b) k l)) (a ++ c ∷ b) (record { left = a; right = c ∷ b; first = refl; second = refl; cut = refl })
+plain_three a b c h k l = flat_join (flat_word a h) (flat_word (c ∷ b) (and_from (is_plain c) (list_all is_plain b) k l)) (a ++ c ∷ b) (record { left = a; right = c ∷ b; first = refl; second = refl; cut = refl })
 
 pub dec_to : (m : ℤ) (s : ℕ) (t : List ℕ) → DecText m s t → grammar.dec_text m s t
 dec_to (pos m) s t h = (
@@ -216,7 +216,7 @@ dec_to (pos m) s t h = (
   (h.some, all_digits h.whole h.digits),
   (h.some_behind, all_digits h.fraction h.digits_behind),
   h.scale,
-  both_true (nat_le s scale_max) (nat_le (digits_value 10 (h.whole ++ h.fraction)) mantissa_max) h.most (subst (λ k. nat_le k mantissa_max ≡ true) (sym h.value) h.small),
+  and_from (nat_le s scale_max) (nat_le (digits_value 10 (h.whole ++ h.fraction)) mantissa_max) h.most (subst (λ k. nat_le k mantissa_max ≡ true) (sym h.value) h.small),
   ap (λ (k : ℕ). pos k) (sym h.value),
 )
 dec_to (negsuc m) s t h = absurd h

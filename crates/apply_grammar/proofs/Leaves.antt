@@ -1,7 +1,7 @@
 -- Operators, names, paths and literals: what is read is in front, and what is in front is read.
 use Rattle.std.proofs.Common.{◌≡◌, ℕ, ◌<◌, ◌≤◌, ◌==◌, nat_le, Bool, true, false, not, ◌&&◌, ◌||◌, cond, List, [], ◌∷◌, ◌++◌, length, Some, None, refl, sym, ap, subst, ◌∙◌, append_assoc, arith, eqb-true, ◌⊎◌, inl, inr}
 use Rattle.std.proofs.Math.Dec.{leb-zero}
-use Rattle.std.proofs.lemmas.Bool.{le-leb, leb-true, cases_lt}
+use Rattle.std.proofs.lemmas.Bool.{le-leb, leb-true, cases_lt, and_from, or_left}
 use Rattle.std.specs.Str.Parse.{digits_value_after}
 use Rattle.std.specs.Prelude.{codes, slice_index, ℤ, pos, Bool, if◌then◌else◌}
 use Rattle.std.specs.List.{list_all, flat_map}
@@ -27,7 +27,7 @@ use Rattle.apply_ast.specs.Grammar.{Language, is_blank, bws, rws, word, ◌·◌
 use Rattle.apply_grammar.specs.Reading.{◌>>=◌, run, skip_blanks, blanks_at, after, open_at, close_at, comma_at, with_word, binop_of, op_at, not_at, sign_at, name_at, path_at, value_behind, digits_at, decimal_at, two_digits_at, date_at, number_behind, quote_at, text_at, fun1_of, fun2_of, word_at, atom_at, is_literal}
 use Rattle.apply_grammar.proofs.Nested.{Digits, IntText, Fraction, DecText, Wide, DateText}
 use Rattle.apply_grammar.proofs.Lists.{Items, list_is, list_front}
-use Rattle.apply_grammar.proofs.Runs.{and_parts, not_true, both_true, same_is, bind_then, branch_then, cond_then, guard_then, some_is, is_none, none_some, recut, solid_on, stops, solid, solid_stops, run_front, run_is, Front, then_front, map_front, word_front, skip_is, skip_stops, skip_front, blanks_front, blanks_is, blanks_none, after_is, after_front}
+use Rattle.apply_grammar.proofs.Runs.{and_parts, not_true, same_is, bind_then, branch_then, cond_then, guard_then, some_is, is_none, none_some, recut, solid_on, stops, solid, solid_stops, run_front, run_is, Front, then_front, map_front, word_front, skip_is, skip_stops, skip_front, blanks_front, blanks_is, blanks_none, after_is, after_front}
 
 pub false_true : false ≡ true → ⊥
 false_true e = absurd cc
@@ -35,10 +35,6 @@ false_true e = absurd cc
 pub bool_false : (c : Bool) → (c ≡ true → ⊥) → c ≡ false
 bool_false true k = absurd (k refl)
 bool_false false k = refl
-
-pub or_left : (a b : Bool) → a ≡ true → (a || b) ≡ true
-or_left true b h = refl
-or_left false b h = absurd (false_true h)
 
 -- ---- what may follow an atom: the end, a blank, a comma or a closing parenthesis
 
@@ -654,7 +650,7 @@ digits_go_on : (t : List ℕ) → list_all is_ascii_digit t ≡ true → list_al
 digits_go_on [] h = refl
 digits_go_on (b ∷ t) h =
     let q = and_parts (is_ascii_digit b) (list_all is_ascii_digit t) h in
-    both_true (goes_on_name b) (list_all goes_on_name t) (digit_goes_on b q.0) (digits_go_on t q.1)
+    and_from (goes_on_name b) (list_all goes_on_name t) (digit_goes_on b q.0) (digits_go_on t q.1)
 
 pub digits_lead : (t : List ℕ) → SomeDigits t → leads is_ascii_digit t ≡ true
 digits_lead [] h = absurd (omega (arith, h.some))

@@ -2,12 +2,12 @@
 use Rattle.std.proofs.Common.{◌≡◌, ℕ, ◌+◌, ◌≤◌, ◌==◌, Bool, true, false, ◌&&◌, List, [], ◌∷◌, refl, sym, ◌∙◌, arith}
 use Rattle.std.specs.Prelude.{count_by}
 use Rattle.std.specs.List.{list_all}
-use Rattle.std.proofs.lemmas.Bool.{le-leb}
+use Rattle.std.proofs.lemmas.Bool.{le-leb, and_from}
 use Rattle.apply_ast.specs.Trees.{Expr, AggItem, Pipe, Step, OptPipe, Pipes, Key, Keys}
 use Rattle.apply_ast.specs.Grammar.{Text, expr_text}
 use Rattle.apply_ast.specs.Counts.{step_count}
 use Rattle.apply_grammar.specs.Limits.{Bounds, outside, IsShallow, operations, is_small, agg_small, all_small, inner_small, branches_small, key_small, keys_small, step_small}
-use Rattle.apply_grammar.proofs.Runs.{both_true, some_is}
+use Rattle.apply_grammar.proofs.Runs.{some_is}
 use Rattle.apply_grammar.proofs.Nested.{SmallExpr}
 use Rattle.apply_grammar.proofs.ShallowTexts.{few_are_shallow}
 use Rattle.apply_grammar.proofs.Depths.{small_tied}
@@ -23,7 +23,7 @@ always : {p : ℕ → Bool} → ((n : ℕ) → p n ≡ true) → FromOn p
 always h = (0, λ n l. h n)
 
 both : (p q : ℕ → Bool) → FromOn p → FromOn q → FromOn (λ n. p n && q n)
-both p q a b = (a.0 + b.0, λ n l. both_true (p n) (q n) (a.1 n (omega arith)) (b.1 n (omega arith)))
+both p q a b = (a.0 + b.0, λ n l. and_from (p n) (q n) (a.1 n (omega arith)) (b.1 n (omega arith)))
 
 each : {X : Type 0} (p : ℕ → X → Bool) → ((x : X) → FromOn (λ n. p n x)) → (xs : List X) → FromOn (λ n. list_all (p n) xs)
 each p h [] = always (λ n. refl)

@@ -1,5 +1,6 @@
 -- The same of items, steps and pipelines: their texts by depth are those of the grammar that keep the limits.
 use Rattle.std.proofs.Common.{◌≡◌, ℕ, nat_le, Bool, true, false, ◌&&◌, List, [], ◌∷◌, length, Option, Some, None, refl, inl, inr}
+use Rattle.std.proofs.lemmas.Bool.{and_from}
 use Rattle.std.specs.Prelude.{codes}
 use Rattle.std.specs.List.{list_all}
 use Rattle.std.proofs.Math.Dec.{leb-zero}
@@ -10,12 +11,12 @@ use Rattle.edm_values.specs.Values.{integer_max}
 use Rattle.apply_ast.specs.Trees.{Expr, Named, OrderItem, AggItem, HierName, NumberLiteral, Limit, TopStep, TraverseStep, Pipe, Step, OptPipe, Pipes, Key, Keys}
 use Rattle.apply_ast.specs.Printing.{method_word, join_word, climb_word, walk_word, top_word}
 use Rattle.apply_ast.specs.Grammar as grammar
-use Rattle.apply_ast.specs.Grammar.{Language, word, ◌·◌, choice, given, empty, nothing, bws, rws, comma, in_parentheses, listed, each_behind, name_text, path_text, as_text, direction_text, hier_text, keep_text, order_text, has_two}
+use Rattle.apply_ast.specs.Grammar.{Language, word, ◌·◌, choice, given, empty, comma, listed, each_behind, path_text, as_text, direction_text, hier_text, keep_text, order_text, has_two}
 use Rattle.apply_ast.specs.Grammar.{Text as text, rest_text as grammar_rest, inner_text as grammar_inner, more_branches_text as grammar_more_branches, branches_text as grammar_branches, key_text as grammar_key, more_keys_text as grammar_more_keys, keys_text as grammar_keys, step_text as grammar_step}
 use Rattle.apply_grammar.specs.Limits.{is_small, agg_small, all_small, inner_small, branches_small, key_small, keys_small, step_small, Bounds}
 use Rattle.apply_grammar.proofs.Nested as nested
-use Rattle.apply_grammar.proofs.Nested.{inside, Distance, Text, rest_text, inner_text, more_branches_text, branches_text, key_text, more_keys_text, keys_text, step_text}
-use Rattle.apply_grammar.proofs.Runs.{and_parts, both_true}
+use Rattle.apply_grammar.proofs.Nested.{Distance, Text, rest_text, inner_text, more_branches_text, branches_text, key_text, more_keys_text, keys_text, step_text}
+use Rattle.apply_grammar.proofs.Runs.{and_parts}
 use Rattle.apply_grammar.proofs.Depths.{Tied, limited, Flat, flat, joined, flat_then, then_flat, flat_join, flat_word, no_text, if_given, flat_rws, flat_comma, flat_name, flat_listed, flat_path, digits_to, digits_from, flat_digits, both_flat, int_to, int_from, flat_int, dec_to, dec_from, flat_dec, parentheses, small_tied}
 
 -- ---- parts of plain bytes
@@ -99,12 +100,12 @@ distance_to : (n : ℕ) (t : List ℕ) → Distance n t → grammar.number_text 
 distance_to n t h =
     let d = digits_to integer_max n t h.of in
     let q = and_parts (nat_le 0 n) (nat_le n integer_max) d.0 in
-    (both_true (nat_le 1 n) (nat_le n integer_max) h.some q.1, d.1)
+    (and_from (nat_le 1 n) (nat_le n integer_max) h.some q.1, d.1)
 
 distance_from : (n : ℕ) (t : List ℕ) → grammar.number_text 1 integer_max n t → Distance n t
 distance_from n t h =
     let q = and_parts (nat_le 1 n) (nat_le n integer_max) h.0 in
-    record { of = digits_from integer_max n t (both_true (nat_le 0 n) (nat_le n integer_max) (leb-zero n) q.1, h.1); some = q.0 }
+    record { of = digits_from integer_max n t (and_from (nat_le 0 n) (nat_le n integer_max) (leb-zero n) q.1, h.1); some = q.0 }
 
 distance_tied : (limits : Bounds) (x : Option ℕ) → Tied limits (Unit {0}) (grammar.distance_text x) (λ d. nested.distance_text x)
 distance_tied limits None = flat limits flat_empty
@@ -114,12 +115,12 @@ distance_tied limits (Some n) = flat_then limits flat_comma (both_flat limits (d
 
 listed_tied : (limits : Bounds) {X : Type 0} {S : Language} {L : X → Language} {M : ℕ → X → Language} (p : X → Bool) → Flat S → ((x : X) → Tied limits (p x ≡ true) (L x) (λ d. M d x)) → (xs : List X) → Tied limits (list_all p xs ≡ true) (listed S L xs) (λ d. listed S (M d) xs)
 listed_tied limits p s f [] = no_text limits refl
-listed_tied limits p s f (x ∷ []) = limited limits (λ h. both_true (p x) true h refl) (λ h. (and_parts (p x) true h).0) (f x)
-listed_tied limits p s f (x ∷ (y ∷ xs)) = limited limits (λ h. both_true (p x) (list_all p (y ∷ xs)) h.0 h.1) (λ h. and_parts (p x) (list_all p (y ∷ xs)) h) (joined limits (f x) (flat_then limits s (listed_tied limits p s f (y ∷ xs))))
+listed_tied limits p s f (x ∷ []) = limited limits (λ h. and_from (p x) true h refl) (λ h. (and_parts (p x) true h).0) (f x)
+listed_tied limits p s f (x ∷ (y ∷ xs)) = limited limits (λ h. and_from (p x) (list_all p (y ∷ xs)) h.0 h.1) (λ h. and_parts (p x) (list_all p (y ∷ xs)) h) (joined limits (f x) (flat_then limits s (listed_tied limits p s f (y ∷ xs))))
 
 behind_tied : (limits : Bounds) {X : Type 0} {S : Language} {L : X → Language} {M : ℕ → X → Language} (p : X → Bool) → Flat S → ((x : X) → Tied limits (p x ≡ true) (L x) (λ d. M d x)) → (xs : List X) → Tied limits (list_all p xs ≡ true) (each_behind S L xs) (λ d. each_behind S (M d) xs)
 behind_tied limits p s f [] = limited limits (λ h. refl) (λ h. tt) (flat limits flat_empty)
-behind_tied limits p s f (x ∷ xs) = limited limits (λ h. both_true (p x) (list_all p xs) h.0 h.1) (λ h. and_parts (p x) (list_all p xs) h) (flat_then limits s (joined limits (f x) (behind_tied limits p s f xs)))
+behind_tied limits p s f (x ∷ xs) = limited limits (λ h. and_from (p x) (list_all p xs) h.0 h.1) (λ h. and_parts (p x) (list_all p xs) h) (flat_then limits s (joined limits (f x) (behind_tied limits p s f xs)))
 
 -- ---- items
 
@@ -141,7 +142,7 @@ agg_tied limits (AggItem.Custom n a) = free limits refl (flat limits (flat_join 
 
 -- the limit of two parts
 both : (limits : Bounds) {a b : Bool} {A : Language} {L : ℕ → Language} → Tied limits ((a ≡ true) × (b ≡ true)) A L → Tied limits ((a && b) ≡ true) A L
-both limits {a} {b} x = limited limits (λ h. both_true a b h.0 h.1) (λ h. and_parts a b h) x
+both limits {a} {b} x = limited limits (λ h. and_from a b h.0 h.1) (λ h. and_parts a b h) x
 
 call_tied : (limits : Bounds) {P : Type 0} {A : Language} {L : ℕ → Language} (w : List ℕ) → Flat (word w) → Tied limits P A L → Tied limits P (grammar.call_text w A) (λ d. nested.call_text w d L)
 call_tied limits w f x = flat_then limits f (parentheses limits x)

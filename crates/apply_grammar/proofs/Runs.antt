@@ -1,5 +1,6 @@
 -- Runs of bytes, blanks and single bytes.
 use Rattle.std.proofs.Common.{◌≡◌, ℕ, ◌+◌, ◌==◌, Bool, true, false, not, ◌&&◌, cond, List, [], ◌∷◌, ◌++◌, length, Option, Some, None, refl, sym, ap, subst, ◌∙◌, append_assoc, eqb-true, eq-eqb}
+use Rattle.std.proofs.lemmas.Bool.{and_from}
 use Rattle.std.proofs.lemmas.List.{length-append}
 use Rattle.std.specs.List.{list_all}
 use Rattle.edm_values.specs.Lists.{same_text}
@@ -17,9 +18,6 @@ pub not_true : (a : Bool) → not a ≡ true → a ≡ false
 not_true true h = absurd cc
 not_true false h = refl
 
-pub both_true : (a b : Bool) → a ≡ true → b ≡ true → (a && b) ≡ true
-both_true a b h k = rw (h, k) refl
-
 pub same_is : (s t : List ℕ) → same_text s t ≡ true → s ≡ t
 same_is [] [] h = refl
 same_is [] (b ∷ t) h = absurd cc
@@ -32,7 +30,7 @@ same_is (a ∷ s) (b ∷ t) h =
 
 pub same_refl : (s : List ℕ) → same_text s s ≡ true
 same_refl [] = refl
-same_refl (a ∷ s) = both_true (a == a) (same_text s s) (eq-eqb a a refl) (same_refl s)
+same_refl (a ∷ s) = and_from (a == a) (same_text s s) (eq-eqb a a refl) (same_refl s)
 
 -- what follows from a part that did not fail
 pub bind_then : {A B P : Type 0} (o : Option A) (f : A → Option B) {y : B} → (o >>= f) ≡ Some y → ((x : A) → o ≡ Some x → f x ≡ Some y → P) → P
@@ -108,7 +106,7 @@ pub record IsRun (p : ℕ → Bool) (t a r : List ℕ) : Type 0 where
 
 run_step : (p : ℕ → Bool) (b : ℕ) (t : List ℕ) (c : Bool) → p b ≡ c → IsRun p t (run p t).0 (run p t).1 → IsRun p (b ∷ t) (run p (b ∷ t)).0 (run p (b ∷ t)).1
 unfolding run
-run_step p b t true e x = rw e (record { cut = ap (λ l. b ∷ l) x.cut; pass = both_true (p b) _ e x.pass; stop = x.stop })
+run_step p b t true e x = rw e (record { cut = ap (λ l. b ∷ l) x.cut; pass = and_from (p b) _ e x.pass; stop = x.stop })
 run_step p b t false e x = rw e (record { cut = refl; pass = refl; stop = ap not e })
 
 pub run_is : (p : ℕ → Bool) (t : List ℕ) → IsRun p t (run p t).0 (run p t).1
@@ -162,7 +160,7 @@ blanks_is (b ∷ t) {r} h =
     guard_then (is_blank b) (skip_blanks t) h (λ e k.
     let x = run_is is_blank t in
     subst (λ l. Front rws (b ∷ t) l × (stops is_blank l ≡ true)) k
-    (record { front = b ∷ (run is_blank t).0; of = (both_true (is_blank b) _ e x.pass, refl); cut = ap (λ l. b ∷ l) x.cut }, x.stop))
+    (record { front = b ∷ (run is_blank t).0; of = (and_from (is_blank b) _ e x.pass, refl); cut = ap (λ l. b ∷ l) x.cut }, x.stop))
 
 pub blanks_none : (t : List ℕ) → stops is_blank t ≡ true → blanks_at t ≡ None
 unfolding blanks_at

@@ -19,7 +19,8 @@ use Rattle.edm_values.specs.Values.{value_in}
 use Rattle.edm_values.specs.declared.Value.{Value}
 use Rattle.edm_data.proofs.KeyOrderLemmas.{position-push, first_some-None}
 use Rattle.edm_data.specs.Columns.{AreBelow, AreRising, kept_at, kept, value_or_null, column_values}
-use Rattle.edm_data.proofs.PlaceLemmas.{length-places, get_or-places, slice_get-push_before, slice_get-push_at}
+use Rattle.edm_values.proofs.TopPlaces.{length-places}
+use Rattle.edm_data.proofs.PlaceLemmas.{get_or-places, slice_get-push_before, slice_get-push_at}
 
 -- ---- the first place at which a test passes
 

@@ -9,7 +9,8 @@ use Rattle.edm_values.specs.Lists.{places}
 use Rattle.edm_values.specs.Values.{value_in}
 use Rattle.edm_values.specs.declared.Value.{Value}
 use Rattle.edm_data.specs.Columns.{ValueList, grid_of, row_at, AreColumns}
-use Rattle.edm_data.proofs.PlaceLemmas.{length-places, get_or-places, slice_get-push_before, slice_get-push_at}
+use Rattle.edm_values.proofs.TopPlaces.{length-places}
+use Rattle.edm_data.proofs.PlaceLemmas.{get_or-places, slice_get-push_before, slice_get-push_at}
 use Rattle.edm_data.proofs.ColumnLemmas.{map_places, map_places_more}
 
 pub grid_count : (cs : List ValueList) (n : ℕ) → length ((grid_of cs n).rows) ≡ n

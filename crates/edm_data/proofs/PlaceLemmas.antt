@@ -1,14 +1,11 @@
 -- Lists by their places.
-use Rattle.std.proofs.Common.{◌≡◌, ℕ, zero, suc, ◌<◌, List, [], ◌∷◌, ◌++◌, length, get_or, refl, sym, ◌∙◌, ap, arith, ⊎_elim, Some, length-append}
+use Rattle.std.proofs.Common.{◌≡◌, ℕ, zero, suc, ◌<◌, List, [], ◌∷◌, ◌++◌, length, get_or, refl, sym, ◌∙◌, ap, arith, ⊎_elim, Some}
 use Rattle.std.specs.List.{slice_get}
 use Rattle.std.proofs.lemmas.List.{get_or_append_left}
 use Rattle.std.proofs.lemmas.Bool.{cases_lt}
 use Rattle.std.proofs.Math.Seq.{get_or-append_seam}
 use Rattle.edm_values.specs.Lists.{places}
-
-pub length-places : (n : ℕ) → length (places n) ≡ n
-length-places zero = refl
-length-places (suc n) = length-append (places n) (n ∷ []) ∙ (let e = length-places n in omega arith)
+use Rattle.edm_values.proofs.TopPlaces.{length-places}
 
 pub get_or-places : (n k d : ℕ) → k < n → get_or (places n) k d ≡ k
 get_or-places zero k d h = absurd (omega arith)

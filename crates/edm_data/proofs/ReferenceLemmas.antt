@@ -2,7 +2,8 @@
 use Rattle.std.proofs.Common.{◌≡◌, ℕ, zero, suc, ◌<◌, List, [], ◌∷◌, length, get_or, refl, sym, ◌∙◌, ap, arith, Some, None}
 use Rattle.std.proofs.lemmas.List.{length-map, get_or-map}
 use Rattle.edm_values.specs.Lists.{places}
-use Rattle.edm_data.proofs.PlaceLemmas.{length-places, get_or-places}
+use Rattle.edm_values.proofs.TopPlaces.{length-places}
+use Rattle.edm_data.proofs.PlaceLemmas.{get_or-places}
 use Rattle.std.specs.declared.option.Option.{Option}
 use Rattle.std.specs.Option.{option_map, option_and_then, unwrap_or}
 use Rattle.std.specs.List.{slice_get}

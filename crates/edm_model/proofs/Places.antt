@@ -1,5 +1,5 @@
 -- Elements of a list by their places.
-use Rattle.std.proofs.Common.{◌≡◌, ℕ, zero, suc, ◌<◌, List, [], ◌∷◌, length, get_or, Some, arith}
+use Rattle.std.proofs.Common.{◌≡◌, ℕ, zero, suc, ◌<◌, List, [], ◌∷◌, length, Some, arith}
 use Rattle.std.specs.Prelude.{slice_get, option_map, unwrap_or, false}
 use Rattle.edm_model.specs.Models.{Model, Part}
 use Rattle.edm_model.specs.LookUps.{navigations_of, IsNavigation}
@@ -10,11 +10,6 @@ pub mapped_within : {X Y : Type 0} (f : X → Y) (xs : List X) (i : ℕ) (y : Y)
 mapped_within f [] i y h = cc
 mapped_within f (x ∷ xs) zero y h = omega arith
 mapped_within f (x ∷ xs) (suc i) y h = omega (arith, mapped_within f xs i y h)
-
-pub mapped_value : {X Y : Type 0} (f : X → Y) (xs : List X) (i : ℕ) (d : X) (y : Y) → option_map f (slice_get xs i) ≡ Some y → f (get_or xs i d) ≡ y
-mapped_value f [] i d y h = cc
-mapped_value f (x ∷ xs) zero d y h = cc
-mapped_value f (x ∷ xs) (suc i) d y h = mapped_value f xs i d y h
 
 -- the place of a type that has an element in one of its lists is within the list of types
 pub within_types : {T X : Type 0} (items : T → List X) (ts : List T) (t k : ℕ) → k < length (unwrap_or (option_map items (slice_get ts t)) []) → t < length ts

@@ -19,13 +19,6 @@ use edm_values::{EdmType, Text};
 use serde_json::Value;
 use std::alloc::{AllocError, Global};
 
-/// A text of these bytes.
-fn text_of(alloc: Global, text: &str) -> Result<Text, AllocError>
-    ensures { IfOk result (λ t. t ≡ text.now) }
-{
-    Text::new(String::from_str(alloc, text)?)
-}
-
 /// The properties of an entity type.
 fn properties_of(alloc: Global, t: &TypeTree<'_>) -> Result<Vec<Property>, AllocError>
     requires { IsTypeTree t.now }
@@ -33,7 +26,7 @@ fn properties_of(alloc: Global, t: &TypeTree<'_>) -> Result<Vec<Property>, Alloc
 {
     let mut properties = Vec::new(alloc);
     for member in &t.properties {
-        let name = text_of(alloc, member.name)?;
+        let name = Text::of(alloc, member.name)?;
         properties.push(Property {
             name,
             kind: kind_of(member.value).unwrap_or(EdmType::Text),
@@ -95,7 +88,7 @@ fn navigation_of(
     requires t { IsTypeTree t.now }
     ensures { IfOk result (λ n. n ≡ spec.navigation_of (root_of schema.now) (tree_of t.now) (member_seen member.entry)) }
 {
-    let name = text_of(alloc, member.name)?;
+    let name = Text::of(alloc, member.name)?;
     Ok(Navigation {
         name,
         target: type_place(schema, member.value).unwrap_or(0),
@@ -132,7 +125,7 @@ fn hierarchy_of(
     requires { IsTypeTree t.now }
     ensures { IfOk result (λ h. h ≡ spec.hierarchy_from (tree_of t.now) qualifier.now (view value.now)) }
 {
-    let qualifier = text_of(alloc, qualifier)?;
+    let qualifier = Text::of(alloc, qualifier)?;
     let parent = navigation_place(t, text_at("ParentNavigationProperty", value));
     Ok(Hierarchy { qualifier, parent })
 }
@@ -154,7 +147,7 @@ fn push_string(alloc: Global, texts: &mut Vec<Text>, item: &Value) -> Result<(),
     ensures { OnOk result (texts.new.items ≡ texts.old.items ++ option_to_list (as_str (view item.now))) }
 {
     if let Some(text) = item.as_str() {
-        texts.push(text_of(alloc, text)?)?;
+        texts.push(Text::of(alloc, text)?)?;
     }
     Ok(())
 }
@@ -185,8 +178,8 @@ fn paths_of(alloc: Global, value: &Value) -> Result<Vec<Text>, AllocError>
 fn custom_of(alloc: Global, name: &str, value: &Value) -> Result<Definition, AllocError>
     ensures { IfOk result (λ c. c ≡ spec.custom_from name.now (view value.now)) }
 {
-    let name = text_of(alloc, name)?;
-    let of = text_of(alloc, text_at("Of", value))?;
+    let name = Text::of(alloc, name)?;
+    let of = Text::of(alloc, text_at("Of", value))?;
     let per = paths_of(alloc, value)?;
     Ok(Definition {
         name,
@@ -215,7 +208,7 @@ fn type_of(alloc: Global, schema: &Schema<'_>, t: &TypeTree<'_>) -> Result<Entit
     requires t { IsTypeTree t.now }
     ensures { IfOk result (λ e. e ≡ spec.type_of (root_of schema.now) (type_seen t.now)) }
 {
-    let name = text_of(alloc, t.name)?;
+    let name = Text::of(alloc, t.name)?;
     let properties = properties_of(alloc, t)?;
     let navigations = navigations_of(alloc, schema, t)?;
     let hierarchies = hierarchies_of(alloc, t)?;
@@ -249,7 +242,7 @@ pub(crate) fn sets_of(alloc: Global, schema: &Schema<'_>) -> Result<Vec<EntitySe
 {
     let mut sets = Vec::new(alloc);
     for member in &schema.sets {
-        let name = text_of(alloc, member.name)?;
+        let name = Text::of(alloc, member.name)?;
         let of = type_place(schema, member.value).unwrap_or(0);
         sets.push(EntitySet { name, of })?;
     }

@@ -1,11 +1,12 @@
 use Rattle.std.proofs.Common.{◌≡◌, true, false, sym, ap, ◌∙◌, string_bytes}
 use Rattle.std.specs.Option.{is_some}
 use Rattle.std.specs.List.{list_any}
+use Rattle.std.proofs.lemmas.Bool.{or_right}
 use Rattle.edm_values.specs.Lists.{same_text}
 use Rattle.edm_model.specs.LookUps.{found_part, property_named, properties_of}
 use Rattle.edm_model.specs.ModelTrees.{is_annotation}
 use Rattle.edm_data.proofs.EntityLemmas.{prop_is_named}
-use Rattle.edm_data.proofs.RelationLemmas.{or_right, or_none}
+use Rattle.edm_data.proofs.RelationLemmas.{or_none}
 use Rattle.edm_data.proofs.entities.is_known_member.Goals as goal
 
 pub returns-then-is_some : goal.returns-then-is_some
