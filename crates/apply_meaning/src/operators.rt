@@ -16,7 +16,7 @@ fn is_beyond(v: Seen<'_>) -> bool
 }
 
 /// Whether the value is null.
-fn is_null(v: Seen<'_>) -> bool
+pub(crate) fn is_null(v: Seen<'_>) -> bool
     ensures { result ≡ spec.is_null (seen_value v.entry) }
 {
     matches!(v, Seen::Null)
