@@ -421,8 +421,18 @@ fn each_refused_file_beside_the_samples_other_one_has_its_line(
     for (model, data, status, output) in [
         ("{", SAMPLE_DATA, Status::ModelRefused, "model Json\n"),
         ("{}", SAMPLE_DATA, Status::ModelRefused, "model Model\n"),
-        (scaleless.as_str(), SAMPLE_DATA, Status::ModelRefused, "model Model\n"),
-        (untyped.as_str(), SAMPLE_DATA, Status::ModelRefused, "model Custom \"Sale\" \"Best\"\n"),
+        (
+            scaleless.as_str(),
+            SAMPLE_DATA,
+            Status::ModelRefused,
+            "model Model\n",
+        ),
+        (
+            untyped.as_str(),
+            SAMPLE_DATA,
+            Status::ModelRefused,
+            "model Custom \"Sale\" \"Best\"\n",
+        ),
         (SAMPLE_MODEL, half, Status::DataRefused, "data Json\n"),
         (
             SAMPLE_MODEL,
@@ -442,9 +452,22 @@ fn each_refused_file_beside_the_samples_other_one_has_its_line(
             Status::DataRefused,
             "data Shape \"Orgs\" 0\n",
         ),
-        (SAMPLE_MODEL, "{\"Shops\":[]}", Status::DataRefused, "data Set \"Shops\"\n"),
+        (
+            SAMPLE_MODEL,
+            "{\"Shops\":[]}",
+            Status::DataRefused,
+            "data Set \"Shops\"\n",
+        ),
     ] {
-        let ran = outcome(&rt, alloc, &Case { model, data, ..PLAIN })?;
+        let ran = outcome(
+            &rt,
+            alloc,
+            &Case {
+                model,
+                data,
+                ..PLAIN
+            },
+        )?;
         assert_eq!(rt; ran.status, status, "{output}");
         assert_eq!(rt; ran.output.as_slice(), output.as_bytes(), "{output}");
     }

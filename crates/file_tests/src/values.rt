@@ -362,10 +362,7 @@ fn keeps_values_as_keys(rt: HostRuntime) -> Result<(), Fail> {
     places.insert(decimal(100, 2).own(alloc)?, 3)?;
     places.insert(Seen::Text("x").own(alloc)?, 4)?;
     assert_eq!(rt; places.len(), 3);
-    assert_eq!(rt;
-        places.get(&Value::Text(Text::of(alloc, "x")?)),
-        Some(&4)
-    );
+    assert_eq!(rt; places.get(&Value::Text(Text::of(alloc, "x")?)), Some(&4));
     let mut sorted = BTreeMap::new(alloc);
     sorted.insert(decimal(100, 2).own(alloc)?, 1u8)?;
     sorted.insert(Value::Null, 2)?;
