@@ -1,6 +1,6 @@
 -- Customs that were typed over a model, with all of its custom aggregates, give each of them its type.
-use Rattle.std.proofs.Common.{◌≡◌, refl, sym, ◌∙◌, ap, subst, ℕ, zero, suc, ◌+◌, ◌<◌, Bool, true, false, ◌&&◌, List, [], ◌∷◌, ◌++◌, Option, Some, None, map, length, cond, arith, inl, inr, add-zero}
-use Rattle.std.specs.Prelude.{All, find, flat_map, is_some, option_and_then, option_map, slice_get, unwrap_or, ◌==◌}
+use Rattle.std.proofs.Common.{◌≡◌, refl, sym, ◌∙◌, ap, subst, ℕ, zero, suc, ◌+◌, ◌<◌, Bool, true, false, List, [], ◌∷◌, ◌++◌, Option, Some, None, map, length, cond, arith, inl, inr, add-zero}
+use Rattle.std.specs.Prelude.{All, find, flat_map, is_some, option_and_then, option_map, slice_get, unwrap_or}
 use Rattle.std.specs.List.{enumerate_from, list_all}
 use Rattle.std.proofs.lemmas.Bool.{and_from, cases_lt, eq-eqb}
 use Rattle.std.proofs.lemmas.Grind.{flat_map-append}
