@@ -11,9 +11,9 @@ use Rattle.apply_meaning.specs.Instances.{Instance, fits, extended}
 use Rattle.apply_meaning.specs.Meaning.{group, joined, key_list, keyed, same_keys}
 use Rattle.apply_meaning.specs.RowViews.{columns_differ}
 use Rattle.apply_ast.specs.Trees as tree
-use Rattle.apply_ast.specs.Views.{step_of, pipe_of, named_of, item_of, expr_of}
+use Rattle.apply_ast.specs.Views.{agg_of, step_of, pipe_of, named_of, item_of, expr_of}
 use Rattle.apply_ast.specs.Views.{keys_from}
-use Rattle.apply_ast.proofs.ViewEquations.{step_of-GroupBy, step_of-Identity, step_of-Filter, step_of-Compute, step_of-OrderBy, step_of-Skip, step_of-Top}
+use Rattle.apply_ast.proofs.ViewEquations.{step_of-Aggregate, step_of-GroupBy, step_of-Identity, step_of-Filter, step_of-Compute, step_of-OrderBy, step_of-Skip, step_of-Top}
 use Rattle.apply_meaning.specs.Meaning.{mean, step_mean, grouped}
 use Rattle.apply_meaning.specs.MeaningLaws.{AllFit}
 use Rattle.apply_meaning.proofs.MeaningEquations.{mean-End, step_mean-Identity, step_mean-Filter, step_mean-Compute, step_mean-OrderBy, step_mean-Skip, step_mean-Top}
@@ -83,3 +83,21 @@ returns-in-Skip-clause-mean g c = λ c' S S' R.
 pub returns-in-Top-clause-mean : goal.returns-in-Top-clause-mean
 returns-in-Top-clause-mean g c = λ c' S S' R.
     ap (λ s. step_mean c.args.store.now c' S s c.args.rows.items) (ap step_of c.in-Top.is ∙ step_of-Top c.in-Top.n) ∙ step_mean-Top c.args.store.now c' S c.in-Top.n c.args.rows.items ∙ ap Some (sym c.top_rows.ensures)
+
+pub returns-in_err-aggregated-in-Aggregate-clause-steps :
+    goal.returns-in_err-aggregated-in-Aggregate-clause-steps
+returns-in_err-aggregated-in-Aggregate-clause-steps g c = λ c' S S' R.
+    let w = c.args.store.now in
+    let e = ap step_of c.in-Aggregate.is ∙ step_of-Aggregate c.in-Aggregate.items in
+    let spent = c.aggregated.ensures.steps in
+    let whole = ap (λ s. step_cost w c' S s c.args.rows.items) e ∙ aggregate-cost w c' S (map agg_of c.in-Aggregate.items) c.args.rows.items in
+    omega (arith, spent, whole)
+
+pub returns-in_ok-aggregated-in-Aggregate-clause-steps :
+    goal.returns-in_ok-aggregated-in-Aggregate-clause-steps
+returns-in_ok-aggregated-in-Aggregate-clause-steps g c = λ c' S S' R.
+    let w = c.args.store.now in
+    let e = ap step_of c.in-Aggregate.is ∙ step_of-Aggregate c.in-Aggregate.items in
+    let spent = c.aggregated.ensures.steps in
+    let whole = ap (λ s. step_cost w c' S s c.args.rows.items) e ∙ aggregate-cost w c' S (map agg_of c.in-Aggregate.items) c.args.rows.items in
+    omega (arith, spent, whole)
