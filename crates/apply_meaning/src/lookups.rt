@@ -5,29 +5,14 @@ ghost use Rattle.edm_values.specs.Values.{seen_value};
 ghost use Rattle.edm_model.specs.LookUps.{IsSet};
 ghost use Rattle.apply_meaning.specs.Fronts as fronts;
 ghost use Rattle.apply_meaning.specs.Instances as spec;
-ghost use Rattle.context_typing.specs.Paths as paths;
 ghost use Rattle.context_typing.specs.Paths.{at_path};
 ghost use Rattle.apply_meaning.specs.RowViews.{is_of};
 
 use crate::Row;
 use apply_ast::{Name, Path};
+use context_typing::same_path;
 use edm_data::{Data, EntityRef};
 use edm_values::{Seen, Value};
-
-/// Whether the names are the same.
-fn same_path(a: &[Name], b: &[Name]) -> bool
-    ensures { result ≡ paths.same_path a.now b.now }
-{
-    if a.len() != b.len() {
-        return false;
-    }
-    for (k, name) in a.iter().enumerate() {
-        if name.text() != b[k].text() {
-            return false;
-        }
-    }
-    true
-}
 
 /// The value of the column of this path.
 fn column_at<'a>(columns: &'a [(Path, Value)], names: &[Name]) -> Option<&'a Value>
