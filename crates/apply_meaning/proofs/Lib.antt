@@ -1,6 +1,8 @@
+pub mod AggregateForms
 pub mod AggregateLemmas
 pub mod AggregateOrders
 pub mod AggregatedFit
+pub mod AggregationLemmas
 pub mod ExprLemmas
 pub mod FitLemmas
 pub mod FitMore
@@ -22,7 +24,9 @@ mod NodeRows
 pub mod PlaceLemmas
 pub mod QuietLemmas
 pub mod RootLemmas
+pub mod RunLemmas
 pub mod RowLemmas
+pub mod SetLemmas
 pub mod SumLaws
 pub mod SureLemmas
 pub mod WellTyped

@@ -12,13 +12,15 @@ pub use Rattle.edm_data.specs.References
 pub use Rattle.edm_data.specs.Worlds
 pub use Rattle.apply_ast.specs.Trees
 pub use Rattle.apply_ast.specs.Views
+pub use Rattle.context_typing.specs.Answers
 pub use Rattle.context_typing.specs.Paths
+pub use Rattle.context_typing.specs.Readings
 pub use Rattle.context_typing.specs.Shapes
 pub use Rattle.context_typing.specs.Typing
 pub mod Aggregates
-pub mod Fronts
 pub mod Instances
 pub mod Meaning
 pub mod MeaningLaws
 pub mod RowViews
+pub mod Running
 pub mod Sums

@@ -2,6 +2,15 @@
 //! every loaded one. Shapes, sure expressions and quiet pipelines are those of typing.
 ghost use Rattle.apply_meaning.specs.MeaningLaws.{IsLoaded, ValuesFit, SureIsNotBeyond, RowsFit, NodesFit, RelatedFit, MeanFits, QuietIsNotRefused};
 
+use edm_data::Data;
+
+/// Every data is a world of a sound model whose lists have the form that the model says.
+pub fn data_is_loaded(store: &Data)
+    ensures { IsLoaded store.now }
+{
+    let _sets = store.model().sets();
+}
+
 /// A typed expression has a value of its type on each instance that fits the shape.
 pub fn values_fit()
     ensures { ValuesFit IsLoaded }

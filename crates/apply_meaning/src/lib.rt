@@ -20,20 +20,33 @@
 //! fits its shape, and a quiet one is never refused. No call runs a pipeline yet.
 #![tactic(auto)]
 
+mod aggregates;
+mod aggregations;
+mod computes;
 mod evaluation;
+mod filters;
 mod laws;
 mod lookups;
 mod operators;
+mod plain;
+mod refusals;
 mod rows;
+mod sets;
 mod steps;
 mod sums;
 
+pub use aggregates::aggregate;
+pub use computes::compute_rows;
 pub use evaluation::eval;
+pub use filters::{filter_rows, skip_rows, top_rows};
 pub use laws::{
-    meanings_fit, node_rows_fit, quiet_is_not_refused, related_rows_fit, set_rows_fit,
+    data_is_loaded, meanings_fit, node_rows_fit, quiet_is_not_refused, related_rows_fit, set_rows_fit,
     sure_values_are_in_range, values_fit,
 };
 pub use lookups::lookup;
+pub use plain::{aggregated, is_plain, is_plain_step, run_plain};
+pub use refusals::RunRefused;
 pub use rows::Row;
+pub use sets::set_rows;
 pub use steps::Steps;
 pub use sums::first_sum;

@@ -1,7 +1,8 @@
 -- Names that texts are, and rows whose entities are of sets that the model has.
 use Rattle.std.proofs.Common.{◌≡◌, ℕ, zero, suc, ◌<◌, length, refl, subst, ◌∙◌, ap, Bool, true, false, List, [], ◌∷◌, Option, Some, None, arith}
-use Rattle.std.specs.Prelude.{Result, Ok, ◌&&◌, if◌then◌else◌, option_map, slice_get, is_some, unwrap_or}
+use Rattle.std.specs.Prelude.{Result, Ok, if◌then◌else◌, option_map, slice_get, is_some, unwrap_or}
 use Rattle.std.specs.List.{list_all}
+use Rattle.std.proofs.lemmas.Bool.{and_from}
 use Rattle.edm_values.specs.Names.{Path}
 use Rattle.edm_model.specs.Models.{Model, EntitySet}
 use Rattle.edm_model.specs.LookUps.{IsSet}
@@ -36,9 +37,6 @@ set-typed w m e k l = go (slice_get w.model.sets e.set) (within w.model.sets e.s
 abbrev pub all_of : World → List (Path × Option Entity) → Bool
 all_of w ps = list_all (λ x. is_none_or (λ e. is_some (entity_type w e)) x.1) ps
 
-pub both_hold : (a b : Bool) → a ≡ true → b ≡ true → (a && b) ≡ true
-both_hold a b h k = ap (λ x. x && b) h ∙ k
-
 -- a row is of the world where its root is, and what stands at its other prefixes
 pub rooted : (w : World) (i : Instance) (e : Entity) (ps : List (Path × Option Entity)) → i.prefixes ≡ ([], Some e) ∷ ps → is_some (entity_type w e) ≡ true → all_of w ps ≡ true → is_of w i ≡ true
-rooted w i e ps k h t = ap (all_of w) k ∙ both_hold (is_some (entity_type w e)) (all_of w ps) h t
+rooted w i e ps k h t = ap (all_of w) k ∙ and_from (is_some (entity_type w e)) (all_of w ps) h t

@@ -7,6 +7,8 @@ mod names;
 #[cfg(test)]
 mod rows;
 #[cfg(test)]
+mod runs;
+#[cfg(test)]
 mod stock_requests;
 #[cfg(test)]
 mod typed_requests;

@@ -116,7 +116,7 @@ const VALUES: &[(u32, &str, &str)] = &[
 ];
 
 /// The data of a file over the sample's model.
-fn world(alloc: Global, data: &str) -> Result<Data, Fail> {
+pub(crate) fn world(alloc: Global, data: &str) -> Result<Data, Fail> {
     let model = read_model(alloc, SAMPLE.as_bytes())?;
     Ok(read_data(alloc, model, data.as_bytes())?)
 }
@@ -172,7 +172,7 @@ fn sale_row<L: Ledger>(alloc: Global, store: &Data, at: u32, steps: &mut Steps<L
 }
 
 /// The plain text of a value, or a word for what has none.
-fn shown(alloc: Global, value: Seen<'_>) -> Result<String, Fail> {
+pub(crate) fn shown(alloc: Global, value: Seen<'_>) -> Result<String, Fail> {
     let mut out = Vec::new(alloc);
     match value {
         Seen::Null => out.extend_from_slice(b"null")?,

@@ -1,0 +1,58 @@
+use Rattle.std.proofs.Common.{◌≡◌, ◌+◌, ◌≤◌, ◌∙◌, ap, sym, subst, refl, map, drop, length, Some, None, Err, IsTrue, arith, List, ◌∷◌}
+use Rattle.std.specs.Prelude.{option_and_then, option_map, sum}
+use Rattle.std.proofs.lemmas.Result.{err_from_is_err_and}
+use Rattle.std.proofs.Math.ListN.{drop_of_length-le}
+use Rattle.std.specs.Prelude.{slice_get, nat_lt, ◌++◌}
+use Rattle.std.specs.List.{list_all}
+use Rattle.std.proofs.lemmas.Option.{slice_get_read}
+use Rattle.edm_values.proofs.EachLemmas.{all-filter}
+use Rattle.edm_values.specs.Lists.{at_places}
+use Rattle.apply_meaning.specs.Instances.{Instance, fits, extended}
+use Rattle.apply_meaning.specs.Meaning.{group, joined, key_list, keyed, same_keys}
+use Rattle.apply_meaning.specs.RowViews.{columns_differ}
+use Rattle.apply_ast.specs.Trees as tree
+use Rattle.apply_ast.specs.Views.{step_of, pipe_of, named_of, item_of, expr_of}
+use Rattle.apply_ast.specs.Views.{keys_from}
+use Rattle.apply_ast.proofs.ViewEquations.{step_of-GroupBy, step_of-Identity, step_of-Filter, step_of-Compute, step_of-OrderBy, step_of-Skip, step_of-Top}
+use Rattle.apply_meaning.specs.Meaning.{mean, step_mean, grouped}
+use Rattle.apply_meaning.specs.MeaningLaws.{AllFit}
+use Rattle.apply_meaning.proofs.MeaningEquations.{mean-End, step_mean-Identity, step_mean-Filter, step_mean-Compute, step_mean-OrderBy, step_mean-Skip, step_mean-Top}
+use Rattle.apply_meaning.specs.Running.{Gives, Runs, StepRuns, all_free, new_columns}
+use Rattle.apply_meaning.proofs.RunLemmas.{turn, gives-err, compute-free, all-fit-of, next-step}
+use Rattle.apply_meaning.proofs.plain.plain_step.Goals as goal
+
+pub filter_rows-requires : goal.filter_rows-requires
+filter_rows-requires g c = all-fit-of c.args.store.now c.requires.ready.1 c.args.rows.items (c.requires.ready.3).fit
+
+pub compute_rows-requires-clause-of : goal.compute_rows-requires-clause-of
+compute_rows-requires-clause-of g c = all-fit-of c.args.store.now c.requires.ready.1 c.args.rows.items (c.requires.ready.3).fit
+
+pub compute_rows-requires-clause-free : goal.compute_rows-requires-clause-free
+compute_rows-requires-clause-free g c =
+    let w = c.args.store.now in
+    let e = ap step_of c.in-Compute.is ∙ step_of-Compute c.in-Compute.items in
+    subst (λ xs. IsTrue (all_free w (map named_of xs) c.args.rows.items)) (sym c.as_slice.ensures)
+    (compute-free w c.requires.ready.0 c.requires.ready.1 c.requires.ready.2 (map named_of c.in-Compute.items) c.args.rows.items c.data_is_loaded.ensures (subst (λ s. StepRuns w c.requires.ready.0 c.requires.ready.1 c.requires.ready.2 s c.args.rows.items) e c.requires.ready.3))
+
+pub returns-in-Identity : goal.returns-in-Identity
+returns-in-Identity g c = λ c' S S' R. ap (λ s. step_mean c.args.store.now c' S s c.args.rows.items) (ap step_of c.in-Identity.is ∙ step_of-Identity) ∙ step_mean-Identity c.args.store.now c' S c.args.rows.items
+
+pub returns-in-Filter : goal.returns-in-Filter
+returns-in-Filter g c = λ c' S S' R.
+    subst (Gives c.filter_rows.result) (sym (ap (λ s. step_mean c.args.store.now c' S s c.args.rows.items) (ap step_of c.in-Filter.is ∙ step_of-Filter c.in-Filter.e) ∙ step_mean-Filter c.args.store.now c' S (expr_of c.in-Filter.e) c.args.rows.items)) c.filter_rows.ensures
+
+pub returns-in_ok-compute_rows-in-Compute :
+    goal.returns-in_ok-compute_rows-in-Compute
+returns-in_ok-compute_rows-in-Compute g c = λ c' S S' R.
+    let w = c.args.store.now in
+    ap (λ s. step_mean w c' S s c.args.rows.items) (ap step_of c.in-Compute.is ∙ step_of-Compute c.in-Compute.items) ∙ step_mean-Compute w c' S (map named_of c.in-Compute.items) c.args.rows.items
+    ∙ ap (λ xs. Some (map (λ i. extended i (new_columns w (map named_of xs) i)) c.args.rows.items)) (sym c.as_slice.ensures)
+    ∙ ap Some (sym c.in_ok-compute_rows-in-Compute.ensures.rows)
+
+pub returns-in-Skip : goal.returns-in-Skip
+returns-in-Skip g c = λ c' S S' R.
+    ap (λ s. step_mean c.args.store.now c' S s c.args.rows.items) (ap step_of c.in-Skip.is ∙ step_of-Skip c.in-Skip.n) ∙ step_mean-Skip c.args.store.now c' S c.in-Skip.n c.args.rows.items ∙ ap Some (sym c.skip_rows.ensures)
+
+pub returns-in-Top : goal.returns-in-Top
+returns-in-Top g c = λ c' S S' R.
+    ap (λ s. step_mean c.args.store.now c' S s c.args.rows.items) (ap step_of c.in-Top.is ∙ step_of-Top c.in-Top.n) ∙ step_mean-Top c.args.store.now c' S c.in-Top.n c.args.rows.items ∙ ap Some (sym c.top_rows.ensures)

@@ -1,0 +1,4 @@
+pub mod CostEquations
+pub mod OrderLemmas
+pub mod PlanLemmas
+pub mod RunLemmas

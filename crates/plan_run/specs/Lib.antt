@@ -1,0 +1,14 @@
+pub use Rattle.edm_model.specs.LookUps
+pub use Rattle.context_typing.specs.Readings
+pub use Rattle.optimiser.specs.Plans
+pub use Rattle.apply_ast.specs.Trees
+pub use Rattle.apply_ast.specs.Views
+pub use Rattle.context_typing.specs.Typing
+pub use Rattle.apply_meaning.specs.Instances
+pub use Rattle.apply_meaning.specs.Meaning
+pub use Rattle.apply_meaning.specs.RowViews
+pub use Rattle.apply_meaning.specs.Running
+pub use Rattle.apply_meaning.specs.Aggregates
+pub mod Costs
+pub mod Forms
+pub mod Orders
