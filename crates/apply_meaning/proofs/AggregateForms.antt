@@ -15,7 +15,6 @@ use Rattle.edm_values.specs.Values.{is_beyond, is_null, same_value, seen_value}
 use Rattle.edm_values.proofs.ValueOrders.{same_value_tests, value_after_order, value_before_order}
 use Rattle.apply_meaning.specs.Aggregates.{aggregate, aggregate_of}
 use Rattle.apply_meaning.specs.Meaning.{item_before}
-use Rattle.edm_values.proofs.EachLemmas.{all-filter}
 use Rattle.edm_values.proofs.Reorderings.{TestsEquality, all-reorders}
 use Rattle.edm_values.proofs.SortedLists.{inserted, ordered, reorders-ordered, sorted-is_ordered}
 use Rattle.indexmap.specs.IndexSet.{insert_key}

@@ -1,5 +1,5 @@
 -- Typed aggregations without custom aggregates: their sums are of numbers of one type, and their columns are the same by any customs and any shape.
-use Rattle.std.proofs.Common.{◌≡◌, ◌<◌, ℕ, zero, suc, true, false, not, ◌&&◌, ◌||◌, Bool, List, [], ◌∷◌, Some, None, map, length, take, ◌+◌, ◌++◌, get_or, option_map, refl, sym, ◌∙◌, ap, subst, arith, IsTrue}
+use Rattle.std.proofs.Common.{◌≡◌, ◌<◌, ℕ, zero, suc, true, not, ◌&&◌, ◌||◌, List, [], ◌∷◌, Some, map, length, take, ◌+◌, ◌++◌, get_or, refl, sym, ◌∙◌, ap, arith}
 use Rattle.std.specs.Prelude.{option_and_then}
 use Rattle.std.specs.Bool.{then_some}
 use Rattle.std.specs.List.{list_all}
@@ -16,11 +16,10 @@ use Rattle.apply_ast.specs.Views.{agg_of}
 use Rattle.apply_ast.specs.declared.items.AggItem as code
 use Rattle.context_typing.proofs.TypingEquations.{step_shape-Aggregate}
 use Rattle.context_typing.specs.Shapes.{ColumnShape, Shape}
-use Rattle.context_typing.specs.Typing.{Customs, aggregate_shape, columns_differ as shapes_differ, expr_kind, is_sum, is_sure, item_column, method_kind, new_column, no_shape}
+use Rattle.context_typing.specs.Typing.{Customs, columns_differ as shapes_differ, expr_kind, is_sum, is_sure, item_column, method_kind, new_column, no_shape}
 use Rattle.apply_meaning.specs.Instances.{Instance, fits, no_instance, val}
 use Rattle.apply_meaning.specs.Meaning.{item_value}
 use Rattle.apply_meaning.specs.MeaningLaws.{AllFit, IsLoaded}
-use Rattle.apply_meaning.specs.RowViews.{columns_differ}
 use Rattle.apply_meaning.specs.Running.{AreSummable, IsSummable, ItemsDiffer, StepRuns, is_standard}
 use Rattle.apply_meaning.proofs.MeaningEquations.{step_mean-Aggregate}
 use Rattle.apply_meaning.proofs.MeaningProved.{loaded-values}

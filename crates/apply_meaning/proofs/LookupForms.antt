@@ -1,4 +1,4 @@
--- Look-ups as the program makes them: by the fronts of a path, by the entities on the way, and by names of navigations.
+-- Look-ups as the program makes them: by the fronts of a path, and by names of navigations.
 use Rattle.std.proofs.Common.{◌≡◌, ℕ, zero, suc, ◌+◌, ◌-◌, ◌<◌, ◌≤◌, length, take, drop, refl, sym, ◌∙◌, ap, Bool, true, false, List, [], ◌∷◌, ◌++◌, Option, Some, None, arith, map, inl, inr}
 use Rattle.std.specs.Prelude.{option_map, option_and_then, unwrap_or, slice_get, is_some, find, if◌then◌else◌, IfSome}
 use Rattle.std.specs.List.{enumerate_from}
@@ -121,16 +121,6 @@ splits-fronts (n ∷ p) = ap (λ xs. map (λ (x : Path × Path). (n ∷ x.0, x.1
 -- all fronts
 pub fronts-whole : (w : World) (i : Instance) (p : Path) → front_value w i p (length p) ≡ prefix_value w i p
 fronts-whole w i p = ap (λ cs. behind w (find_map (found i) cs)) (sym (splits-fronts p))
-
--- ---- the entities on the way
-
-longer-path : (w : World) (m : Name) (q : Path) (n : Name) (e : Entity) → value_behind w (m ∷ (q ++ n ∷ [])) e ≡ option_and_then (value_behind w (q ++ n ∷ [])) (named_reference w m e)
-longer-path w m [] n e = refl
-longer-path w m (l ∷ q) n e = refl
-
--- what a path of these names and one more leads to, once its first name is followed
-pub next-name : (w : World) (p q : Path) (m n : Name) (e : Entity) (o : Option Entity) → p ≡ m ∷ q → o ≡ named_reference w m e → value_behind w (p ++ n ∷ []) e ≡ option_and_then (value_behind w (q ++ n ∷ [])) o
-next-name w p q m n e o h k = ap (λ p. value_behind w (p ++ n ∷ []) e) h ∙ longer-path w m q n e ∙ ap (option_and_then (value_behind w (q ++ n ∷ []))) (sym k)
 
 -- ---- navigation by name
 

@@ -1,4 +1,4 @@
-use Rattle.std.proofs.Common.{◌∙◌, ◌∷◌, [], ◌++◌, ap, sym, subst, refl, map, take, arith, IsTrue, Some, None}
+use Rattle.std.proofs.Common.{◌∙◌, ◌∷◌, [], ◌++◌, ap, sym, subst, refl, map, take, arith, IsTrue}
 use Rattle.std.proofs.lemmas.List.{take_all}
 use Rattle.apply_ast.specs.Views.{agg_of}
 use Rattle.apply_meaning.specs.Instances.{no_instance}

@@ -1,5 +1,5 @@
 -- Each mantissa is added exactly, and the whole is the aggregate.
-use Rattle.std.proofs.Common.{◌≡◌, ◌+ℤ◌, ◌∙◌, map, take, ap, sym, arith, to_z, of_z, pos}
+use Rattle.std.proofs.Common.{◌≡◌, ◌+ℤ◌, ◌∙◌, map, ap, sym, arith, to_z, of_z, pos}
 use Rattle.std.specs.Int.{w128}
 use Rattle.std.proofs.lemmas.Int.{ints}
 use Rattle.std.proofs.lemmas.List.{take_all}
