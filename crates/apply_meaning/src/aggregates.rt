@@ -3,7 +3,6 @@ ghost use Rattle.std.specs.Prelude.{◌≡◌, IfOk, filter, map, not, pos, leng
 ghost use Rattle.std.specs.List.{list_any};
 ghost use Rattle.edm_values.specs.declared.Value.{Value as Value'};
 ghost use Rattle.edm_values.specs.Lists.{distinct, first_or, sorted};
-
 ghost use Rattle.edm_values.specs.Values.{is_beyond, same_value, seen_value};
 ghost use Rattle.edm_values.specs.Values as on_values;
 ghost use Rattle.apply_meaning.specs.Aggregates as spec;
@@ -18,11 +17,7 @@ use std::alloc::{AllocError, Global};
 
 /// The aggregate of values by a method, in which nulls are skipped; `Beyond` where one of the values is. The values of a
 /// sum are of one type of numbers, and only their whole sum is tested against its range.
-pub fn aggregate(
-    alloc: Global,
-    method: Method,
-    values: &[Seen<'_>],
-) -> Result<Value, AllocError>
+pub fn aggregate(alloc: Global, method: Method, values: &[Seen<'_>]) -> Result<Value, AllocError>
     requires { AreFor method (map seen_value values.now) }
     ensures { IfOk result (λ v. v ≡ spec.aggregate method (map seen_value values.now)) }
 {

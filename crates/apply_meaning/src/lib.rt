@@ -40,8 +40,8 @@ pub use computes::compute_rows;
 pub use evaluation::eval;
 pub use filters::{filter_rows, skip_rows, top_rows};
 pub use laws::{
-    data_is_loaded, meanings_fit, node_rows_fit, quiet_is_not_refused, related_rows_fit, set_rows_fit,
-    sure_values_are_in_range, values_fit,
+    data_is_loaded, meanings_fit, node_rows_fit, quiet_is_not_refused, related_rows_fit,
+    set_rows_fit, sure_values_are_in_range, values_fit,
 };
 pub use lookups::lookup;
 pub use plain::{aggregated, is_plain, is_plain_step, run_plain};

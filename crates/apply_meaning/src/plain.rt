@@ -57,7 +57,9 @@ pub fn is_plain_step(step: &Step) -> bool
 fn are_standard(items: &[AggItem]) -> bool
     ensures { result ≡ list_all (λ item. spec.is_standard (agg_of item)) items.now }
 {
-    items.iter().all(|item| !matches!(item, AggItem::Custom(..)))
+    items
+        .iter()
+        .all(|item| !matches!(item, AggItem::Custom(..)))
 }
 
 /// The items of an aggregation can be evaluated on the rows.
