@@ -42,18 +42,21 @@ returns-in_err-rows-clause-steps g c = λ c' S S' R.
     omega (arith, s, least, left)
 
 pub loop-i-preserved : goal.loop-i-preserved
-loop-i-preserved g c = (steps-next is_built_step c.steps-all.result.now c.loop-i.i c.index-all-i.result c.loop-i-test.true c.index-all-i.is c.loop-i.invariant.0, λ c' S S' R.
-    let w = c.args.store.now in
-    let ss = c.steps-all.result.now in
-    let rest = tree.pipe (map step_of (drop (c.loop-i.i + 1) ss)) in
-    let e = next-step ss c.loop-i.i c.index-all-i.result c.loop-i-test.true c.index-all-i.is in
-    let i = c.loop-i.invariant.1 c' S S' R in
-    let u = turn w c' i.0 S' _ (step_of c.index-all-i.result) rest c.loop-i.rows.items e i.1 in
-    let m = c.in_ok-rows.ensures.mean c' i.0 u.between u.first in
-    let s = c.run_step.ensures.steps c' i.0 u.between u.first in
-    let spent = turn-cost w c' i.0 S' _ (step_of c.index-all-i.result) rest c.loop-i.rows.items c.in_ok-rows.rows.items e u m in
-    let left = i.3 in
-    (u.between, u.next c.in_ok-rows.rows.items c.data_is_loaded.ensures m, i.2 ∙ u.meaning ∙ ap (option_and_then (mean w c' u.between rest)) m, omega (arith, s, spent, left)))
+loop-i-preserved g c = (
+  steps-next is_built_step c.steps-all.result.now c.loop-i.i c.index-all-i.result c.loop-i-test.true c.index-all-i.is c.loop-i.invariant.0,
+  λ c' S S' R.
+      let w = c.args.store.now in
+      let ss = c.steps-all.result.now in
+      let rest = tree.pipe (map step_of (drop (c.loop-i.i + 1) ss)) in
+      let e = next-step ss c.loop-i.i c.index-all-i.result c.loop-i-test.true c.index-all-i.is in
+      let i = c.loop-i.invariant.1 c' S S' R in
+      let u = turn w c' i.0 S' _ (step_of c.index-all-i.result) rest c.loop-i.rows.items e i.1 in
+      let m = c.in_ok-rows.ensures.mean c' i.0 u.between u.first in
+      let s = c.run_step.ensures.steps c' i.0 u.between u.first in
+      let spent = turn-cost w c' i.0 S' _ (step_of c.index-all-i.result) rest c.loop-i.rows.items c.in_ok-rows.rows.items e u m in
+      let left = i.3 in
+      (u.between, u.next c.in_ok-rows.rows.items c.data_is_loaded.ensures m, i.2 ∙ u.meaning ∙ ap (option_and_then (mean w c' u.between rest)) m, omega (arith, s, spent, left)),
+)
 
 pub returns-clause-mean : goal.returns-clause-mean
 returns-clause-mean g c = λ c' S S' R.
