@@ -1,5 +1,5 @@
 -- Typed aggregations without custom aggregates: their sums are of numbers of one type, and their columns are the same by any customs and any shape.
-use Rattle.std.proofs.Common.{◌≡◌, ◌<◌, ℕ, zero, suc, true, false, not, ◌&&◌, ◌||◌, Bool, List, [], ◌∷◌, Some, None, map, length, get_or, option_map, refl, sym, ◌∙◌, ap, subst, arith, IsTrue}
+use Rattle.std.proofs.Common.{◌≡◌, ◌<◌, ℕ, zero, suc, true, not, ◌&&◌, ◌||◌, List, [], ◌∷◌, Some, map, length, take, ◌+◌, ◌++◌, get_or, refl, sym, ◌∙◌, ap, arith}
 use Rattle.std.specs.Prelude.{option_and_then}
 use Rattle.std.specs.Bool.{then_some}
 use Rattle.std.specs.List.{list_all}
@@ -10,14 +10,16 @@ use Rattle.edm_values.specs.Lists.{all_some, is_nonempty}
 use Rattle.edm_values.specs.Literals.{is_number_kind, is_of_kind}
 use Rattle.edm_values.proofs.ListFacts.{all-map}
 use Rattle.edm_values.proofs.OptionFacts.{all_some-parts, chained, mapped, then_some-parts}
+use Rattle.std.proofs.lemmas.List.{map-append, map_more}
 use Rattle.apply_ast.specs.Trees.{AggItem, Step}
+use Rattle.apply_ast.specs.Views.{agg_of}
+use Rattle.apply_ast.specs.declared.items.AggItem as code
 use Rattle.context_typing.proofs.TypingEquations.{step_shape-Aggregate}
-use Rattle.context_typing.specs.Shapes.{ColumnShape, Shape, no_shape}
-use Rattle.context_typing.specs.Typing.{Customs, aggregate_shape, columns_differ as shapes_differ, expr_kind, is_sum, is_sure, item_column, method_kind, new_column}
+use Rattle.context_typing.specs.Shapes.{ColumnShape, Shape}
+use Rattle.context_typing.specs.Typing.{Customs, columns_differ as shapes_differ, expr_kind, is_sum, is_sure, item_column, method_kind, new_column, no_shape}
 use Rattle.apply_meaning.specs.Instances.{Instance, fits, no_instance, val}
 use Rattle.apply_meaning.specs.Meaning.{item_value}
 use Rattle.apply_meaning.specs.MeaningLaws.{AllFit, IsLoaded}
-use Rattle.apply_meaning.specs.RowViews.{columns_differ}
 use Rattle.apply_meaning.specs.Running.{AreSummable, IsSummable, ItemsDiffer, StepRuns, is_standard}
 use Rattle.apply_meaning.proofs.MeaningEquations.{step_mean-Aggregate}
 use Rattle.apply_meaning.proofs.MeaningProved.{loaded-values}
@@ -60,8 +62,20 @@ aggregation-differs w c S S' items l L R =
     let fit = step-fits w c S S' (Step.Aggregate items) l (row ∷ []) L R (step_mean-Aggregate w c S items l) in
     (c, S, fits-differ w S' row (and_parts _ _ fit).0)
 
--- one of them
-pub summable-at : (w : World) (l : List Instance) (xs : List AggItem) (k : ℕ) (d : AggItem) → AreSummable w l xs → k < length xs → IsSummable w l (get_or xs k d)
+-- one item of those of the program
+pub summable-at : (w : World) (l : List Instance) (xs : List code.AggItem) (k : ℕ) (d : code.AggItem) → AreSummable w l (map agg_of xs) → k < length xs → IsSummable w l (agg_of (get_or xs k d))
 summable-at w l [] k d h s = absurd (omega arith)
 summable-at w l (x ∷ xs) zero d h s = h.0
 summable-at w l (x ∷ xs) (suc k) d h s = summable-at w l xs k d h.1 (omega arith)
+
+pub standard-at : (xs : List code.AggItem) (k : ℕ) (d : code.AggItem) → list_all is_standard (map agg_of xs) ≡ true → k < length xs → is_standard (agg_of (get_or xs k d)) ≡ true
+standard-at [] k d h s = absurd (omega arith)
+standard-at (x ∷ xs) zero d h s = (and_parts (is_standard (agg_of x)) _ h).0
+standard-at (x ∷ xs) (suc k) d h s = standard-at xs k d (and_parts (is_standard (agg_of x)) _ h).1 (omega arith)
+
+-- one column more
+pub columns-more : (w : World) (c : Customs) (S : Shape) (l : List Instance) (xs : List code.AggItem) (k : ℕ) (d : code.AggItem) → k < length xs → d ≡ get_or xs k d
+    → map (item_value w c S l) (map agg_of (take (k + 1) xs)) ≡ map (item_value w c S l) (map agg_of (take k xs)) ++ item_value w c S l (agg_of d) ∷ []
+columns-more w c S l xs k d h e =
+    ap (map (item_value w c S l)) (map_more agg_of xs k d h) ∙ map-append (item_value w c S l) (map agg_of (take k xs)) (agg_of (get_or xs k d) ∷ [])
+    ∙ ap (λ x. map (item_value w c S l) (map agg_of (take k xs)) ++ item_value w c S l (agg_of x) ∷ []) (sym e)

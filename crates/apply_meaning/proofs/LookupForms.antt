@@ -1,4 +1,4 @@
--- Look-ups as the program makes them: by the fronts of a path, by the entities on the way, and by names of navigations.
+-- Look-ups as the program makes them: by the fronts of a path, and by names of navigations.
 use Rattle.std.proofs.Common.{◌≡◌, ℕ, zero, suc, ◌+◌, ◌-◌, ◌<◌, ◌≤◌, length, take, drop, refl, sym, ◌∙◌, ap, Bool, true, false, List, [], ◌∷◌, ◌++◌, Option, Some, None, arith, map, inl, inr}
 use Rattle.std.specs.Prelude.{option_map, option_and_then, unwrap_or, slice_get, is_some, find, if◌then◌else◌, IfSome}
 use Rattle.std.specs.List.{enumerate_from}
@@ -12,9 +12,8 @@ use Rattle.edm_model.specs.LookUps.{IsSet, set_type, type_at, found_part, naviga
 use Rattle.edm_data.specs.Worlds.{World, Entity}
 use Rattle.edm_data.specs.References.{entity_type, referred, follow}
 use Rattle.context_typing.specs.Paths.{same_path, at_path, splits, is_none_or}
-use Rattle.apply_meaning.specs.Instances.{Instance, named_value, named_reference, value_behind, prefix_value, root_of}
+use Rattle.apply_meaning.specs.Instances.{Instance, named_reference, value_behind, prefix_value, root_of}
 use Rattle.apply_meaning.specs.RowViews.{is_of, with_root}
-use Rattle.apply_meaning.specs.Fronts.{fronts, front_value, entity_behind}
 use Rattle.apply_meaning.proofs.RowLemmas.{Prefix, front-found}
 
 -- ---- entities of rows
@@ -52,11 +51,20 @@ root-is_of w i h = go (at_path (λ x. x.0) i.prefixes []) refl
 
 -- ---- the longest front
 
+-- a path cut in two, with at most this many names in the front, the longest front first
+abbrev fronts : Path → ℕ → List (Path × Path)
+fronts p zero = ([], p) ∷ []
+fronts p (suc k) = (take (suc k) p, drop (suc k) p) ∷ fronts p k
+
 abbrev behind : World → Option (Prefix × Path) → Option Value
 behind w o = option_and_then (λ (x : Prefix × Path). option_and_then (value_behind w x.1) (x.0).1) o
 
 abbrev found : Instance → Path × Path → Option (Prefix × Path)
 found i c = option_map (λ x. (x, c.1)) (at_path (λ x. x.0) i.prefixes c.0)
+
+-- what a path leads to from the entity at the longest prefix among these fronts
+abbrev pub front_value : World → Instance → Path → ℕ → Option Value
+front_value w i p k = behind w (find_map (found i) (fronts p k))
 
 -- a front of one more name that is a prefix
 pub front-hit : (w : World) (i : Instance) (p : Path) (k : ℕ) (o : Option Entity) → option_map (λ x. x.1) (at_path (λ x. x.0) i.prefixes (take (suc k) p)) ≡ Some o → front_value w i p (suc k) ≡ option_and_then (value_behind w (drop (suc k) p)) o
@@ -113,21 +121,6 @@ splits-fronts (n ∷ p) = ap (λ xs. map (λ (x : Path × Path). (n ∷ x.0, x.1
 -- all fronts
 pub fronts-whole : (w : World) (i : Instance) (p : Path) → front_value w i p (length p) ≡ prefix_value w i p
 fronts-whole w i p = ap (λ cs. behind w (find_map (found i) cs)) (sym (splits-fronts p))
-
--- ---- the entities on the way
-
-longer-path : (w : World) (m : Name) (q : Path) (n : Name) (e : Entity) → value_behind w (m ∷ (q ++ n ∷ [])) e ≡ option_and_then (value_behind w (q ++ n ∷ [])) (named_reference w m e)
-longer-path w m [] n e = refl
-longer-path w m (l ∷ q) n e = refl
-
-behind-option : {X Y Z : Type 0} (f : X → Option Z) (g : X → Option Y) (h : Y → Option Z) → ((x : X) → f x ≡ option_and_then h (g x)) → (o : Option X) → option_and_then f o ≡ option_and_then h (option_and_then g o)
-behind-option f g h e None = refl
-behind-option f g h e (Some x) = e x
-
--- a path leads to what its last name leads to from the entity that the others lead to
-pub value-last : (w : World) (p : Path) (n : Name) (e : Entity) → value_behind w (p ++ n ∷ []) e ≡ option_and_then (named_value w n) (entity_behind w p e)
-value-last w [] n e = refl
-value-last w (m ∷ p) n e = longer-path w m p n e ∙ behind-option (value_behind w (p ++ n ∷ [])) (entity_behind w p) (named_value w n) (value-last w p n) (named_reference w m e)
 
 -- ---- navigation by name
 

@@ -28,7 +28,7 @@ use Rattle.context_typing.proofs.LawfulShapes.{own_is_lawful}
 use Rattle.context_typing.specs.Answers.{IsTyping}
 use Rattle.context_typing.specs.declared.typed.Typed.{Typed}
 use Rattle.edm_model.specs.LookUps.{IsSet, set_type}
-use Rattle.std.proofs.Common.{IsTrue}
+use Rattle.std.proofs.Common.{IsTrue, subst}
 use Rattle.apply_meaning.specs.Running.{Runs, StepRuns, all_steps, all_of, all_free, new_columns, Gives}
 use Rattle.apply_meaning.specs.declared.refusals.RunRefused.{RunRefused}
 use Rattle.apply_meaning.specs.declared.refusals.RunRefused.TheVariants.{Range, Memory}

@@ -1,21 +1,23 @@
 -- The sum of a list of values, as the sum of the mantissas of its numbers.
-use Rattle.std.proofs.Common.{◌≡◌, ℕ, zero, suc, ◌+◌, ◌-◌, ◌^◌, ◌<◌, max, Bool, true, false, not, ◌&&◌, ◌||◌, List, [], ◌∷◌, map, filter, fold, take, length, get_or, slice_get, ℤ, pos, ◌+ℤ◌, ◌*ℤ◌, IsTrue, Some, None, if◌then◌else◌, ◌≤◌, refl, ap, sym, ◌∙◌, arith, eqb-true}
+use Rattle.std.proofs.Common.{◌≡◌, ◌++◌, ℕ, zero, suc, ◌+◌, ◌-◌, ◌^◌, ◌<◌, max, Bool, true, false, not, ◌&&◌, ◌||◌, List, [], ◌∷◌, map, filter, fold, take, length, get_or, slice_get, ℤ, pos, ◌+ℤ◌, ◌*ℤ◌, IsTrue, Some, None, if◌then◌else◌, ◌≤◌, refl, ap, sym, ◌∙◌, arith, eqb-true}
 use Rattle.std.specs.declared.option.Option.{Option}
 use Rattle.std.specs.Option.{option_map, unwrap_or}
 use Rattle.std.specs.List.{list_any, list_all}
 use Rattle.std.proofs.lemmas.Bool.{false≢true, and_from}
 use Rattle.std.proofs.lemmas.Int.{ints}
-use Rattle.std.proofs.lemmas.List.{length-map, take_all}
+use Rattle.std.proofs.lemmas.List.{length-map, map_more, take_all}
 use Rattle.std.proofs.lemmas.List.Folds.{list_any_more}
 use Rattle.std.proofs.lemmas.List.Sums.{fold_more}
 use Rattle.std.proofs.Math.IntN.{zero-*ℤ}
 use Rattle.std.proofs.Math.Nat.{sub_self, zero-max}
 use Rattle.edm_values.specs.declared.EdmType.{EdmType}
 use Rattle.edm_values.specs.declared.Method.TheVariants as method
+use Rattle.edm_values.specs.declared.Seen.{Seen}
 use Rattle.edm_values.specs.declared.Value.{Value}
+use Rattle.std.specs.Prelude.{find, cond}
 use Rattle.edm_values.specs.Lists.{is_nonempty}
 use Rattle.edm_values.specs.Literals.{is_number_kind, is_of_kind}
-use Rattle.edm_values.specs.Values.{Number, number_of, number_part, number_plus, is_beyond, integer, dec, is_integer, is_null, is_number, total, value_in}
+use Rattle.edm_values.specs.Values.{Number, number_of, number_part, number_plus, is_beyond, integer, dec, is_integer, is_null, is_number, seen_value, total, value_in}
 use Rattle.edm_data.specs.Fitting.{FitsModel, is_value_of, are_values_of}
 use Rattle.edm_data.specs.References.{entities_of}
 use Rattle.edm_data.specs.Worlds.{World}
@@ -110,7 +112,7 @@ all-at kind b (v ∷ vs) n h = (fits-at kind b v n (and_first _ _ h), all-at kin
 -- ---- the exact sum
 
 -- the values that are not null
-abbrev kept : List Value → List Value
+abbrev pub kept : List Value → List Value
 kept = filter (λ v. not (is_null v))
 
 -- a number and a value, added
@@ -247,6 +249,48 @@ sum-there kind vs k h b n = let f = all-fit-from kind vs h b in aggregate-found 
 
 pub sum-none : (kind : EdmType) (vs : List Value) → IsTrue (is_number_kind kind) → list_all (is_of_kind kind) vs ≡ true → list_any is_beyond vs ≡ false → list_any is_number vs ≡ false → aggregate method.Sum vs ≡ Value.Null
 sum-none kind vs k h b n = aggregate-found kind true vs false k (all-fit-from kind vs h b) n
+
+-- ---- the first number among values that are seen
+
+-- where a number is found it is one, of the type of all, and one is there
+pub record FirstNumber (kind : EdmType) (vs : List Seen) (x : Seen) : Type 0 where
+  pub number : is_number (seen_value x) ≡ true
+  pub kind_is : is_of_kind kind (seen_value x) ≡ true
+  pub there : list_any is_number (map seen_value vs) ≡ true
+
+pub first-number : (kind : EdmType) (vs : List Seen) (x : Seen) → find (λ v. is_number (seen_value v)) vs ≡ Some x → list_all (is_of_kind kind) (map seen_value vs) ≡ true → FirstNumber kind vs x
+first-number kind [] x h a = cc
+first-number kind (v ∷ vs) x h a = go (is_number (seen_value v)) refl h (λ later. first-number kind vs x later (and_second (is_of_kind kind (seen_value v)) _ a))
+  where
+    go : (b : Bool) → is_number (seen_value v) ≡ b → cond b (Some v) (find (λ v. is_number (seen_value v)) vs) ≡ Some x → (find (λ v. is_number (seen_value v)) vs ≡ Some x → FirstNumber kind vs x) → FirstNumber kind (v ∷ vs) x
+    go true e h r =
+        let same : v ≡ x = cc in
+        record {
+          number = ap (λ v. is_number (seen_value v)) (sym same) ∙ e;
+          kind_is = ap (λ v. is_of_kind kind (seen_value v)) (sym same) ∙ and_first _ _ a;
+          there = ap (λ b. b || list_any is_number (map seen_value vs)) e;
+        }
+    go false e h r =
+        let f = r h in
+        record { number = f.number; kind_is = f.kind_is; there = ap (λ b. b || list_any is_number (map seen_value vs)) e ∙ f.there }
+
+pub no-number : (vs : List Seen) → find (λ v. is_number (seen_value v)) vs ≡ None → list_any is_number (map seen_value vs) ≡ false
+no-number [] h = refl
+no-number (v ∷ vs) h = go (is_number (seen_value v)) refl h (no-number vs)
+  where
+    go : (b : Bool) → is_number (seen_value v) ≡ b → cond b (Some v) (find (λ v. is_number (seen_value v)) vs) ≡ None → (find (λ v. is_number (seen_value v)) vs ≡ None → list_any is_number (map seen_value vs) ≡ false) → list_any is_number (map seen_value (v ∷ vs)) ≡ false
+    go true e h r = cc
+    go false e h r = ap (λ b. b || list_any is_number (map seen_value vs)) e ∙ r h
+
+-- one value more is added
+amounts-append : (a : ℤ) (vs : List Value) (v : Value) → amounts a (vs ++ v ∷ []) ≡ amounts a vs +ℤ amount v
+amounts-append a [] v = refl
+amounts-append a (u ∷ vs) v = amounts-append (a +ℤ amount u) vs v
+
+pub amounts-more : (vs : List Seen) (k : ℕ) (d : Seen) → k < length vs → d ≡ get_or vs k d → amounts (pos 0) (map seen_value (take (k + 1) vs)) ≡ amounts (pos 0) (map seen_value (take k vs)) +ℤ amount (seen_value d)
+amounts-more vs k d h e =
+    ap (amounts (pos 0)) (map_more seen_value vs k d h) ∙ amounts-append (pos 0) (map seen_value (take k vs)) (seen_value (get_or vs k d))
+    ∙ ap (λ v. amounts (pos 0) (map seen_value (take k vs)) +ℤ amount (seen_value v)) (sym e)
 
 -- ---- the values of a property of a world
 

@@ -18,7 +18,6 @@ pub use Rattle.context_typing.specs.Readings
 pub use Rattle.context_typing.specs.Shapes
 pub use Rattle.context_typing.specs.Typing
 pub mod Aggregates
-pub mod Fronts
 pub mod Instances
 pub mod Meaning
 pub mod MeaningLaws

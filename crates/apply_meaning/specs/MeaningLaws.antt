@@ -1,5 +1,5 @@
 -- The laws of the meaning of pipelines, as statements that a contract can name. Each is taken over the worlds that a condition admits.
-use Rattle.std.specs.Prelude.{◌≡◌, ◌<◌, ℕ, false, IsTrue, List, length, Some, is_none, Contains}
+use Rattle.std.specs.Prelude.{◌≡◌, ◌<◌, ℕ, false, IsTrue, List, length, Some}
 use Rattle.std.specs.List.{list_all}
 use Rattle.edm_model.specs.Models.{Navigation}
 use Rattle.edm_model.specs.Soundness.{IsSound}
@@ -11,13 +11,10 @@ use Rattle.edm_values.specs.Values.{is_beyond}
 use Rattle.edm_values.specs.Names.{Name}
 use Rattle.apply_ast.specs.Trees.{Expr, HierName, Pipe}
 use Rattle.edm_model.specs.LookUps.{HierarchyPlace, set_type}
-use Rattle.context_typing.specs.Paths.{is_none_or}
 use Rattle.context_typing.specs.Typing.{hierarchy_at, Customs, Types, expr_kind, join_navigation, is_typed, is_sure, is_quiet, is_lawful, customs_typed}
 use Rattle.context_typing.specs.Shapes.{Shape, set_shape}
 use Rattle.apply_meaning.specs.Instances.{Instance, rows, fits, val}
 use Rattle.apply_meaning.specs.Meaning.{mean, related_rows}
-use Rattle.edm_data.specs.Hierarchies.{cycle_node}
-use Rattle.edm_data.specs.Nodes.{parents_of}
 
 -- a world of a sound model, each of whose lists has the form that the model says: every world that is loaded is one
 pub record IsLoaded (w : World) : Type 0 where
@@ -50,10 +47,6 @@ abbrev pub QuietIsNotRefused : (World → Type 0) → Type 0
 QuietIsNotRefused IsAccepted =
     (w : World) (c : Customs) (S S' : Shape) (p : Pipe) (l : List Instance) → IsAccepted w → IsTrue (customs_typed w.model c) → IsTrue (is_lawful w.model S)
     → Types w.model c S p S' → IsTrue (is_quiet w.model c S p) → AllFit w S l → (r : List Instance) × (mean w c S p l ≡ Some r)
-
--- none of these hierarchies is cyclic
-abbrev pub AreAcyclic : World → List HierName → Type 0
-AreAcyclic w hs = (h : HierName) → Contains hs h → IsTrue (is_none_or (λ f. is_none (cycle_node (parents_of w f))) (hierarchy_at w.model h))
 
 -- the instances of an entity set fit the set's own shape
 abbrev pub RowsFit : (World → Type 0) → Type 0

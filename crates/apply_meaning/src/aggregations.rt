@@ -1,5 +1,5 @@
 //! Aggregations without custom aggregates: one row of all rows.
-ghost use Rattle.std.specs.Prelude.{◌≡◌, ◌+◌, ◌∷◌, [], IfOk, IsTrue, map};
+ghost use Rattle.std.specs.Prelude.{◌≡◌, ◌+◌, ◌≤◌, ◌∷◌, [], IfOk, IsTrue, map};
 ghost use Rattle.std.specs.List.{list_all};
 ghost use Rattle.edm_values.specs.Values.{seen_value};
 ghost use Rattle.apply_ast.specs.Views.{agg_of, expr_of};

@@ -1,23 +1,25 @@
-//! What requests mean over the data: rows, the values of paths and expressions on them, aggregates, and the counter of
-//! steps.
+//! What requests mean over the data: rows, the values of paths and expressions on them, aggregates, the plain
+//! transformations, and the counter of steps.
 //!
 //! A `Row` is an instance: entities at prefixes, and values at columns. `Row::make`, `Row::extend` and `Row::copy` are the
 //! only calls that give one, and each counts one step. `lookup` gives the value of a path on a row, and `eval` that of an
-//! expression; `operators` has the operators and functions. `first_sum` adds a numeric property over an entity set.
+//! expression; `operators` has the operators and functions. `aggregates` has the aggregates of lists of values, and `sums`
+//! adds numbers. Each plain transformation has a function of its own over lists of rows: `filters`, `computes`,
+//! `aggregations`; `sets` makes the rows of an entity set, and `plain` runs whole pipelines of these (`run_plain`).
 //! `Steps` counts the steps of a run; only `tick` changes the count, by one. `docs/meaning.md` states the rules.
 //!
 //! The crate stands on `edm_values` for values, their arithmetic and their ranges, on `edm_model` for sets, properties and
 //! navigations, on `edm_data` for the entities, on `apply_ast` for paths, expressions and pipelines, and on
-//! `context_typing` for shapes.
+//! `context_typing` for shapes and typed pipelines.
 //!
 //! It promises that a row is the instance that it was made of (`specs/Instances`, `specs/RowViews`), that `lookup` and
-//! `eval` are the definitions `lookup` and `val` on it, whatever the types of the expression's parts, and that `first_sum`
-//! is the aggregate of the property (`specs/Aggregates`, `specs/Sums`): nulls are skipped, and the exact sum is tested once
-//! against the range. `lookup`, `eval` and `first_sum` take no memory.
+//! `eval` are the definitions `lookup` and `val` on it, whatever the types of the expression's parts, and that `aggregate`
+//! is the aggregate of its values (`specs/Aggregates`). `specs/Meaning` says what each pipeline makes of a list of
+//! instances: `run_plain` gives that, and is refused exactly where it is (`specs/Running`). `first_sum` is the sum of a
+//! property over a set. `lookup`, `eval`, `skip_rows`, `top_rows` and `first_sum` take no memory.
 //!
-//! `specs/Meaning` says what each pipeline makes of a list of instances, and `laws` has the laws of these definitions: on
-//! instances that fit a shape, values have their types, sure expressions are never `Beyond`, what a typed pipeline gives
-//! fits its shape, and a quiet one is never refused. No call runs a pipeline yet.
+//! `laws` has the laws of these definitions: on instances that fit a shape, values have their types, sure expressions are
+//! never `Beyond`, what a typed pipeline gives fits its shape, and a quiet one is never refused.
 #![tactic(auto)]
 
 mod aggregates;
@@ -40,8 +42,8 @@ pub use computes::compute_rows;
 pub use evaluation::eval;
 pub use filters::{filter_rows, skip_rows, top_rows};
 pub use laws::{
-    data_is_loaded, meanings_fit, node_rows_fit, quiet_is_not_refused, related_rows_fit, set_rows_fit,
-    sure_values_are_in_range, values_fit,
+    data_is_loaded, meanings_fit, node_rows_fit, quiet_is_not_refused, related_rows_fit,
+    set_rows_fit, sure_values_are_in_range, values_fit,
 };
 pub use lookups::lookup;
 pub use plain::{aggregated, is_plain, is_plain_step, run_plain};

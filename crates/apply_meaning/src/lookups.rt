@@ -1,33 +1,17 @@
 //! The values of paths on rows.
-ghost use Rattle.std.specs.Prelude.{◌≡◌, IsTrue, option_map, option_and_then, unwrap_or, IfSome};
+ghost use Rattle.std.specs.Prelude.{◌≡◌, ℕ, List, [], ◌∷◌, ◌++◌, IsTrue, option_map, option_and_then, unwrap_or, IfSome};
 ghost use Rattle.edm_values.specs.declared.Value.{Value};
 ghost use Rattle.edm_values.specs.Values.{seen_value};
 ghost use Rattle.edm_model.specs.LookUps.{IsSet};
-ghost use Rattle.apply_meaning.specs.Fronts as fronts;
 ghost use Rattle.apply_meaning.specs.Instances as spec;
-ghost use Rattle.context_typing.specs.Paths as paths;
 ghost use Rattle.context_typing.specs.Paths.{at_path};
 ghost use Rattle.apply_meaning.specs.RowViews.{is_of};
 
 use crate::Row;
 use apply_ast::{Name, Path};
+use context_typing::same_path;
 use edm_data::{Data, EntityRef};
 use edm_values::{Seen, Value};
-
-/// Whether the names are the same.
-fn same_path(a: &[Name], b: &[Name]) -> bool
-    ensures { result ≡ paths.same_path a.now b.now }
-{
-    if a.len() != b.len() {
-        return false;
-    }
-    for (k, name) in a.iter().enumerate() {
-        if name.text() != b[k].text() {
-            return false;
-        }
-    }
-    true
-}
 
 /// The value of the column of this path.
 fn column_at<'a>(columns: &'a [(Path, Value)], names: &[Name]) -> Option<&'a Value>
@@ -76,10 +60,11 @@ fn named_reference(store: &Data, e: EntityRef, name: &Name) -> Option<EntityRef>
     store.follow(e, n)
 }
 
-/// The entity that single-valued navigation properties of these names lead to, one after the other.
+/// The entity that single-valued navigation properties of these names lead to, one after the other: a path of these names
+/// and one more leads to what its last name leads to from there.
 fn entity_behind(store: &Data, e: EntityRef, names: &[Name]) -> Option<EntityRef>
     requires { IsSet store.now.model e.set }
-    ensures value { result ≡ fronts.entity_behind store.now names.now e }
+    ensures value { (n : List ℕ) → spec.value_behind store.now (names.now ++ n ∷ []) e ≡ option_and_then (spec.named_value store.now n) result }
     ensures there { IfSome result (λ x. IsSet store.now.model x.set) }
 {
     let mut at = e;

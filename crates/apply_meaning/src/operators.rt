@@ -3,7 +3,6 @@ ghost use Rattle.std.specs.Prelude.{◌≡◌, pos, length, chars};
 ghost use Rattle.edm_values.specs.declared.Value.{Value};
 ghost use Rattle.edm_values.specs.Values as spec;
 ghost use Rattle.edm_values.specs.Values.{seen_value};
-ghost use Rattle.edm_values.specs.Lists as lists;
 ghost use Rattle.apply_meaning.specs.Instances.{binary, call1, call2};
 
 use apply_ast::{BinOp, Fun1, Fun2};
@@ -17,7 +16,7 @@ fn is_beyond(v: Seen<'_>) -> bool
 }
 
 /// Whether the value is null.
-fn is_null(v: Seen<'_>) -> bool
+pub(crate) fn is_null(v: Seen<'_>) -> bool
     ensures { result ≡ spec.is_null (seen_value v.entry) }
 {
     matches!(v, Seen::Null)
@@ -206,24 +205,11 @@ pub(crate) fn call2<'a>(f: Fun2, a: Seen<'a>, b: Seen<'a>) -> Seen<'a>
 fn holds(f: Fun2, text: &str, other: &str) -> bool
     ensures { Value.Bool result ≡ call2 f (Value.Text text.now) (Value.Text other.now) }
 {
-    let (text, other) = (text.as_bytes(), other.as_bytes());
     match f {
         Fun2::StartsWith => text.starts_with(other),
         Fun2::EndsWith => text.ends_with(other),
-        Fun2::Contains => has_part(text, other),
+        Fun2::Contains => text.contains(other),
     }
-}
-
-/// Whether the part is somewhere in the text.
-fn has_part(text: &[u8], part: &[u8]) -> bool
-    ensures { result ≡ lists.has_part text.now part.now }
-{
-    for k in 0..text.len() + 1 {
-        if text[k..].starts_with(part) {
-            return true;
-        }
-    }
-    false
 }
 
 /// How many Unicode scalar values the text has.

@@ -27,12 +27,19 @@ use edm_data::Data;
 use std::alloc::{AllocError, Global};
 use std::sync::ledger::Ledger;
 
+/// Whether all transformations are plain.
+fn are_plain(steps: &[Step]) -> bool
+    ensures { result ≡ list_all (λ step. spec.is_plain_step (step_of step)) steps.now }
+{
+    steps.iter().all(|step| is_plain_step(step))
+}
+
 /// Whether the pipeline is plain: its transformations are `identity`, `filter`, `compute`, `skip`, `top`, and `aggregate`
 /// without custom aggregates.
 pub fn is_plain(pipe: &Pipe) -> bool
     ensures { result ≡ spec.is_plain (pipe_of pipe.now) }
 {
-    pipe.steps().iter().all(|step| is_plain_step(step))
+    are_plain(pipe.steps())
 }
 
 /// Whether the transformation is one of these.
@@ -48,9 +55,11 @@ pub fn is_plain_step(step: &Step) -> bool
 
 /// Whether no item is a custom aggregate.
 fn are_standard(items: &[AggItem]) -> bool
-    ensures { result ≡ list_all spec.is_standard (map agg_of items.now) }
+    ensures { result ≡ list_all (λ item. spec.is_standard (agg_of item)) items.now }
 {
-    items.iter().all(|item| !matches!(item, AggItem::Custom(..)))
+    items
+        .iter()
+        .all(|item| !matches!(item, AggItem::Custom(..)))
 }
 
 /// The items of an aggregation can be evaluated on the rows.

@@ -1,7 +1,7 @@
 //! Rows: instances that the program holds.
 ghost use Rattle.std.specs.Prelude.{◌≡◌, ◌+◌, ◌++◌, IsTrue, IfOk, Ok};
 ghost use Rattle.apply_meaning.specs.Instances.{extended, root_of};
-ghost use Rattle.apply_meaning.specs.RowViews.{IsRow, row_instance, with_root, columns_differ, have_paths};
+ghost use Rattle.apply_meaning.specs.RowViews.{IsRow, row_instance, with_root, prefixes_differ, columns_differ, have_paths};
 
 use crate::Steps;
 use apply_ast::Path;
@@ -99,6 +99,7 @@ impl Row {
     pub fn prefixes(&self) -> &[(Path, Option<EntityRef>)]
         ensures prefixes { self.now.prefixes ≡ with_root (root_of self.now) result.now }
         ensures paths { IsTrue (have_paths result.now) }
+        ensures differ { IsTrue (prefixes_differ result.now) }
     {
         self.prefixes.as_slice()
     }

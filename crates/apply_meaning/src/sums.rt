@@ -1,5 +1,5 @@
 //! Sums of a property over the entities of a set.
-ghost use Rattle.std.specs.Prelude.{◌≡◌, IsTrue, false, find, map, option_map};
+ghost use Rattle.std.specs.Prelude.{◌≡◌, IsTrue, false, find, map};
 ghost use Rattle.std.specs.List.{list_any};
 ghost use Rattle.edm_values.specs.declared.EdmType.{EdmType as Kind};
 ghost use Rattle.edm_values.specs.declared.Method.TheVariants as method;
@@ -57,14 +57,14 @@ pub(crate) fn sum(values: &[Seen<'_>]) -> Value
 
 /// The first of the values that is a number.
 fn first_number<'a>(values: &[Seen<'a>]) -> Option<Seen<'a>>
-    ensures { option_map seen_value result ≡ find spec.is_number (map seen_value values.now) }
+    ensures { result ≡ find (λ v. spec.is_number (seen_value v)) values.now }
 {
-    values.iter().copied().find(|v| is_number(*v))
+    values.iter().copied().find(|value| is_number(*value))
 }
 
 /// The number of the same type as a number, with this mantissa, or `Beyond` where it is past the type's range.
 fn number_like(v: Seen<'_>, mantissa: i128) -> Value
-    requires { IsTrue (spec.is_number (seen_value v.entry)) }
+    requires { IsTrue (spec.is_number (seen_value v)) }
     ensures { (kind : Kind) → IsTrue (is_of_kind kind (seen_value v.entry)) → result ≡ number_in kind mantissa }
 {
     let Ok(mantissa) = i64::try_from(mantissa) else {

@@ -3,7 +3,7 @@ use Rattle.std.proofs.Common.{◌≡◌, ℕ, zero, suc, ◌+◌, ◌<◌, ◌�
 use Rattle.std.specs.Prelude.{All, find, is_none, is_some, slice_get, option_map, unwrap_or, ◌==◌}
 use Rattle.std.specs.List.{AllZip, enumerate_from}
 use Rattle.std.proofs.lemmas.Bool.{and_parts, eqb-true, eq-eqb}
-use Rattle.std.proofs.lemmas.List.{take_more, take-map, take_all}
+use Rattle.std.proofs.lemmas.List.{length-map, take_more, take-map, take_all}
 use Rattle.std.proofs.lemmas.List.Elements.{All-get_or, All-head, All-tail, All-take}
 use Rattle.std.proofs.lemmas.Option.{slice_get-get_or, slice_get_past}
 use Rattle.edm_values.specs.declared.EdmType.{EdmType}
@@ -23,12 +23,13 @@ use Rattle.apply_ast.specs.Views.{expr_of}
 use Rattle.apply_grammar.specs.Limits.{ExprTextIn, PathText}
 use Rattle.context_typing.specs.Answers.{IfUntyped, IsEntry, custom_of, reading_for}
 use Rattle.context_typing.specs.Readings.{AreTypedOver, IsTypedCustom, read_kind, reading_of, readings, same_part}
-use Rattle.context_typing.specs.Typing.{Customs, Reading, custom_kind, custom_risky}
+use Rattle.context_typing.specs.Typing.{Customs, Reading, custom_kind, custom_risky, customs_typed}
 use Rattle.context_typing.specs.declared.customs.ReadCustom.{ReadCustom}
 use Rattle.context_typing.specs.declared.definitions.CustomRefused.{CustomRefused}
 use Rattle.context_typing.specs.declared.definitions.CustomRefused.TheVariants as custom
 use Rattle.context_typing.specs.declared.customs.TypedCustom.{TypedCustom}
 use Rattle.context_typing.proofs.CustomEntries.{entries, read-kind-is}
+use Rattle.context_typing.proofs.WholeCustoms.{customs_are_typed}
 use Rattle.apply_serve.specs.CustomReadings.{IsTypedReading, AreCustoms, IsFirstUntyped}
 use Rattle.apply_serve.specs.LoadStops.{CustomStopSays}
 use Rattle.apply_serve.specs.ReadCustoms.{ArePathsOf, IsRead, HasNoReading, AreRead, IfRefused, IsFirstId, NamesFirst, owned}
@@ -298,6 +299,17 @@ module _ (m : Model) where
         let P : List Custom → Type 0 = λ us. AllZip (IsTypedReading m) (map owned us) (readings c) in
         let Q : List (ℕ × seen.Custom) → Type 0 = λ l. AllZip (IsTypedReading m) l (readings c) in
         subst Q (customs-owned m) (subst P (take_all (length list) (custom_list m) past) (zip-typed c reads typed))
+
+    -- each custom aggregate has its type
+    pub whole-typed : (c : List TypedCustom) → map (λ x. x.read) c ≡ list → AreTypedOver m c → length (custom_list m) ≤ length list → customs_typed m (readings c) ≡ true
+    whole-typed c reads typed past =
+        let ids = map (λ (u : Custom). u.id) (custom_list m) in
+        let short : length ids ≤ length list = omega (arith, past, length-map (custom_list m) (λ (u : Custom). u.id)) in
+        customs_are_typed m c typed (sym (read-ids c) ∙ ap (map (λ (r : ReadCustom). r.id)) reads ∙ first-ids ∙ take_all (length list) ids short)
+      where
+        read-ids : (c : List TypedCustom) → map (λ (r : ReadCustom). r.id) (map (λ (x : TypedCustom). x.read) c) ≡ map (λ x. x.read.id) c
+        read-ids [] = refl
+        read-ids (x ∷ c) = ap (λ l. x.read.id ∷ l) (read-ids c)
 
     pub first-unread : (c : List TypedCustom) (u : Custom) → map (λ x. x.read) c ≡ list → AreTypedOver m c → slice_get (custom_list m) (length list) ≡ Some u → IsFirstUntyped m (owned u)
     first-unread c u reads typed stands = first-from (length list) (readings c) u (zip-typed c reads typed) stands (unread u (are.ended u stands))

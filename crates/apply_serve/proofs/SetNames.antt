@@ -1,9 +1,10 @@
 -- The names of a model's sets, and the lines that show them.
-use Rattle.std.proofs.Common.{◌≡◌, ℕ, zero, suc, ◌+◌, ◌<◌, ◌≤◌, List, [], ◌∷◌, ◌++◌, length, take, get_or, map, refl, sym, ap, ap₂, ◌∙◌, codes, arith}
+use Rattle.std.proofs.Common.{◌≡◌, ℕ, ◌+◌, ◌<◌, ◌≤◌, List, [], ◌∷◌, ◌++◌, length, take, get_or, map, refl, sym, ap, ap₂, ◌∙◌, codes, arith}
 use Rattle.std.proofs.lemmas.List.{take_all, take_more, map-append}
-use Rattle.std.proofs.lemmas.Option.{slice_get-get_or}
+use Rattle.std.proofs.lemmas.Option.{slice_get-get_or, slice_get-map}
 use Rattle.edm_values.specs.Lists.{places}
-use Rattle.edm_data.proofs.PlaceLemmas.{length-places, get_or-places}
+use Rattle.edm_values.proofs.TopPlaces.{length-places}
+use Rattle.edm_data.proofs.PlaceLemmas.{get_or-places}
 use Rattle.std.specs.Prelude.{slice_get, option_map, unwrap_or}
 use Rattle.std.specs.declared.option.Option.{Option}
 use Rattle.edm_model.specs.Models.{Model, EntitySet}
@@ -17,11 +18,6 @@ use Rattle.apply_serve.specs.Responses.{data_line, fault_line, json_string}
 use Rattle.edm_data.specs.Refusals.{Tells}
 use Rattle.edm_data.specs.declared.DataRefused.{DataRefused}
 use Rattle.edm_data.specs.declared.DataRefused.TheVariants as refused
-
-slice_get-map : {X Y : Type 0} (f : X → Y) (xs : List X) (k : ℕ) → slice_get (map f xs) k ≡ option_map f (slice_get xs k)
-slice_get-map f [] k = refl
-slice_get-map f (x ∷ xs) zero = refl
-slice_get-map f (x ∷ xs) (suc k) = slice_get-map f xs k
 
 -- the name of a set of the model
 named : (m : Model) (names : List (List ℕ)) (s : ℕ) (name : List ℕ) → map (λ (e : EntitySet). e.name) m.sets ≡ names → name ≡ unwrap_or (slice_get names s) [] → name ≡ set_name m s

@@ -1,9 +1,10 @@
 //! The custom aggregates of a model: their definitions are read and typed.
-ghost use Rattle.std.specs.Prelude.{◌≡◌, IfOk, IfErr, IfSome, find};
+ghost use Rattle.std.specs.Prelude.{◌≡◌, IfOk, IfErr, IfSome, IsTrue, find};
 ghost use Rattle.std.specs.Option.{option_copied};
 ghost use Rattle.edm_model.specs.IdLists.{custom_list};
 ghost use Rattle.edm_model.specs.LookUps.{IsType, type_name};
 ghost use Rattle.context_typing.specs.Readings.{readings, AreTypedOver, same_part};
+ghost use Rattle.context_typing.specs.Typing.{customs_typed};
 ghost use Rattle.apply_serve.specs.CustomReadings.{AreCustoms};
 ghost use Rattle.apply_serve.specs.LoadStops.{CustomStopSays};
 ghost use Rattle.apply_serve.specs.ReadCustoms.{AnswersPaths, AnswersReading, AreRead, IfRefused, NamesFirst};
@@ -117,6 +118,7 @@ fn untyped(alloc: Global, m: &Model, refused: &CustomRefused) -> CustomStop
 pub fn judge_customs(alloc: Global, m: &Model) -> Result<Customs, CustomStop>
     ensures all { IfOk result (λ c. AreCustoms m.now (readings c)) }
     ensures typed { IfOk result (AreTypedOver m.now) }
+    ensures whole { IfOk result (λ c. IsTrue (customs_typed m.now (readings c))) }
     ensures stop { IfErr result (CustomStopSays m.now) }
 {
     let _sets = m.sets();

@@ -1,6 +1,7 @@
 //! What requests are answered over.
-ghost use Rattle.std.specs.Prelude.{◌≡◌};
-ghost use Rattle.context_typing.specs.Readings.{AreTypedOver};
+ghost use Rattle.std.specs.Prelude.{◌≡◌, IsTrue};
+ghost use Rattle.context_typing.specs.Readings.{AreTypedOver, readings};
+ghost use Rattle.context_typing.specs.Typing.{customs_typed};
 
 use context_typing::Customs;
 use edm_data::Data;
@@ -15,8 +16,10 @@ pub struct Store {
 
 impl Model for Store {
     ghost use Rattle.std.specs.Coded.{codes};
+    ghost use Rattle.std.specs.Prelude.{IsTrue};
     ghost use Rattle.apply_ast.specs.contracts.expressions.Expr as of_expr;
-    ghost use Rattle.context_typing.specs.Readings.{AreTypedOver};
+    ghost use Rattle.context_typing.specs.Readings.{AreTypedOver, readings};
+    ghost use Rattle.context_typing.specs.Typing.{customs_typed};
     ghost use Rattle.apply_serve.specs.Stores as seen;
 
     ghost Value = { seen.Store };
@@ -25,13 +28,14 @@ impl Model for Store {
 
     ghost view = { λ s. record { world = s.loaded; customs = s.customs } };
 
-    ghost invariant = { λ s. AreTypedOver s.loaded.model s.customs };
+    ghost invariant = { λ s. AreTypedOver s.loaded.model s.customs × IsTrue (customs_typed s.loaded.model (readings s.customs)) };
 }
 
 impl Store {
     /// The data with the custom aggregates of its model.
     pub fn new(loaded: Data, customs: Customs) -> Store
-        requires { AreTypedOver loaded.model customs }
+        requires typed { AreTypedOver loaded.model customs }
+        requires whole { IsTrue (customs_typed loaded.model (readings customs)) }
         ensures { result ≡ record { world = loaded; customs = customs } }
     {
         Store { loaded, customs }
@@ -55,6 +59,7 @@ impl Store {
     pub fn customs(&self) -> &Customs
         ensures value { result.now ≡ self.now.customs }
         ensures typed { AreTypedOver self.now.world.model result.now }
+        ensures whole { IsTrue (customs_typed self.now.world.model (readings result.now)) }
     {
         &self.customs
     }

@@ -410,6 +410,71 @@ fn a_refused_file_has_its_line(rt: HostRuntime) -> Result<(), Fail> {
 }
 
 #[test]
+fn each_refused_file_beside_the_samples_other_one_has_its_line(
+    rt: HostRuntime,
+) -> Result<(), Fail> {
+    let alloc = rt.alloc();
+    let scaleless = SAMPLE_MODEL.replace(alloc, ",\"$Scale\":2", "")?;
+    let untyped = SAMPLE_MODEL.replace(alloc, "\"Of\":\"Amount\"", "\"Of\":\"Nope\"")?;
+    let half = SAMPLE_DATA.get(..SAMPLE_DATA.len() / 2).unwrap_or("");
+    assert!(rt; !half.is_empty());
+    for (model, data, status, output) in [
+        ("{", SAMPLE_DATA, Status::ModelRefused, "model Json\n"),
+        ("{}", SAMPLE_DATA, Status::ModelRefused, "model Model\n"),
+        (
+            scaleless.as_str(),
+            SAMPLE_DATA,
+            Status::ModelRefused,
+            "model Model\n",
+        ),
+        (
+            untyped.as_str(),
+            SAMPLE_DATA,
+            Status::ModelRefused,
+            "model Custom \"Sale\" \"Best\"\n",
+        ),
+        (SAMPLE_MODEL, half, Status::DataRefused, "data Json\n"),
+        (
+            SAMPLE_MODEL,
+            "{\"Orgs\":[{\"ID\":\"A\"},{\"ID\":\"A\"}]}",
+            Status::DataRefused,
+            "data TwiceKey \"Orgs\" 1\n",
+        ),
+        (
+            SAMPLE_MODEL,
+            "{\"Orgs\":[{\"ID\":\"A\",\"ParentID\":\"Z\"}]}",
+            Status::DataRefused,
+            "data Dangling \"Orgs\" 0\n",
+        ),
+        (
+            SAMPLE_MODEL,
+            "{\"Orgs\":[{\"ID\":7}]}",
+            Status::DataRefused,
+            "data Shape \"Orgs\" 0\n",
+        ),
+        (
+            SAMPLE_MODEL,
+            "{\"Shops\":[]}",
+            Status::DataRefused,
+            "data Set \"Shops\"\n",
+        ),
+    ] {
+        let ran = outcome(
+            &rt,
+            alloc,
+            &Case {
+                model,
+                data,
+                ..PLAIN
+            },
+        )?;
+        assert_eq!(rt; ran.status, status, "{output}");
+        assert_eq!(rt; ran.output.as_slice(), output.as_bytes(), "{output}");
+    }
+    Ok(())
+}
+
+#[test]
 fn the_first_custom_aggregate_without_a_typing_is_told_before_the_data_is_read(
     rt: HostRuntime,
 ) -> Result<(), Fail> {

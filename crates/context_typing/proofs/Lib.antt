@@ -22,3 +22,4 @@ pub mod TypingEquations
 pub mod TypingLaw
 mod TypingRows
 pub mod WalkFacts
+pub mod WholeCustoms

@@ -3,6 +3,7 @@ use Rattle.std.proofs.Common.{◌≡◌, refl, sym, ◌∙◌, ap, ℕ, ◌+◌,
 use Rattle.std.specs.Prelude.{flat_map, fold, option_and_then, option_map, is_some, nat_le, ◌==◌, if◌then◌else◌}
 use Rattle.std.specs.Bool.{then_some}
 use Rattle.std.specs.List.{list_any, list_all}
+use Rattle.std.proofs.Math.Bool.{and-true, or-false}
 use Rattle.std.proofs.lemmas.Bool.{or_right, eq-eqb, eqb-true}
 use Rattle.std.proofs.lemmas.List.{take_more}
 use Rattle.std.proofs.lemmas.List.Folds.{list_all-append, list_any-append, list_all_at, fold_stuck, fold_stays}
@@ -110,14 +111,6 @@ branches-stuck Ss i d h e = fold_stuck add_columns None (λ S. fold_stays add_co
 pub prefix-branches-stuck : (Ss : List Shape) (i : ℕ) (d : Shape) → i < length Ss → add_prefixes (fold add_prefixes (Some []) (take i Ss)) (get_or Ss i d) ≡ None → None ≡ fold add_prefixes (Some []) Ss
 prefix-branches-stuck Ss i d h e = fold_stuck add_prefixes None (λ S. fold_stays add_prefix None (λ x. refl) S.prefixes) (Some []) Ss i d h e
 
-and_true : (b : Bool) → (b && true) ≡ b
-and_true true = refl
-and_true false = refl
-
-or_false : (b : Bool) → (b || false) ≡ b
-or_false true = refl
-or_false false = refl
-
 -- a branch more
 in_branches-more : (m : Model) (Ss : List Shape) (S : Shape) (c : ColumnShape) → in_branches m (Ss ++ S ∷ []) c ≡ option_and_then (λ a. option_map (both a) (in_branch m S c)) (in_branches m Ss c)
 in_branches-more m Ss S c =
@@ -136,7 +129,7 @@ in_branches-more m Ss S c =
         ≡ option_and_then (λ j. option_map (both j) (then_some g (record { declared = d'; absent = b'; risky = r' }))) (then_some a (record { declared = d; absent = b; risky = r }))
     go false g d d' b b' r r' = refl
     go true false d d' b b' r r' = refl
-    go true true d d' b b' r r' = λ i. Some (record { declared = d && and_true d' i; absent = b || or_false b' i; risky = r || or_false r' i })
+    go true true d d' b b' r r' = λ i. Some (record { declared = d && and-true d' i; absent = b || or-false b' i; risky = r || or-false r' i })
 
 pub branches-next : (m : Model) (Ss : List Shape) (c : ColumnShape) (i : ℕ) (d : Shape) (a b : Joined) → i < length Ss → d ≡ get_or Ss i d → in_branches m (take i Ss) c ≡ Some a → Some b ≡ in_branch m d c → in_branches m (take (i + 1) Ss) c ≡ Some (both a b)
 branches-next m Ss c i d a b h is e k =
@@ -170,7 +163,7 @@ some_lack-more Ss S x =
     go : (a g b b' : Bool) → then_some (a && (g && true)) (b || (b' || false)) ≡ option_and_then (λ a. option_map (λ b. a || b) (then_some g b')) (then_some a b)
     go false g b b' = refl
     go true false b b' = refl
-    go true true b b' = ap (λ c. Some (b || c)) (or_false b')
+    go true true b b' = ap (λ c. Some (b || c)) (or-false b')
 
 pub lack-next : (Ss : List Shape) (x : PrefixShape) (i : ℕ) (d : Shape) (a b : Bool) → i < length Ss → d ≡ get_or Ss i d → some_lack_prefix (take i Ss) x ≡ Some a → Some b ≡ lacks_prefix d x → some_lack_prefix (take (i + 1) Ss) x ≡ Some (a || b)
 lack-next Ss x i d a b h is e k =

@@ -10,6 +10,7 @@ use denote.Ref.{Bor}
 use Rattle.std.specs.Ordering.{nat_cmp, is_eq, is_lt, is_gt, ordering_reverse, ordering_then}
 use Rattle.std.specs.declared.cmp.Ordering.{Ordering}
 use Rattle.std.specs.declared.cmp.Ordering.TheVariants.{Less, Equal, Greater}
+use Rattle.std.proofs.Math.Bool.{and-true, and-false}
 use Rattle.std.proofs.lemmas.Bool.{and_parts, and_from, both_ways, cases_lt, false_from_ne_true, or_left, or_right, eq-eqb, eqb-true, ne_eqb}
 use Rattle.std.proofs.lemmas.Cmp.{nat_list_cmp_total, lists_total, tied_itself, tied_back}
 use Rattle.std.proofs.lemmas.List.{get_or-map, length-map, length_push, map-append, take-map, drop-map, take-append-drop, drop_all, drop_more, get_or_append_left, get_or_push, get_or_read}
@@ -72,14 +73,10 @@ prefix-front [] b h = refl
 prefix-front (n ∷ a) [] h = absurd (omega arith)
 prefix-front (n ∷ a) (m ∷ b) h = ap (λ x. same_text n m && x) (prefix-front a b (omega arith))
 
-and_false : (b : Bool) → (b && false) ≡ false
-and_false true = refl
-and_false false = refl
-
 pub prefix-long : (a b : Path) → length b < length a → is_prefix a b ≡ false
 prefix-long [] b h = absurd (omega arith)
 prefix-long (n ∷ a) [] h = refl
-prefix-long (n ∷ a) (m ∷ b) h = ap (λ x. same_text n m && x) (prefix-long a b (omega arith)) ∙ and_false (same_text n m)
+prefix-long (n ∷ a) (m ∷ b) h = ap (λ x. same_text n m && x) (prefix-long a b (omega arith)) ∙ and-false (same_text n m)
 
 pub prefix-take : (k : ℕ) (p : Path) → is_prefix (take k p) p ≡ true
 prefix-take zero p = refl
@@ -417,7 +414,7 @@ module _ (cs : List ColumnShape) (ks : List ℕ) (order : IsOrder cs ks) (c : Co
     rising = subst (λ es. IsStrictlySortedBy path_cmp (column_paths es)) (sym kept) order.rising;
     same = λ p. ap (λ es. found es p) kept ∙ twice p x there;
     few = omega (arith, order.few, length_push cs c);
-    each = distinct-more ∙ ap (λ o. (length ks == length cs) && not (is_some o)) (sym (order.same c.path) ∙ there) ∙ and_false (length ks == length cs)
+    each = distinct-more ∙ ap (λ o. (length ks == length cs) && not (is_some o)) (sym (order.same c.path) ∙ there) ∙ and-false (length ks == length cs)
         ∙ sym (ne_eqb (length ks) (length (cs ++ c ∷ [])) (λ e. absurd (omega (arith, order.few, length_push cs c, e))));
   }
 
@@ -472,14 +469,10 @@ module _ (cs : List ColumnShape) (ks : List ℕ) (order : IsOrder cs ks) (c : Co
       rising = subst (λ es. IsStrictlySortedBy path_cmp (column_paths es)) (sym inserted) (subst (IsStrictlySortedBy path_cmp) (sym paths-inserted) (sorted-more es order.rising c.path n bound miss));
       same = λ p. ap (λ es. found es p) inserted ∙ found-inserted p;
       few = omega (arith, order.few, length_push cs c, length-insert ks n (length cs) in-range);
-      each = distinct-more ∙ ap (λ o. (length ks == length cs) && not (is_some o)) (sym (order.same c.path) ∙ is-none) ∙ and_true (length ks == length cs) ∙ one_more (length ks) (length cs)
+      each = distinct-more ∙ ap (λ o. (length ks == length cs) && not (is_some o)) (sym (order.same c.path) ∙ is-none) ∙ and-true (length ks == length cs) ∙ one_more (length ks) (length cs)
           ∙ (λ i. sym (length-insert ks n (length cs) in-range) i == sym (length_push cs c) i);
     }
       where
-        and_true : (b : Bool) → (b && true) ≡ b
-        and_true true = refl
-        and_true false = refl
-
         one_more : (a b : ℕ) → (a == b) ≡ (a + 1 == b + 1)
         one_more a b = same_bool _ _ (λ e. eq-eqb (a + 1) (b + 1) (ap (λ k. k + 1) (eqb-true a b e))) (λ e. let s = eqb-true (a + 1) (b + 1) e in eq-eqb a b (omega arith))
 

@@ -228,6 +228,9 @@ impl ColumnList {
     pub(crate) fn any_is_prefix_of(&self, path: &[Name]) -> bool
         ensures { result ≡ list_any (λ c. paths.is_prefix c.path path.now) self.now }
     {
+        if path.len() > self.all.len() {
+            return scanned_is_prefix_of(&self.all, path);
+        }
         for k in 0..=path.len() {
             if self.find(&path[..k]).is_some() {
                 return true;
@@ -266,6 +269,15 @@ fn scanned_begins_with(columns: &[ColumnShape], path: &[Name]) -> bool
         .any(|column| is_prefix(path, column.path.names()))
 }
 
+/// Whether the path of a column is a prefix of this one, by a scan.
+fn scanned_is_prefix_of(columns: &[ColumnShape], path: &[Name]) -> bool
+    ensures { result ≡ list_any (λ c. paths.is_prefix c.path path.now) columns.now }
+{
+    columns
+        .iter()
+        .any(|column| is_prefix(column.path.names(), path))
+}
+
 /// Whether one of the columns has the path of this one.
 fn has_path(columns: &[ColumnShape], column: &ColumnShape) -> bool
     ensures { result ≡ list_any (paths.same_path column.now.path) (map (λ c. c.path) columns.now) }
@@ -286,8 +298,10 @@ fn one_has_path(columns: &[ColumnShape], column: &ColumnShape) -> bool
 fn columns_differ(columns: &[ColumnShape]) -> bool
     ensures { result ≡ spec.columns_differ columns.now }
 {
-    match columns.split_first() {
-        None => true,
-        Some((first, rest)) => !has_path(rest, first) && columns_differ(rest),
+    for (i, column) in columns.iter().enumerate() {
+        if has_path(&columns[i + 1..], column) {
+            return false;
+        }
     }
+    true
 }

@@ -28,6 +28,7 @@ pub use columns::{ColumnList, ColumnShape};
 pub use customs::{Customs, ReadCustom};
 pub use definitions::{CustomRefused, type_customs};
 pub use expressions::is_sure;
-pub use laws::{one_shape, set_shape_is_lawful, typing_keeps_lawful};
+pub use laws::{customs_are_typed, one_shape, set_shape_is_lawful, typing_keeps_lawful};
+pub use paths::same_path;
 pub use shapes::{PrefixList, PrefixShape, RootShape, Shape};
 pub use typed::{TypeRefused, Typed, is_quiet, type_pipe};

@@ -65,19 +65,17 @@ pub(crate) fn property_kind(m: &Model, of: TypeId, path: &[Name]) -> Option<EdmT
     requires { IsType m.now of }
     ensures { result ≡ option_map (λ p. p.kind) (property_on m.now of path.now) }
 {
-    match path.split_first() {
-        None => None,
-        Some((name, rest)) => {
-            if rest.is_empty() {
-                own_kind(m, of, name)
-            } else {
-                match target_of(m, of, name) {
-                    Some(target) => property_kind(m, target, rest),
-                    None => None,
-                }
-            }
+    let mut at = of;
+    for (i, name) in path.iter().enumerate() {
+        if i + 1 == path.len() {
+            return own_kind(m, at, name);
+        }
+        match target_of(m, at, name) {
+            Some(target) => at = target,
+            None => return None,
         }
     }
+    None
 }
 
 /// The type of a property of an entity type.

@@ -393,13 +393,12 @@ fn root_absent(shape: &Shape) -> bool
 fn first_root(shapes: &[Shape]) -> Option<RootShape>
     ensures { result ≡ find_map (λ S. S.root) shapes.now }
 {
-    match shapes.split_first() {
-        None => None,
-        Some((shape, rest)) => match shape.root {
-            Some(root) => Some(root),
-            None => first_root(rest),
-        },
+    for shape in shapes {
+        if let Some(root) = shape.root {
+            return Some(root);
+        }
     }
+    None
 }
 
 /// Whether some branch lacks the root or may lack it.

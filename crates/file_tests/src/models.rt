@@ -3,7 +3,9 @@
 ghost use Rattle.edm_model.specs.LookUps.{IsSet, IsNavigation};
 
 use edm_model::{Method, Model, ModelRefused, NavId, SetId, read_model};
+use edm_schema::{is_model, read_schema};
 use edm_values::EdmType;
+use serde_json::Value;
 use std::alloc::Global;
 use std::process::Abort;
 use std::test::Fail;
@@ -168,6 +170,25 @@ fn texts_that_are_no_objects(rt: HostRuntime) -> Result<(), Fail> {
     assert_eq!(rt; reading(alloc, nested.as_bytes()), "no JSON");
     let long = " ".repeat(alloc, 1_048_577)?;
     assert_eq!(rt; reading(alloc, long.as_bytes()), "too long");
+    Ok(())
+}
+
+#[test]
+fn trees_of_files_are_listed_and_judged(rt: HostRuntime) -> Result<(), Fail> {
+    let alloc = rt.alloc();
+    let partnerless = SAMPLE.replace(alloc, "\"$Partner\":\"Customer\"", "\"$Partner\":\"Org\"")?;
+    for (file, namespace, types, sets, accepted) in [
+        (SAMPLE, "W", 3usize, 3usize, true),
+        (partnerless.as_str(), "W", 3, 3, false),
+        ("{}", "", 0, 0, false),
+    ] {
+        let root = Value::from_slice(alloc, file.as_bytes())?;
+        let schema = read_schema(alloc, &root)?;
+        assert_eq!(rt; schema.namespace, namespace);
+        assert_eq!(rt; schema.types.len(), types);
+        assert_eq!(rt; schema.sets.len(), sets);
+        assert_eq!(rt; is_model(alloc, &schema)?, accepted);
+    }
     Ok(())
 }
 

@@ -362,10 +362,7 @@ fn keeps_values_as_keys(rt: HostRuntime) -> Result<(), Fail> {
     places.insert(decimal(100, 2).own(alloc)?, 3)?;
     places.insert(Seen::Text("x").own(alloc)?, 4)?;
     assert_eq!(rt; places.len(), 3);
-    assert_eq!(rt;
-        places.get(&Value::Text(Text::new(String::from_str(alloc, "x")?)?)),
-        Some(&4)
-    );
+    assert_eq!(rt; places.get(&Value::Text(Text::of(alloc, "x")?)), Some(&4));
     let mut sorted = BTreeMap::new(alloc);
     sorted.insert(decimal(100, 2).own(alloc)?, 1u8)?;
     sorted.insert(Value::Null, 2)?;
@@ -375,5 +372,18 @@ fn keeps_values_as_keys(rt: HostRuntime) -> Result<(), Fail> {
         found.push(*place)?;
     }
     assert_eq!(rt; found.as_slice(), [2, 3, 1].as_slice());
+    Ok(())
+}
+
+#[test]
+fn copies_texts(rt: HostRuntime) -> Result<(), Fail> {
+    let alloc = rt.alloc();
+    for given in ["", "x", "a\nb", "\u{e9}\u{65e5}"] {
+        let text = Text::of(alloc, given)?;
+        assert_eq!(rt; text.as_str(), given);
+        let copy = text.copy(alloc)?;
+        assert_eq!(rt; copy.as_str(), given);
+        assert_eq!(rt; text.as_str(), given);
+    }
     Ok(())
 }

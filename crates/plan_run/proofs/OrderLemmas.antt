@@ -1,13 +1,13 @@
 -- Rows sorted by the values of items, each evaluated once, are in the order of the items.
 use Rattle.std.proofs.Common.{Bor, ◌≡◌, ℕ, zero, suc, ◌+◌, ◌<◌, Bool, true, false, List, [], ◌∷◌, length, map, drop, get_or, refl, sym, ◌∙◌, ap, subst, drop-cons, add-one}
-use Rattle.std.specs.Prelude.{not, Some, Err, ◌||◌, if◌then◌else◌, slice_get, unwrap_or}
+use Rattle.std.specs.Prelude.{not, Some, Err, ◌||◌, slice_get, unwrap_or}
 use Rattle.std.specs.Bool.{then_some}
 use Rattle.std.specs.List.{list_any}
 use Rattle.std.specs.Fn.{Called}
 use Rattle.std.specs.List.Sorted.{IsSortedBy, IsSortedByClosure, IsStableBy, IsStableByClosure}
 use denote.Param.Members.{Mut}
 use Rattle.std.specs.Cmp.{IsStrictWeakOrder, IsTotalOrder}
-use Rattle.std.specs.Ordering.{is_lt, is_eq, is_ne, ordering_then, ordering_reverse}
+use Rattle.std.specs.Ordering.{is_lt, is_eq, is_ne, ordering_then}
 use Rattle.std.specs.declared.cmp.Ordering.{Ordering}
 use Rattle.std.specs.declared.cmp.Ordering.TheVariants.{Less, Equal, Greater}
 use Rattle.std.proofs.lemmas.Bool.{true≢false}
@@ -18,15 +18,16 @@ use Rattle.std.proofs.lemmas.List.Sorted.{ranks_by}
 use Rattle.edm_data.specs.Worlds.{World}
 use Rattle.edm_values.specs.declared.Value.{Value}
 use Rattle.edm_values.specs.Lists.{sorted}
-use Rattle.edm_values.specs.Values.{is_beyond, value_cmp, same_value}
+use Rattle.edm_values.specs.Values.{is_beyond}
 use Rattle.edm_values.specs.OrderLaws.{value_cmp_total}
 use Rattle.edm_values.proofs.SortLaws.{stable_sort_is_sorted}
 use Rattle.edm_values.proofs.SortedLists.{sorted-map}
 use Rattle.apply_ast.specs.Trees.{OrderItem}
 use Rattle.apply_ast.specs.Views.{item_of}
 use Rattle.apply_ast.specs.declared.items.OrderItem as code
+use Rattle.apply_meaning.proofs.InstanceOrders.{item_before_is}
 use Rattle.apply_meaning.specs.Instances.{Instance, val}
-use Rattle.apply_meaning.specs.Meaning.{order_before, item_before, order_values, refused_at_beyond, values}
+use Rattle.apply_meaning.specs.Meaning.{order_before, order_values, refused_at_beyond, values}
 use Rattle.apply_meaning.specs.declared.refusals.RunRefused.{RunRefused}
 use Rattle.apply_meaning.specs.declared.refusals.RunRefused.TheVariants.{Range, Memory}
 use Rattle.apply_meaning.specs.Running.{Gives}
@@ -46,20 +47,6 @@ pub ranked-order : (xs : List OrderItem) → IsStrictWeakOrder (ranked_before xs
 ranked-order xs = ranks_by (values_cmp_total xs) (λ a. a.0)
 
 -- ---- the order by the values of instances is that of instances
-
-item_before_is : (desc : Bool) (a b : Value) (t : Bool) (o : Ordering) → t ≡ is_lt o → (if same_value a b then t else item_before desc a b) ≡ is_lt (ordering_then (item_cmp desc a b) o)
-item_before_is true a b t o h = go (value_cmp a b) (value_cmp b a) (value_cmp_total.antisymm b a)
-  where
-    go : (r s : Ordering) → s ≡ ordering_reverse r → (if is_eq r then t else is_lt s) ≡ is_lt (ordering_then s o)
-    go Less s e = ap is_lt e ∙ sym (ap (λ s. is_lt (ordering_then s o)) e)
-    go Equal s e = h ∙ sym (ap (λ s. is_lt (ordering_then s o)) e)
-    go Greater s e = ap is_lt e ∙ sym (ap (λ s. is_lt (ordering_then s o)) e)
-item_before_is false a b t o h = go (value_cmp a b)
-  where
-    go : (r : Ordering) → (if is_eq r then t else is_lt r) ≡ is_lt (ordering_then r o)
-    go Less = refl
-    go Equal = h
-    go Greater = refl
 
 values-before : (w : World) (xs : List OrderItem) (i j : Instance) → order_before w xs i j ≡ ranked_before xs (ranked w xs i) (ranked w xs j)
 values-before w [] i j = refl

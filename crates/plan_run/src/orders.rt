@@ -9,7 +9,6 @@ ghost use Rattle.plan_run.specs.Orders as spec;
 ghost use Rattle.plan_run.specs.Orders.{GivesValues, GivesRanked, first_value};
 ghost use Rattle.apply_meaning.specs.Running.{Gives, all_of};
 
-
 use apply_ast::{OrderItem, OrderList};
 use apply_meaning::{Row, RunRefused, eval};
 use edm_data::Data;

@@ -1,5 +1,6 @@
 //! Pipelines over lists of rows.
 ghost use Rattle.std.specs.Prelude.{◌≡◌, ◌+◌, ◌≤◌, ◌<◌, IsTrue, length, drop, get_or, map};
+ghost use Rattle.std.specs.List.{list_all};
 ghost use Rattle.apply_ast.specs.Trees.{pipe};
 ghost use Rattle.apply_ast.specs.Views.{step_of, pipe_of};
 ghost use Rattle.context_typing.specs.Shapes.{Shape};
@@ -19,12 +20,19 @@ use edm_data::Data;
 use std::alloc::Global;
 use std::sync::ledger::Ledger;
 
+/// Whether all transformations are built.
+fn are_built(steps: &[Step]) -> bool
+    ensures { result ≡ list_all (λ step. spec.is_built_step (step_of step)) steps.now }
+{
+    steps.iter().all(|step| is_built_step(step))
+}
+
 /// Whether the pipeline is one that `run` runs: its transformations are `identity`, `filter`, `compute`, `orderby`, `skip`,
 /// `top`, and `aggregate` without custom aggregates.
 pub fn is_built(pipe: &Pipe) -> bool
     ensures { result ≡ spec.is_built (pipe_of pipe.now) }
 {
-    pipe.steps().iter().all(|step| is_built_step(step))
+    are_built(pipe.steps())
 }
 
 /// Whether the transformation is one of these.

@@ -8,11 +8,9 @@ use crate::rows::{shown, world};
 use crate::typing_customs::read_customs;
 use crate::typing_models::SALES_DATA;
 use crate::typing_table::push_path;
-
 use apply_grammar::read_request;
 use apply_meaning::{Row, RunRefused, Steps, is_plain, run_plain};
 use context_typing::{Customs, customs_are_typed, type_customs, type_pipe};
-
 use edm_model::Model;
 use optimiser::Plan;
 use plan_run::{is_built, run};
@@ -107,7 +105,10 @@ const ROWS: &[(&str, &str)] = &[
         "",
     ),
     // Aggregates skip nulls, and have one row over no rows.
-    ("Sales?$apply=aggregate(Amount with sum as Total)", "-; Total: 26.00"),
+    (
+        "Sales?$apply=aggregate(Amount with sum as Total)",
+        "-; Total: 26.00",
+    ),
     (
         "Sales?$apply=filter(ID eq 99)/aggregate(Amount with sum as T,$count as N)",
         "-; T: null; N: 0",
@@ -144,7 +145,10 @@ const ROWS: &[(&str, &str)] = &[
         "Sales?$apply=aggregate($count as N)/compute(N mul N as S)/filter(S gt 35)",
         "-; N: 6; S: 36",
     ),
-    ("Orgs?$apply=aggregate(ParentID with countdistinct as P)", "-; P: 2"),
+    (
+        "Orgs?$apply=aggregate(ParentID with countdistinct as P)",
+        "-; P: 2",
+    ),
 ];
 
 /// The place of the row's entity, and its columns.
@@ -209,7 +213,10 @@ fn expect_runs<R: Abort, L: Ledger>(rt: &R, alloc: Global, blank: Blank) -> Resu
         };
         let typed = type_pipe(alloc, store.model(), &customs, set, &request.pipe)?;
         if is_plain(&typed.pipe) {
-            let found = answer_text(alloc, run_plain(alloc, &store, &customs, &typed, &mut steps))?;
+            let found = answer_text(
+                alloc,
+                run_plain(alloc, &store, &customs, &typed, &mut steps),
+            )?;
             assert_eq!(rt; found.as_str(), *wanted, "{line}");
         }
         let plan = Plan::written(typed);

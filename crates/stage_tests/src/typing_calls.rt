@@ -26,20 +26,21 @@ fn a_custom_aggregate_is_read_back(rt: HostRuntime) -> Result<(), Fail> {
 fn sure_by_form(rt: HostRuntime) -> Result<(), Fail> {
     let alloc = rt.alloc();
     let m = read_model(alloc, SAMPLE.as_bytes())?;
-    if let Some(set) = m.set_named("Sales") {
-        let shape = own_shape(alloc, m.set_type(set));
-        for (text, wanted) in [
-            ("Amount", true),
-            ("-Amount", true),
-            ("-ID", false),
-            ("-5", true),
-            ("Amount add 1 gt 2", false),
-            ("not (Amount gt 1)", true),
-            ("contains(CustomerID,'C')", true),
-        ] {
-            let e = read_expr(alloc, text)?;
-            assert_eq!(rt; is_sure(&m, &shape, &e), wanted, "{text}");
-        }
+    let Some(set) = m.set_named("Sales") else {
+        panic!(rt; "no set");
+    };
+    let shape = own_shape(alloc, m.set_type(set));
+    for (text, wanted) in [
+        ("Amount", true),
+        ("-Amount", true),
+        ("-ID", false),
+        ("-5", true),
+        ("Amount add 1 gt 2", false),
+        ("not (Amount gt 1)", true),
+        ("contains(CustomerID,'C')", true),
+    ] {
+        let e = read_expr(alloc, text)?;
+        assert_eq!(rt; is_sure(&m, &shape, &e), wanted, "{text}");
     }
     Ok(())
 }

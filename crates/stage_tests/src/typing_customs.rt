@@ -4,7 +4,7 @@ ghost use Rattle.std.specs.Prelude.{◌≡◌, length, map, take, IfOk, IfSome};
 ghost use Rattle.edm_model.specs.IdLists.{custom_list};
 
 use crate::typing_customs_rows::{DEFINITION, DEFINITIONS};
-use crate::typing_models::SAMPLE;
+use crate::typing_models::{SAMPLE, STOCK};
 use crate::typing_table::set_of;
 use apply_ast::PathList;
 use apply_grammar::{ExprRefused, read_expr, read_path};
@@ -140,6 +140,24 @@ fn definitions_keep_the_limits_of_expressions(rt: HostRuntime) -> Result<(), Fai
         let model = SAMPLE.replace(alloc, DEFINITION, definition.as_str())?;
         let said = said_of(alloc, model.as_str())?;
         assert_eq!(rt; said.as_str(), wanted, "{count} times {open}");
+    }
+    Ok(())
+}
+
+#[test]
+fn a_definition_may_have_long_paths(rt: HostRuntime) -> Result<(), Fail> {
+    let alloc = rt.alloc();
+    let navigations = "Copy/".repeat(alloc, 200_000)?;
+    for (before, name, after) in [
+        ("{\"Of\":\"", "Label", "\",\"With\":\"min\""),
+        ("\"Per\":[\"", "Label", "\",\"Shop/Chief/ID\"]"),
+    ] {
+        let short = format!(in alloc; "{before}{name}{after}")?;
+        let long = format!(in alloc; "{before}{navigations}{name}{after}")?;
+        let model = STOCK.replace(alloc, short.as_str(), long.as_str())?;
+        assert!(rt; model.len() > 1_000_000);
+        let said = said_of(alloc, model.as_str())?;
+        assert_eq!(rt; said.as_str(), "", "{before}");
     }
     Ok(())
 }

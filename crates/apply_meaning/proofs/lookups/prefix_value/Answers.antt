@@ -3,9 +3,8 @@ use Rattle.std.specs.Prelude.{option_and_then, unwrap_or, IfSome}
 use Rattle.std.proofs.lemmas.List.{take_all, length-drop}
 use Rattle.edm_values.specs.declared.Value.{Value}
 use Rattle.edm_model.specs.LookUps.{IsSet}
-use Rattle.apply_meaning.specs.Fronts.{front_value}
 use Rattle.apply_meaning.specs.Instances.{value_behind}
-use Rattle.apply_meaning.proofs.LookupForms.{fronts-whole, front-root, root-is_of, next-bound, next-hit, next-shorter}
+use Rattle.apply_meaning.proofs.LookupForms.{front_value, fronts-whole, front-root, root-is_of, next-bound, next-hit, next-shorter}
 use Rattle.apply_meaning.proofs.lookups.prefix_value.Goals as goal
 
 pub loop-k-init : goal.loop-k-init

@@ -1,6 +1,6 @@
 use Rattle.std.proofs.Common.{◌≡◌}
-use Rattle.apply_meaning.specs.Fronts.{front_value}
 use Rattle.apply_meaning.specs.Instances.{prefix_value}
+use Rattle.apply_meaning.proofs.LookupForms.{front_value}
 use Rattle.apply_meaning.proofs.lookups.prefix_value.Given as goal
 
 abbrev pub invariant-loop-k : goal.invariant-loop-k

@@ -1,24 +1,11 @@
-use Rattle.std.proofs.Common.{◌≡◌, ◌+◌, ◌≤◌, ◌∙◌, ap, sym, subst, refl, map, drop, length, Some, None, Err, IsTrue, arith, List, ◌∷◌}
-use Rattle.std.specs.Prelude.{option_and_then, option_map, sum}
-use Rattle.std.proofs.lemmas.Result.{err_from_is_err_and}
-use Rattle.std.proofs.Math.ListN.{drop_of_length-le}
-use Rattle.std.specs.Prelude.{slice_get, nat_lt, ◌++◌}
-use Rattle.std.specs.List.{list_all}
-use Rattle.std.proofs.lemmas.Option.{slice_get_read}
-use Rattle.edm_values.proofs.EachLemmas.{all-filter}
-use Rattle.edm_values.specs.Lists.{at_places}
-use Rattle.apply_meaning.specs.Instances.{Instance, fits, extended}
-use Rattle.apply_meaning.specs.Meaning.{group, joined, key_list, keyed, same_keys}
-use Rattle.apply_meaning.specs.RowViews.{columns_differ}
-use Rattle.apply_ast.specs.Trees as tree
-use Rattle.apply_ast.specs.Views.{step_of, pipe_of, named_of, item_of, expr_of}
-use Rattle.apply_ast.specs.Views.{keys_from}
-use Rattle.apply_ast.proofs.ViewEquations.{step_of-GroupBy, step_of-Identity, step_of-Filter, step_of-Compute, step_of-OrderBy, step_of-Skip, step_of-Top}
-use Rattle.apply_meaning.specs.Meaning.{mean, step_mean, grouped}
-use Rattle.apply_meaning.specs.MeaningLaws.{AllFit}
-use Rattle.apply_meaning.proofs.MeaningEquations.{mean-End, step_mean-Identity, step_mean-Filter, step_mean-Compute, step_mean-OrderBy, step_mean-Skip, step_mean-Top}
-use Rattle.apply_meaning.specs.Running.{Gives, Runs, StepRuns, all_free, new_columns}
-use Rattle.apply_meaning.proofs.RunLemmas.{turn, gives-err, compute-free, all-fit-of, next-step}
+use Rattle.std.proofs.Common.{◌∙◌, ap, sym, subst, map, Some, IsTrue}
+use Rattle.apply_meaning.specs.Instances.{extended}
+use Rattle.apply_ast.specs.Views.{step_of, named_of, expr_of}
+use Rattle.apply_ast.proofs.ViewEquations.{step_of-Identity, step_of-Filter, step_of-Compute, step_of-Skip, step_of-Top}
+use Rattle.apply_meaning.specs.Meaning.{step_mean}
+use Rattle.apply_meaning.proofs.MeaningEquations.{step_mean-Identity, step_mean-Filter, step_mean-Compute, step_mean-Skip, step_mean-Top}
+use Rattle.apply_meaning.specs.Running.{Gives, StepRuns, all_free, new_columns}
+use Rattle.apply_meaning.proofs.RunLemmas.{compute-free, all-fit-of}
 use Rattle.apply_meaning.proofs.plain.plain_step.Goals as goal
 
 pub filter_rows-requires : goal.filter_rows-requires

@@ -26,8 +26,8 @@ returns-in_err-rows-2 g c =
     let e = next-step ss c.loop-i.i c.index-all-i.result c.loop-i-test.true c.index-all-i.is in
     let i = c.loop-i.invariant in
     let u = turn w cs i.0 c.args.t.now.shape _ (step_of c.index-all-i.result) rest c.loop-i.rows.items e i.1 in
-    let p = err_from_is_err_and c.from_residual.result c.from_residual.ensures.1 in
-    rw (p.1, p.2) (gives-err c.in_err-rows.field-0.0 (step_mean w cs i.0 (step_of c.index-all-i.result) c.loop-i.rows.items) _ (c.in_err-rows.ensures cs i.0 u.between u.first)
+    let p = err_from_is_err_and c.from_residual-in_err-rows-2.result c.from_residual-in_err-rows-2.ensures.1 in
+    rw (p.1, p.2) (gives-err c.in_err-rows-2.field-0.0 (step_mean w cs i.0 (step_of c.index-all-i.result) c.loop-i.rows.items) _ (c.in_err-rows-2.ensures cs i.0 u.between u.first)
     (λ n. i.2 ∙ u.meaning ∙ ap (option_and_then (mean w cs u.between rest)) n))
 
 pub loop-i-preserved : goal.loop-i-preserved
@@ -39,9 +39,12 @@ loop-i-preserved g c =
     let e = next-step ss c.loop-i.i c.index-all-i.result c.loop-i-test.true c.index-all-i.is in
     let i = c.loop-i.invariant in
     let u = turn w cs i.0 c.args.t.now.shape _ (step_of c.index-all-i.result) rest c.loop-i.rows.items e i.1 in
-    let m = c.in_ok-rows.ensures cs i.0 u.between u.first in
-    (u.between, u.next c.in_ok-rows.rows.items c.data_is_loaded.ensures m, i.2 ∙ u.meaning ∙ ap (option_and_then (mean w cs u.between rest)) m,
-      steps-next is_plain_step ss c.loop-i.i c.index-all-i.result c.loop-i-test.true c.index-all-i.is i.3)
+    let m = c.in_ok-rows-2.ensures cs i.0 u.between u.first in (
+      u.between,
+      u.next c.in_ok-rows-2.rows.items c.data_is_loaded.ensures m,
+      i.2 ∙ u.meaning ∙ ap (option_and_then (mean w cs u.between rest)) m,
+      steps-next is_plain_step ss c.loop-i.i c.index-all-i.result c.loop-i-test.true c.index-all-i.is i.3,
+    )
 
 pub returns : goal.returns
 returns g c =

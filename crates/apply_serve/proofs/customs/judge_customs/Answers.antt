@@ -3,7 +3,7 @@ use Rattle.std.specs.Prelude.{slice_get}
 use Rattle.edm_model.specs.IdLists.{custom_list}
 use Rattle.context_typing.specs.declared.customs.TypedCustom.{TypedCustom}
 use Rattle.apply_serve.specs.ReadCustoms.{AreRead}
-use Rattle.apply_serve.proofs.CustomsRead.{first-ids, owner-there, names-first, refused-first, first-unread, all-typed, item_get}
+use Rattle.apply_serve.proofs.CustomsRead.{first-ids, owner-there, names-first, refused-first, first-unread, all-typed, whole-typed, item_get}
 use Rattle.apply_serve.proofs.customs.judge_customs.Goals as goal
 
 pub type_customs-requires : goal.type_customs-requires
@@ -34,3 +34,10 @@ returns-in-None-clause-all c =
     let past : length (custom_list c.args.m.now) ≤ length c.in-Ok.list.items =
     omega (arith, c.len-read.ensures, c.in-Ok.list.ok.0, ap length c.customs-customs.ensures.value, c.in-None.ensures.lookup.3) in
     all-typed c.args.m.now c.sets-sets.ensures.sound _ are c.in-Ok-type_customs.typed c.in-Ok-type_customs.ensures.reads c.in-Ok-type_customs.ensures.typed past
+
+pub returns-in-None-clause-whole : goal.returns-in-None-clause-whole
+returns-in-None-clause-whole c =
+    let are : AreRead (custom_list c.args.m.now) c.in-Ok.list.items = rw c.customs-customs.ensures.value at c.in-Ok.ensures in
+    let past : length (custom_list c.args.m.now) ≤ length c.in-Ok.list.items =
+    omega (arith, c.len-read.ensures, c.in-Ok.list.ok.0, ap length c.customs-customs.ensures.value, c.in-None.ensures.lookup.3) in
+    whole-typed c.args.m.now c.sets-sets.ensures.sound _ are c.in-Ok-type_customs.typed c.in-Ok-type_customs.ensures.reads c.in-Ok-type_customs.ensures.typed past

@@ -1,26 +1,13 @@
-use Rattle.std.proofs.Common.{◌≡◌, ◌+◌, ◌≤◌, ◌∙◌, ap, sym, subst, refl, map, drop, length, Some, None, Err, IsTrue, arith, List, ◌∷◌}
-use Rattle.std.specs.Prelude.{option_and_then, option_map, sum}
+use Rattle.std.proofs.Common.{◌+◌, ◌∙◌, ap, map, drop, arith}
+use Rattle.std.specs.Prelude.{option_and_then}
 use Rattle.std.proofs.lemmas.Result.{err_from_is_err_and}
 use Rattle.std.proofs.Math.ListN.{drop_of_length-le}
-use Rattle.std.specs.Prelude.{slice_get, nat_lt, ◌++◌}
-use Rattle.std.specs.List.{list_all}
-use Rattle.std.proofs.lemmas.Option.{slice_get_read}
-use Rattle.edm_values.proofs.EachLemmas.{all-filter}
-use Rattle.edm_values.specs.Lists.{at_places}
-use Rattle.apply_meaning.specs.Instances.{Instance, fits, extended}
-use Rattle.apply_meaning.specs.Meaning.{group, joined, key_list, keyed, same_keys}
-use Rattle.apply_meaning.specs.RowViews.{columns_differ}
 use Rattle.apply_ast.specs.Trees as tree
-use Rattle.apply_ast.specs.Views.{step_of, pipe_of, named_of, item_of, expr_of}
-use Rattle.apply_ast.specs.Views.{keys_from}
-use Rattle.apply_ast.proofs.ViewEquations.{step_of-GroupBy, step_of-Identity, step_of-Filter, step_of-Compute, step_of-OrderBy, step_of-Skip, step_of-Top}
-use Rattle.apply_meaning.specs.Meaning.{mean, step_mean, grouped}
-use Rattle.apply_meaning.specs.MeaningLaws.{AllFit}
-use Rattle.apply_meaning.proofs.MeaningEquations.{mean-End, step_mean-Identity, step_mean-Filter, step_mean-Compute, step_mean-OrderBy, step_mean-Skip, step_mean-Top}
-use Rattle.plan_run.specs.Costs.{cost, step_cost, result_length}
-use Rattle.apply_meaning.specs.Running.{Gives, Runs, StepRuns, all_free, new_columns}
-use Rattle.apply_meaning.proofs.RunLemmas.{turn, gives-err, compute-free, all-fit-of, next-step, steps-here, steps-next}
-use Rattle.plan_run.proofs.RunLemmas.{turn-cost, turn-least, compute-cost, aggregate-cost}
+use Rattle.apply_ast.specs.Views.{step_of}
+use Rattle.apply_meaning.specs.Meaning.{mean, step_mean}
+use Rattle.apply_meaning.proofs.MeaningEquations.{mean-End}
+use Rattle.apply_meaning.proofs.RunLemmas.{turn, gives-err, next-step, steps-here, steps-next}
+use Rattle.plan_run.proofs.RunLemmas.{turn-cost, turn-least}
 use Rattle.plan_run.specs.Forms.{is_built_step}
 use Rattle.plan_run.proofs.pipes.run_pipe.Goals as goal
 
@@ -55,18 +42,21 @@ returns-in_err-rows-clause-steps g c = λ c' S S' R.
     omega (arith, s, least, left)
 
 pub loop-i-preserved : goal.loop-i-preserved
-loop-i-preserved g c = (steps-next is_built_step c.steps-all.result.now c.loop-i.i c.index-all-i.result c.loop-i-test.true c.index-all-i.is c.loop-i.invariant.0, λ c' S S' R.
-    let w = c.args.store.now in
-    let ss = c.steps-all.result.now in
-    let rest = tree.pipe (map step_of (drop (c.loop-i.i + 1) ss)) in
-    let e = next-step ss c.loop-i.i c.index-all-i.result c.loop-i-test.true c.index-all-i.is in
-    let i = c.loop-i.invariant.1 c' S S' R in
-    let u = turn w c' i.0 S' _ (step_of c.index-all-i.result) rest c.loop-i.rows.items e i.1 in
-    let m = c.in_ok-rows.ensures.mean c' i.0 u.between u.first in
-    let s = c.run_step.ensures.steps c' i.0 u.between u.first in
-    let spent = turn-cost w c' i.0 S' _ (step_of c.index-all-i.result) rest c.loop-i.rows.items c.in_ok-rows.rows.items e u m in
-    let left = i.3 in
-    (u.between, u.next c.in_ok-rows.rows.items c.data_is_loaded.ensures m, i.2 ∙ u.meaning ∙ ap (option_and_then (mean w c' u.between rest)) m, omega (arith, s, spent, left)))
+loop-i-preserved g c = (
+  steps-next is_built_step c.steps-all.result.now c.loop-i.i c.index-all-i.result c.loop-i-test.true c.index-all-i.is c.loop-i.invariant.0,
+  λ c' S S' R.
+      let w = c.args.store.now in
+      let ss = c.steps-all.result.now in
+      let rest = tree.pipe (map step_of (drop (c.loop-i.i + 1) ss)) in
+      let e = next-step ss c.loop-i.i c.index-all-i.result c.loop-i-test.true c.index-all-i.is in
+      let i = c.loop-i.invariant.1 c' S S' R in
+      let u = turn w c' i.0 S' _ (step_of c.index-all-i.result) rest c.loop-i.rows.items e i.1 in
+      let m = c.in_ok-rows.ensures.mean c' i.0 u.between u.first in
+      let s = c.run_step.ensures.steps c' i.0 u.between u.first in
+      let spent = turn-cost w c' i.0 S' _ (step_of c.index-all-i.result) rest c.loop-i.rows.items c.in_ok-rows.rows.items e u m in
+      let left = i.3 in
+      (u.between, u.next c.in_ok-rows.rows.items c.data_is_loaded.ensures m, i.2 ∙ u.meaning ∙ ap (option_and_then (mean w c' u.between rest)) m, omega (arith, s, spent, left)),
+)
 
 pub returns-clause-mean : goal.returns-clause-mean
 returns-clause-mean g c = λ c' S S' R.

@@ -1,26 +1,14 @@
-use Rattle.std.proofs.Common.{◌≡◌, ◌+◌, ◌≤◌, ◌∙◌, ap, sym, subst, refl, map, drop, length, Some, None, Err, IsTrue, arith, List, ◌∷◌}
-use Rattle.std.specs.Prelude.{option_and_then, option_map, sum}
-use Rattle.std.proofs.lemmas.Result.{err_from_is_err_and}
-use Rattle.std.proofs.Math.ListN.{drop_of_length-le}
-use Rattle.std.specs.Prelude.{slice_get, nat_lt, ◌++◌}
-use Rattle.std.specs.List.{list_all}
-use Rattle.std.proofs.lemmas.Option.{slice_get_read}
-use Rattle.edm_values.proofs.EachLemmas.{all-filter}
-use Rattle.edm_values.specs.Lists.{at_places}
-use Rattle.apply_meaning.specs.Instances.{Instance, fits, extended}
-use Rattle.apply_meaning.specs.Meaning.{group, joined, key_list, keyed, same_keys}
-use Rattle.apply_meaning.specs.RowViews.{columns_differ}
+use Rattle.std.proofs.Common.{◌∙◌, ap, sym, subst, map, Some, IsTrue, arith}
+use Rattle.apply_meaning.specs.Instances.{extended}
 use Rattle.apply_ast.specs.Trees as tree
-use Rattle.apply_ast.specs.Views.{step_of, pipe_of, named_of, item_of, expr_of}
-use Rattle.apply_ast.specs.Views.{keys_from}
-use Rattle.apply_ast.proofs.ViewEquations.{step_of-GroupBy, step_of-Identity, step_of-Filter, step_of-Compute, step_of-OrderBy, step_of-Skip, step_of-Top}
-use Rattle.apply_meaning.specs.Meaning.{mean, step_mean, grouped}
-use Rattle.apply_meaning.specs.MeaningLaws.{AllFit}
-use Rattle.apply_meaning.proofs.MeaningEquations.{mean-End, step_mean-Identity, step_mean-Filter, step_mean-Compute, step_mean-OrderBy, step_mean-Skip, step_mean-Top}
-use Rattle.plan_run.specs.Costs.{cost, step_cost, result_length}
-use Rattle.apply_meaning.specs.Running.{Gives, Runs, StepRuns, all_free, new_columns}
-use Rattle.apply_meaning.proofs.RunLemmas.{turn, gives-err, compute-free, all-fit-of, next-step}
-use Rattle.plan_run.proofs.RunLemmas.{turn-cost, turn-least, compute-cost, aggregate-cost}
+use Rattle.apply_ast.specs.Views.{agg_of, step_of, named_of, item_of, expr_of}
+use Rattle.apply_ast.proofs.ViewEquations.{step_of-Aggregate, step_of-Identity, step_of-Filter, step_of-Compute, step_of-OrderBy, step_of-Skip, step_of-Top}
+use Rattle.apply_meaning.specs.Meaning.{step_mean}
+use Rattle.apply_meaning.proofs.MeaningEquations.{step_mean-Identity, step_mean-Filter, step_mean-Compute, step_mean-OrderBy, step_mean-Skip, step_mean-Top}
+use Rattle.plan_run.specs.Costs.{step_cost}
+use Rattle.apply_meaning.specs.Running.{Gives, StepRuns, all_free, new_columns}
+use Rattle.apply_meaning.proofs.RunLemmas.{compute-free, all-fit-of}
+use Rattle.plan_run.proofs.RunLemmas.{compute-cost, aggregate-cost}
 use Rattle.plan_run.proofs.pipes.run_step.Goals as goal
 
 pub filter_rows-requires : goal.filter_rows-requires
@@ -83,3 +71,21 @@ returns-in-Skip-clause-mean g c = λ c' S S' R.
 pub returns-in-Top-clause-mean : goal.returns-in-Top-clause-mean
 returns-in-Top-clause-mean g c = λ c' S S' R.
     ap (λ s. step_mean c.args.store.now c' S s c.args.rows.items) (ap step_of c.in-Top.is ∙ step_of-Top c.in-Top.n) ∙ step_mean-Top c.args.store.now c' S c.in-Top.n c.args.rows.items ∙ ap Some (sym c.top_rows.ensures)
+
+pub returns-in_err-aggregated-in-Aggregate-clause-steps :
+    goal.returns-in_err-aggregated-in-Aggregate-clause-steps
+returns-in_err-aggregated-in-Aggregate-clause-steps g c = λ c' S S' R.
+    let w = c.args.store.now in
+    let e = ap step_of c.in-Aggregate.is ∙ step_of-Aggregate c.in-Aggregate.items in
+    let spent = c.aggregated.ensures.steps in
+    let whole = ap (λ s. step_cost w c' S s c.args.rows.items) e ∙ aggregate-cost w c' S (map agg_of c.in-Aggregate.items) c.args.rows.items in
+    omega (arith, spent, whole)
+
+pub returns-in_ok-aggregated-in-Aggregate-clause-steps :
+    goal.returns-in_ok-aggregated-in-Aggregate-clause-steps
+returns-in_ok-aggregated-in-Aggregate-clause-steps g c = λ c' S S' R.
+    let w = c.args.store.now in
+    let e = ap step_of c.in-Aggregate.is ∙ step_of-Aggregate c.in-Aggregate.items in
+    let spent = c.aggregated.ensures.steps in
+    let whole = ap (λ s. step_cost w c' S s c.args.rows.items) e ∙ aggregate-cost w c' S (map agg_of c.in-Aggregate.items) c.args.rows.items in
+    omega (arith, spent, whole)
