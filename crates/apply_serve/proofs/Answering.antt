@@ -1,5 +1,5 @@
 -- The replies to lines, one after another.
-use Rattle.std.proofs.Common.{◌≡◌, ℕ, ◌+◌, ◌-◌, ◌<◌, ◌≤◌, List, [], ◌∷◌, ◌++◌, length, take, drop, None, Some, refl, sym, ap, subst, ◌∙◌, true, arith, append_assoc, Bool, false, Ok, Err, OnErr, IfOk, Vec, Global}
+use Rattle.std.proofs.Common.{◌≡◌, ℕ, ◌+◌, ◌-◌, ◌<◌, ◌≤◌, List, [], ◌∷◌, ◌++◌, length, take, drop, None, Some, refl, sym, ap, subst, ◌∙◌, true, arith, append_assoc, Bool, false, Ok, Err, OnErr, IfOk}
 use Rattle.std.specs.declared.result.Result.{Result}
 use Rattle.std.specs.Prelude.{position, nat_lt, ◌↔◌, IsErrOf}
 use Rattle.std.specs.declared.option.Option.{Option}
@@ -18,7 +18,8 @@ use Rattle.apply_ast.specs.declared.steps.Request.{Request}
 use Rattle.apply_serve.specs.Requests.{is_line_feed, is_shown, shown, request_lines}
 use Rattle.apply_serve.specs.Responses.{TooLong, Syntax, Memory, refused}
 use Rattle.apply_serve.specs.Replies.{IsReply, IsResponse, too_long, no_request, request, no_memory}
-use Rattle.apply_serve.specs.OutputBytes.{bytes_made}
+use Rattle.apply_serve.specs.OutputBytes.{bytes_made, bytes_of}
+use Rattle.apply_serve.specs.declared.output.Output.{Output}
 use Rattle.apply_serve.specs.Answers.{IsOut, Responds, RespondsInPart, RespondsUpTo, WritesFront}
 use Rattle.apply_serve.proofs.CutLines.{request_lines-first, request_lines-last}
 
@@ -163,22 +164,22 @@ syntax-other k h = cc
 memory-other : ¬ IsLong (Err grammar.Memory)
 memory-other h = cc
 
-made-request : {E : Type 0} (made : Result (Vec ℕ Global) E) (w : World) (cs : Customs) (line : List ℕ) (asked : Asked) → length line ≤ line_limit → IsRequest line asked → IfOk made (λ r. IsResponse w cs asked r.items) → IsReply w cs line (bytes_made made)
-made-request (Ok r) w cs line asked within is h = request asked r.items within is h
+made-request : {E : Type 0} (made : Result Output E) (w : World) (cs : Customs) (line : List ℕ) (asked : Asked) → length line ≤ line_limit → IsRequest line asked → IfOk made (λ r. IsResponse w cs asked (bytes_of r)) → IsReply w cs line (bytes_made made)
+made-request (Ok r) w cs line asked within is h = request asked (bytes_of r) within is h
 made-request (Err x) w cs line asked within is h = no_memory within
 
-made-no_request : {E : Type 0} (made : Result (Vec ℕ Global) E) (w : World) (cs : Customs) (line : List ℕ) (k : ℕ) → length line ≤ line_limit → IsNoRequest line k → IfOk made (λ r. r.items ≡ refused (Syntax k)) → IsReply w cs line (bytes_made made)
+made-no_request : {E : Type 0} (made : Result Output E) (w : World) (cs : Customs) (line : List ℕ) (k : ℕ) → length line ≤ line_limit → IsNoRequest line k → IfOk made (λ r. bytes_of r ≡ refused (Syntax k)) → IsReply w cs line (bytes_made made)
 made-no_request (Ok r) w cs line k within none e = let P : List ℕ → Type 0 = λ t. IsReply w cs line t in subst P (sym e) (no_request k within none)
 made-no_request (Err x) w cs line k within none e = no_memory within
 
 -- the reply to a request that was read
-pub reply-found : {E : Type 0} (made : Result (Vec ℕ Global) E) (w : World) (cs : Customs) (line bytes : List ℕ) (r : Request) → Told (Ok r) line → IsRequest line (asked_of r) → IfOk made (λ x. IsResponse w cs (asked_of r) x.items) → bytes ≡ bytes_made made → IsReply w cs line bytes
+pub reply-found : {E : Type 0} (made : Result Output E) (w : World) (cs : Customs) (line bytes : List ℕ) (r : Request) → Told (Ok r) line → IsRequest line (asked_of r) → IfOk made (λ x. IsResponse w cs (asked_of r) (bytes_of x)) → bytes ≡ bytes_made made → IsReply w cs line bytes
 reply-found made w cs line bytes r told is h same =
     let P : List ℕ → Type 0 = λ t. IsReply w cs line t in
     subst P (sym same) (made-request made w cs line (asked_of r) (within-limit (Ok r) line told (found-other r)) is h)
 
 -- the reply to a line that is no request
-pub reply-stops : {E : Type 0} (made : Result (Vec ℕ Global) E) (w : World) (cs : Customs) (line bytes : List ℕ) (k : ℕ) → Told (Err (grammar.Syntax k)) line → IsNoRequest line k → IfOk made (λ x. x.items ≡ refused (Syntax k)) → bytes ≡ bytes_made made → IsReply w cs line bytes
+pub reply-stops : {E : Type 0} (made : Result Output E) (w : World) (cs : Customs) (line bytes : List ℕ) (k : ℕ) → Told (Err (grammar.Syntax k)) line → IsNoRequest line k → IfOk made (λ x. bytes_of x ≡ refused (Syntax k)) → bytes ≡ bytes_made made → IsReply w cs line bytes
 reply-stops made w cs line bytes k told none e same =
     let P : List ℕ → Type 0 = λ t. IsReply w cs line t in
     subst P (sym same) (made-no_request made w cs line k (within-limit (Err (grammar.Syntax k)) line told (syntax-other k)) none e)

@@ -1,5 +1,5 @@
 -- Bytes of a sink or a source that grow, or are taken, twice.
-use Rattle.std.proofs.Common.{ℕ, ◌+◌, ◌-◌, List, length, take, drop, None, Some, sym, ◌∙◌}
+use Rattle.std.proofs.Common.{ℕ, ◌+◌, ◌-◌, ◌++◌, List, length, take, drop, None, Some, ap, sym, ◌∙◌, append_assoc}
 use Rattle.std.proofs.lemmas.List.{take_rest, take-append-drop}
 use Rattle.std.proofs.Math.Seq.{take-add}
 use Rattle.std.proofs.KnownBytes.{Appends-nil, Appends-trans}
@@ -29,3 +29,23 @@ WritesFront-take a b c xs at h k = record {
 }
 
 pub ruleset appends = (Appends-nil, Appends-take, WritesFront-take)
+
+-- ---- bytes in two parts, one written after the other
+
+-- a front of the first part was written
+pub front-first : (a b : Option (List ℕ)) (first second : List ℕ) → WritesFront first a b → WritesFront (first ++ second) a b
+front-first a b first second h = record {
+  written = h.written;
+  lost = h.lost ++ second;
+  appended = h.appended;
+  front = ap (λ t. t ++ second) h.front ∙ append_assoc h.written h.lost second;
+}
+
+-- the first part was written, and a front of the second
+pub front-second : (a b c : Option (List ℕ)) (first second : List ℕ) → Appends a b first → WritesFront second b c → WritesFront (first ++ second) a c
+front-second a b c first second g h = record {
+  written = first ++ h.written;
+  lost = h.lost;
+  appended = Appends-trans a b c first h.written g h.appended;
+  front = ap (λ t. first ++ t) h.front ∙ sym (append_assoc first h.written h.lost);
+}

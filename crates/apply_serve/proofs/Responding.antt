@@ -1,6 +1,5 @@
 -- From the response that was made to the response to a request.
-use Rattle.std.proofs.Common.{◌≡◌, ℕ, List, Ok, Err, IfOk, Vec, Global, Some, sym, subst}
-use Rattle.std.specs.declared.result.Result.{Result}
+use Rattle.std.proofs.Common.{◌≡◌, ℕ, List, Some, sym, subst}
 use Rattle.edm_model.specs.Models.{Model}
 use Rattle.edm_model.specs.LookUps.{set_named}
 use Rattle.edm_data.specs.Worlds.{World}
@@ -15,10 +14,9 @@ use Rattle.context_typing.specs.declared.customs.TypedCustom.{TypedCustom}
 use Rattle.context_typing.specs.declared.typed.Typed.{Typed}
 use Rattle.apply_serve.specs.Replies.{IsResponse, IsTyped}
 
--- the response that was made is one to the request
-pub respond : {E : Type 0} (made : Result (Vec ℕ Global) E) (w : World) (cs : Customs) (asked : Asked) (r : List ℕ) → IsResponse w cs asked r → IfOk made (λ x. x.items ≡ r) → IfOk made (λ x. IsResponse w cs asked x.items)
-respond (Ok x) w cs asked r h e = let P : List ℕ → Type 0 = λ t. IsResponse w cs asked t in subst P (sym e) h
-respond (Err x) w cs asked r h e = tt
+-- a response with other bytes that are the same
+pub respond : (w : World) (cs : Customs) (asked : Asked) (bytes r : List ℕ) → IsResponse w cs asked r → bytes ≡ r → IsResponse w cs asked bytes
+respond w cs asked bytes r h e = subst (IsResponse w cs asked) (sym e) h
 
 module _ (w : World) (asked : Asked) (set : ℕ) (m : Model) (c d : List TypedCustom) (same : m ≡ w.model) (are : c ≡ d) where
   -- a pipeline that was typed

@@ -1,8 +1,7 @@
 -- The reply to a line of the input.
 use Rattle.std.specs.Prelude.{◌≡◌, ℕ, ◌<◌, ◌≤◌, ◌&&◌, Bool, true, false, not, List, length, Option, Some, None, option_and_then}
-use Rattle.edm_values.specs.Names.{Name}
 use Rattle.apply_ast.specs.Trees.{Pipe}
-use Rattle.edm_model.specs.LookUps.{set_named}
+use Rattle.edm_model.specs.LookUps.{set_name, set_named}
 use Rattle.edm_data.specs.Worlds.{World}
 use Rattle.apply_meaning.specs.Instances.{rows}
 use Rattle.apply_meaning.specs.Meaning.{mean}
@@ -24,16 +23,16 @@ abbrev pub is_run : Asked → Bool
 is_run asked = not asked.0 && is_built asked.2
 
 -- the body of what the pipeline means on the instances of its set, or none where it is refused or a value to be printed is `Beyond`
-abbrev pub answer_body : World → Customs → Name → ℕ → Pipe → Shape → Option (List ℕ)
-answer_body w c name set p s = option_and_then (body w name s) (mean w c (shape_of_set w.model set) p (rows w set))
+abbrev pub answer_body : World → Customs → ℕ → Pipe → Shape → Option (List ℕ)
+answer_body w c set p s = option_and_then (body w (set_name w.model set) s) (mean w c (shape_of_set w.model set) p (rows w set))
 
 -- The response to a request: the first that holds of no such set, no type from this transformation on, not built, past its range; else the body.
 pub data IsResponse (w : World) (c : Customs) (asked : Asked) : List ℕ → Type 0 where
   no_set : set_named w.model asked.1 ≡ None → IsResponse w c asked (refused (NotFound asked.1))
   no_type : (set k : ℕ) → set_named w.model asked.1 ≡ Some set → IsUntypedAt w.model c (shape_of_set w.model set) asked.2 k → IsResponse w c asked (refused (Type' k))
   not_built : (set : ℕ) (s : Shape) → IsTyped w c asked set s → is_run asked ≡ false → IsResponse w c asked (refused NotBuilt)
-  range : (set : ℕ) (s : Shape) → IsTyped w c asked set s → is_run asked ≡ true → answer_body w c asked.1 set asked.2 s ≡ None → IsResponse w c asked (refused Range)
-  answer : (set : ℕ) (s : Shape) (bytes : List ℕ) → IsTyped w c asked set s → is_run asked ≡ true → answer_body w c asked.1 set asked.2 s ≡ Some bytes → IsResponse w c asked (answered bytes)
+  range : (set : ℕ) (s : Shape) → IsTyped w c asked set s → is_run asked ≡ true → answer_body w c set asked.2 s ≡ None → IsResponse w c asked (refused Range)
+  answer : (set : ℕ) (s : Shape) (bytes : List ℕ) → IsTyped w c asked set s → is_run asked ≡ true → answer_body w c set asked.2 s ≡ Some bytes → IsResponse w c asked (answered bytes)
 
 -- The reply to a line: that it is too long; else the number of the step where it stops being a request, or the response to its request. Memory may be wanting in place of each but the first.
 pub data IsReply (w : World) (c : Customs) (line : List ℕ) : List ℕ → Type 0 where

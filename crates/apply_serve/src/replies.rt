@@ -6,6 +6,10 @@ ghost use Rattle.edm_model.specs.LookUps.{IsSet};
 ghost use Rattle.plan_run.specs.Forms as forms;
 ghost use Rattle.context_typing.specs.Answers.{IsTyping};
 ghost use Rattle.context_typing.specs.Readings.{readings};
+ghost use Rattle.context_typing.specs.Typing.{shape_of_set};
+ghost use Rattle.apply_meaning.specs.Instances as instances;
+ghost use Rattle.apply_meaning.specs.Meaning.{mean};
+ghost use Rattle.apply_meaning.specs.MeaningLaws.{AllFit};
 ghost use Rattle.apply_serve.specs.Replies.{IsReply, IsResponse, IsTyped};
 ghost use Rattle.apply_serve.specs.Replies as spec;
 ghost use Rattle.apply_serve.specs.Responses.{Syntax, refused};
@@ -18,7 +22,7 @@ use crate::responses::{
 use crate::store::Store;
 use apply_ast::Request;
 use apply_grammar::{GrammarRefused, read_request};
-use apply_meaning::{RunRefused, Steps};
+use apply_meaning::{Row, RunRefused, Steps, data_is_loaded};
 use context_typing::{TypeRefused, Typed, type_pipe};
 use json_render::{RenderRefused, render};
 use optimiser::Plan;
@@ -43,23 +47,34 @@ pub fn is_run(request: &Request) -> bool
     !request.explain && is_built(&request.pipe)
 }
 
+/// The rows that a typed pipeline gives fit its shape.
+fn rows_fit(store: &Store, typed: &Typed, rows: &Vec<Row>)
+    requires set { IsSet store.now.world.model typed.now.set }
+    requires typing { IsTyping store.now.world.model (readings store.now.customs) typed.now }
+    requires mean { mean store.now.world (readings store.now.customs) (shape_of_set store.now.world.model typed.now.set) (pipe_of typed.now.pipe) (instances.rows store.now.world typed.now.set) ≡ Some rows.now.items }
+    ensures { AllFit store.now.world typed.now.shape rows.now.items }
+{
+    data_is_loaded(store.data());
+    let _customs = store.customs();
+}
+
 /// The body of the rows that a typed pipeline gives.
 fn body_of<L: Ledger>(
     alloc: Global,
     store: &Store,
-    name: &str,
     typed: Typed,
     steps: &mut Steps<L>,
 ) -> Result<Vec<u8>, RunRefused>
     requires set { IsSet store.now.world.model typed.set }
     requires typing { IsTyping store.now.world.model (readings store.now.customs) typed }
     requires built { IsTrue (forms.is_built (pipe_of typed.pipe)) }
-    ensures ok { IfOk result (λ b. spec.answer_body store.now.world (readings store.now.customs) name.now typed.set (pipe_of typed.pipe) typed.shape ≡ Some b.items) }
-    ensures range { result ≡ Err RunRefused.Range → spec.answer_body store.now.world (readings store.now.customs) name.now typed.set (pipe_of typed.pipe) typed.shape ≡ None }
+    ensures ok { IfOk result (λ b. spec.answer_body store.now.world (readings store.now.customs) typed.set (pipe_of typed.pipe) typed.shape ≡ Some b.items) }
+    ensures range { result ≡ Err RunRefused.Range → spec.answer_body store.now.world (readings store.now.customs) typed.set (pipe_of typed.pipe) typed.shape ≡ None }
 {
     let plan = Plan::written(typed);
     let rows = run(alloc, store.data(), store.customs(), &plan, steps)?;
     let typed = plan.typed();
+    rows_fit(store, typed, &rows);
     match render(alloc, store.data(), typed.set, &typed.shape, rows.as_slice()) {
         Ok(body) => Ok(body),
         Err(RenderRefused::Range) => Err(RunRefused::Range),
@@ -84,7 +99,7 @@ fn typed_response<L: Ledger>(
     if !is_run(request) {
         return Ok(Output::Made(not_built(alloc)?));
     }
-    match body_of(alloc, store, request.set.text(), typed, steps) {
+    match body_of(alloc, store, typed, steps) {
         Ok(body) => answered(alloc, body),
         Err(RunRefused::Range) => Ok(Output::Made(past_range(alloc)?)),
         Err(RunRefused::Memory) => Err(AllocError),

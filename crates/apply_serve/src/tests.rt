@@ -1,10 +1,8 @@
 //! The worked rows of the service, over objects in memory; its files are short ones, and the sample's.
 ghost use Rattle.std.specs.Prelude.{None};
 
-use crate::built::sum_asked;
 use crate::service::Status;
 use crate::{code, run};
-use apply_grammar::read_request;
 use apply_io::{Failed, MemFolder, MemSink, MemSource, Source};
 use std::alloc::Global;
 use std::marker::Brand;
@@ -179,7 +177,7 @@ fn each_line_is_answered_by_the_first_reason_that_holds(rt: HostRuntime) -> Resu
             b"400 81\n{\"error\":{\"code\":\"Type\",\"message\":\"the transformation has no type\",\"target\":\"1\"}}\n".as_slice(),
         ),
         (
-            b"Sales?$apply=identity\n".as_slice(),
+            b"Sales?$apply=groupby((ID))\n".as_slice(),
             b"501 68\n{\"error\":{\"code\":\"NotBuilt\",\"message\":\"this form is not built yet\"}}\n".as_slice(),
         ),
         (
@@ -628,41 +626,146 @@ fn other_words_are_told_the_usage(rt: HostRuntime) -> Result<(), Fail> {
     Ok(())
 }
 
+/// Requests over the sample, with the code and the body of their responses, from the rules and from a program that was written
+/// apart from this one.
+const ANSWERS: &[(&str, &str, &str)] = &[
+    (
+        "Sales?$apply=identity",
+        "200",
+        "{\"@context\":\"$metadata#Sales\",\"value\":[{\"Amount\":\"10.00\",\"CustomerID\":\"C1\",\"ID\":\"1\",\"OrgID\":\"West\"},{\"Amount\":\"5.50\",\"CustomerID\":\"C1\",\"ID\":\"2\",\"OrgID\":\"East\"},{\"Amount\":\"7.25\",\"CustomerID\":\"C2\",\"ID\":\"3\",\"OrgID\":\"EMEA\"},{\"Amount\":null,\"CustomerID\":\"C3\",\"ID\":\"4\",\"OrgID\":\"West\"},{\"Amount\":\"1.00\",\"CustomerID\":\"C2\",\"ID\":\"5\",\"OrgID\":null},{\"Amount\":\"2.25\",\"CustomerID\":\"C1\",\"ID\":\"6\",\"OrgID\":\"US\"}]}",
+    ),
+    (
+        "Customers?$apply=skip(1)/top(2)",
+        "200",
+        "{\"@context\":\"$metadata#Customers\",\"value\":[{\"Country\":\"NL\",\"ID\":\"C2\",\"Name\":\"Sue\",\"Since\":\"2020-02-29\"},{\"Country\":\"FR\",\"ID\":\"C3\",\"Name\":\"Luc\",\"Since\":null}]}",
+    ),
+    (
+        "Orgs?$apply=filter(ParentID eq 'US')",
+        "200",
+        "{\"@context\":\"$metadata#Orgs\",\"value\":[{\"ID\":\"West\",\"ParentID\":\"US\"},{\"ID\":\"East\",\"ParentID\":\"US\"}]}",
+    ),
+    (
+        "Sales?$apply=filter(ID eq 99)/aggregate(Amount with sum as T,$count as N)",
+        "200",
+        "{\"@context\":\"$metadata#Sales(N,T)\",\"value\":[{\"N@type\":\"Int64\",\"N\":\"0\",\"T@type\":\"Decimal\",\"T\":null}]}",
+    ),
+    (
+        "Sales?$apply=compute(Amount mul 100000000000000000 as X)",
+        "422",
+        "{\"error\":{\"code\":\"Range\",\"message\":\"a number is past its range\"}}",
+    ),
+    (
+        "Sales?$apply=compute(Amount mul 100000000000000000 as X)/filter(ID eq 99)",
+        "200",
+        "{\"@context\":\"$metadata#Sales(*,X)\",\"value\":[]}",
+    ),
+    (
+        "Sales?$apply=filter(Amount mul 100000000000000000 gt 0)",
+        "422",
+        "{\"error\":{\"code\":\"Range\",\"message\":\"a number is past its range\"}}",
+    ),
+    (
+        "Sales?$apply=orderby(Amount mul 100000000000000000)",
+        "422",
+        "{\"error\":{\"code\":\"Range\",\"message\":\"a number is past its range\"}}",
+    ),
+    (
+        "Sales?$apply=aggregate(CustomerID with countdistinct as D,Amount with min as L,Amount with max as M)",
+        "200",
+        "{\"@context\":\"$metadata#Sales(D,L,M)\",\"value\":[{\"D@type\":\"Int64\",\"D\":\"3\",\"L@type\":\"Decimal\",\"L\":\"1.00\",\"M@type\":\"Decimal\",\"M\":\"10.00\"}]}",
+    ),
+    (
+        "/Sales?%24apply=filter(year(Customer/Since)%20eq%202020)/aggregate(%24count%20as%20N)",
+        "200",
+        "{\"@context\":\"$metadata#Sales(N)\",\"value\":[{\"N@type\":\"Int64\",\"N\":\"2\"}]}",
+    ),
+    (
+        "Sales?$apply=orderby(Amount desc)/top(1)",
+        "200",
+        "{\"@context\":\"$metadata#Sales\",\"value\":[{\"Amount\":\"10.00\",\"CustomerID\":\"C1\",\"ID\":\"1\",\"OrgID\":\"West\"}]}",
+    ),
+    (
+        "Sales?$apply=orderby(Amount)/top(1)/aggregate(ID with max as M)",
+        "200",
+        "{\"@context\":\"$metadata#Sales(M)\",\"value\":[{\"M@type\":\"Int64\",\"M\":\"4\"}]}",
+    ),
+    (
+        "Sales?$apply=skip(6)/top(9223372036854775807)",
+        "200",
+        "{\"@context\":\"$metadata#Sales\",\"value\":[]}",
+    ),
+    (
+        "Sales?$apply=top(1)/compute(ID eq 1 as B,Amount as D,ID add 1 as I,Customer/Name as T,Customer/Since as S)",
+        "200",
+        "{\"@context\":\"$metadata#Sales(*,B,D,I,S,T)\",\"value\":[{\"Amount\":\"10.00\",\"B\":true,\"CustomerID\":\"C1\",\"D@type\":\"Decimal\",\"D\":\"10.00\",\"I@type\":\"Int64\",\"I\":\"2\",\"ID\":\"1\",\"OrgID\":\"West\",\"S@type\":\"Date\",\"S\":\"2019-05-01\",\"T\":\"Joe\"}]}",
+    ),
+    (
+        "Sales?$apply=filter(ID eq 4)/compute(Amount as D,Customer/Since as S)",
+        "200",
+        "{\"@context\":\"$metadata#Sales(*,D,S)\",\"value\":[{\"Amount\":null,\"CustomerID\":\"C3\",\"D@type\":\"Decimal\",\"D\":null,\"ID\":\"4\",\"OrgID\":\"West\",\"S@type\":\"Date\",\"S\":null}]}",
+    ),
+    (
+        "Sales?$apply=top(1)/compute('a\"b\\c' as T,'' as E)",
+        "200",
+        "{\"@context\":\"$metadata#Sales(*,E,T)\",\"value\":[{\"Amount\":\"10.00\",\"CustomerID\":\"C1\",\"E\":\"\",\"ID\":\"1\",\"OrgID\":\"West\",\"T\":\"a\\\"b\\\\c\"}]}",
+    ),
+    (
+        "Sales?$apply=aggregate(Customer/Since with min as S,OrgID with max as O)",
+        "200",
+        "{\"@context\":\"$metadata#Sales(O,S)\",\"value\":[{\"O\":\"West\",\"S@type\":\"Date\",\"S\":\"2019-05-01\"}]}",
+    ),
+    (
+        "Sales?$apply=aggregate(ID mul 3000000000000000000 with sum as T)",
+        "422",
+        "{\"error\":{\"code\":\"Range\",\"message\":\"a number is past its range\"}}",
+    ),
+    (
+        "Sales?$apply=aggregate(Amount with sum as Total)/compute(Total mul 2 as Twice)/filter(Twice gt 52)",
+        "200",
+        "{\"@context\":\"$metadata#Sales(Total,Twice)\",\"value\":[]}",
+    ),
+    (
+        "Sales?$apply=groupby((ID))",
+        "501",
+        "{\"error\":{\"code\":\"NotBuilt\",\"message\":\"this form is not built yet\"}}",
+    ),
+    (
+        "explain Sales?$apply=identity",
+        "501",
+        "{\"error\":{\"code\":\"NotBuilt\",\"message\":\"this form is not built yet\"}}",
+    ),
+    (
+        "Sales?$apply=topcount(1,Amount)",
+        "501",
+        "{\"error\":{\"code\":\"NotBuilt\",\"message\":\"this form is not built yet\"}}",
+    ),
+    (
+        "Sales?$apply=identity/concat(identity,identity)",
+        "501",
+        "{\"error\":{\"code\":\"NotBuilt\",\"message\":\"this form is not built yet\"}}",
+    ),
+    (
+        "Sales?$apply=aggregate($count as N,Best)",
+        "501",
+        "{\"error\":{\"code\":\"NotBuilt\",\"message\":\"this form is not built yet\"}}",
+    ),
+];
+
 #[test]
-fn a_request_is_built_where_it_asks_for_one_sum_of_a_property(rt: HostRuntime) -> Result<(), Fail> {
-    for (line, name) in [
-        (
-            b"Sales?$apply=aggregate(Amount with sum as Total)".as_slice(),
-            Some("Total"),
-        ),
-        (
-            b"Shops?$apply=aggregate(Nope with sum as T)".as_slice(),
-            Some("T"),
-        ),
-        (
-            b"explain Sales?$apply=aggregate(Amount with sum as T)".as_slice(),
-            None,
-        ),
-        (
-            b"Sales?$apply=aggregate(Amount with max as T)".as_slice(),
-            None,
-        ),
-        (
-            b"Sales?$apply=aggregate(Customer/Name with sum as T)".as_slice(),
-            None,
-        ),
-        (
-            b"Sales?$apply=aggregate(Amount with sum as T,$count as N)".as_slice(),
-            None,
-        ),
-        (
-            b"Sales?$apply=aggregate(Amount with sum as T)/identity".as_slice(),
-            None,
-        ),
-        (b"Sales?$apply=identity".as_slice(), None),
-    ] {
-        let request = read_request(rt.alloc(), line)?;
-        assert_eq!(rt; sum_asked(&request).map(|sum| sum.name), name);
+fn pipelines_that_go_row_by_row_have_their_bodies(rt: HostRuntime) -> Result<(), Fail> {
+    let alloc = rt.alloc();
+    for (line, code, body) in ANSWERS {
+        let case = Case {
+            model: SAMPLE_MODEL,
+            data: SAMPLE_DATA,
+            input: line.as_bytes(),
+            ..PLAIN
+        };
+        let length = body.len();
+        let expected = format!(in alloc; "{code} {length}\n{body}\n")?;
+        let ran = outcome(&rt, alloc, &case)?;
+        assert_eq!(rt; ran.status, Status::Served);
+        assert_eq!(rt; ran.output.as_slice(), expected.as_bytes());
     }
     Ok(())
 }
