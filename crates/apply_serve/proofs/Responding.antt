@@ -1,5 +1,8 @@
 -- From the response that was made to the response to a request.
-use Rattle.std.proofs.Common.{◌≡◌, ℕ, List, Some, sym, subst}
+use Rattle.std.proofs.Common.{◌≡◌, ℕ, List, Some, Ok, Err, IfOk, sym, subst}
+use Rattle.std.specs.declared.result.Result.{Result}
+use Rattle.apply_serve.specs.OutputBytes.{bytes_of}
+use Rattle.apply_serve.specs.declared.output.Output.{Output}
 use Rattle.edm_model.specs.Models.{Model}
 use Rattle.edm_model.specs.LookUps.{set_named}
 use Rattle.edm_data.specs.Worlds.{World}
@@ -17,6 +20,11 @@ use Rattle.apply_serve.specs.Replies.{IsResponse, IsTyped}
 -- a response with other bytes that are the same
 pub respond : (w : World) (cs : Customs) (asked : Asked) (bytes r : List ℕ) → IsResponse w cs asked r → bytes ≡ r → IsResponse w cs asked bytes
 respond w cs asked bytes r h e = subst (IsResponse w cs asked) (sym e) h
+
+-- the same of an output that was made
+pub respond-made : {E : Type 0} (made : Result Output E) (w : World) (cs : Customs) (asked : Asked) (r : List ℕ) → IsResponse w cs asked r → IfOk made (λ x. bytes_of x ≡ r) → IfOk made (λ x. IsResponse w cs asked (bytes_of x))
+respond-made (Ok x) w cs asked r h e = respond w cs asked (bytes_of x) r h e
+respond-made (Err x) w cs asked r h e = tt
 
 module _ (w : World) (asked : Asked) (set : ℕ) (m : Model) (c d : List TypedCustom) (same : m ≡ w.model) (are : c ≡ d) where
   -- a pipeline that was typed

@@ -3,15 +3,15 @@ use Rattle.apply_serve.proofs.Answering.{reply-found, reply-stops, reply-long, r
 use Rattle.apply_serve.proofs.replies.reply_to.Goals as goal
 
 pub returns-in-Ok : goal.returns-in-Ok
-returns-in-Ok c = reply-found c.response_to.result _ _ _ _ _ c.in-Ok.ensures.too_long c.in-Ok.ensures.found c.response_to.ensures c.made.ensures
+returns-in-Ok g c = reply-found c.response_to.result _ _ _ _ _ c.in-Ok.ensures.too_long c.in-Ok.ensures.found c.response_to.ensures c.made.ensures
 
 pub returns-in-Err-TooLong : goal.returns-in-Err-TooLong
-returns-in-Err-TooLong c = reply-long _ _ _ _ (c.in-Err-TooLong.ensures.too_long.0 (ap Err c.in-Err-TooLong.field-0-is)) c.too_long.ensures
+returns-in-Err-TooLong g c = reply-long _ _ _ _ (c.in-Err-TooLong.ensures.too_long.0 (ap Err c.in-Err-TooLong.field-0-is)) c.too_long.ensures
 
 pub returns-in-Err-Syntax : goal.returns-in-Err-Syntax
-returns-in-Err-Syntax c =
-    reply-stops c.no_pipeline.result _ _ _ _ _ (rw c.in-Err-Syntax.field-0-is at c.in-Err-Syntax.ensures.too_long) (rw c.in-Err-Syntax.field-0-is at c.in-Err-Syntax.ensures.syntax) c.no_pipeline.ensures c.made-in-Err-Syntax.ensures
+returns-in-Err-Syntax g c =
+    reply-stops c.no_request.result _ _ _ _ _ (rw c.in-Err-Syntax.field-0-is at c.in-Err-Syntax.ensures.too_long) (rw c.in-Err-Syntax.field-0-is at c.in-Err-Syntax.ensures.syntax) c.no_request.ensures c.made-in-Err-Syntax.ensures
 
 pub returns-in-Err-Memory : goal.returns-in-Err-Memory
-returns-in-Err-Memory c =
+returns-in-Err-Memory g c =
     reply-memory _ _ _ _ (rw c.in-Err-Memory.field-0-is at c.in-Err-Memory.ensures.too_long) c.out_of_memory.ensures

@@ -10,24 +10,24 @@ pub returns-in-Err-Fault : goal.returns-in-Err-Fault
 returns-in-Err-Fault g c =
     read_fault_says _ _ _ _ _ _ (sym c.in-Some.ensures) refl (inr (c.in-Err-Fault.ensures.fault (ap Err c.in-Err-Fault.field-0-is), λ steady. HasOutcome-files _ _ _ _ (sym c.in-Some.ensures) (c.in-Err-Fault.ensures.steady (ap Err c.in-Err-Fault.field-0-is) steady))) refl
 
-pub returns-in-Ok-write_whole : goal.returns-in-Ok-write_whole
-returns-in-Ok-write_whole g c =
+pub returns-in-Ok-write_output : goal.returns-in-Ok-write_output
+returns-in-Ok-write_output g c =
     model_refused_says _ _ _ _ _ _ (sym c.in-Some.ensures) refl (record {
       line = bytes_of c.in-Err-Model.line;
       judged = HasOutcome-files _ _ _ _ (sym c.in-Some.ensures) (rw c.in-Err-Model.field-0-is at c.in-Err-Model.ensures.stop);
-      written = rw (c.bytes.ensures, c.in-Err-Model.line-is) at c.in-Ok-write_whole.ensures.ok;
+      written = rw c.in-Err-Model.line-is at c.in-Ok-write_output.ensures.ok;
     }) refl
 
 pub returns-in-Err : goal.returns-in-Err
 returns-in-Err g c =
-    write_fault_says _ _ _ _ _ _ (sym c.in-Some.ensures) refl c.in-Err.ensures.cause.failed (in_model_line (HasOutcome-files _ _ _ _ (sym c.in-Some.ensures) (rw c.in-Err-Model.field-0-is at c.in-Err-Model.ensures.stop)) (rw (c.bytes.ensures, c.in-Err-Model.line-is) at c.in-Err.ensures.err))
+    write_fault_says _ _ _ _ _ _ (sym c.in-Some.ensures) refl c.in-Err.ensures.cause.failed (in_model_line (HasOutcome-files _ _ _ _ (sym c.in-Some.ensures) (rw c.in-Err-Model.field-0-is at c.in-Err-Model.ensures.stop)) (rw c.in-Err-Model.line-is at c.in-Err.ensures.err))
 
-pub returns-in-Ok-write_whole-2 : goal.returns-in-Ok-write_whole-2
-returns-in-Ok-write_whole-2 g c =
+pub returns-in-Ok-write_whole : goal.returns-in-Ok-write_whole
+returns-in-Ok-write_whole g c =
     data_refused_says _ _ _ _ _ _ (sym c.in-Some.ensures) refl (record {
       line = c.in-Err-Data.line.items;
       judged = HasOutcome-files _ _ _ _ (sym c.in-Some.ensures) (rw c.in-Err-Data.field-0-is at c.in-Err-Data.ensures.stop);
-      written = rw (c.as_slice.ensures.value, c.in-Err-Data.line-is) at c.in-Ok-write_whole-2.ensures.ok;
+      written = rw (c.as_slice.ensures.value, c.in-Err-Data.line-is) at c.in-Ok-write_whole.ensures.ok;
     }) refl
 
 pub returns-in-Err-write_whole : goal.returns-in-Err-write_whole
