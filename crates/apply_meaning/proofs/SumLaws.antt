@@ -1,13 +1,10 @@
 -- The sum of a list of values, as the sum of the mantissas of its numbers.
-use Rattle.std.proofs.Common.{◌≡◌, ◌++◌, ℕ, zero, suc, ◌+◌, ◌-◌, ◌^◌, ◌<◌, max, Bool, true, false, not, ◌&&◌, ◌||◌, List, [], ◌∷◌, map, filter, fold, take, length, get_or, slice_get, ℤ, pos, ◌+ℤ◌, ◌*ℤ◌, IsTrue, Some, None, if◌then◌else◌, ◌≤◌, refl, ap, sym, ◌∙◌, arith, eqb-true}
-use Rattle.std.specs.declared.option.Option.{Option}
+use Rattle.std.proofs.Common.{◌≡◌, ◌++◌, ℕ, ◌+◌, ◌-◌, ◌^◌, ◌<◌, max, Bool, true, false, not, ◌&&◌, ◌||◌, List, [], ◌∷◌, map, filter, fold, take, length, get_or, ℤ, pos, ◌+ℤ◌, ◌*ℤ◌, IsTrue, Some, None, if◌then◌else◌, refl, ap, sym, ◌∙◌, arith, eqb-true}
 use Rattle.std.specs.Option.{option_map, unwrap_or}
 use Rattle.std.specs.List.{list_any, list_all}
 use Rattle.std.proofs.lemmas.Bool.{false≢true, and_from}
 use Rattle.std.proofs.lemmas.Int.{ints}
-use Rattle.std.proofs.lemmas.List.{length-map, map_more, take_all}
-use Rattle.std.proofs.lemmas.List.Folds.{list_any_more}
-use Rattle.std.proofs.lemmas.List.Sums.{fold_more}
+use Rattle.std.proofs.lemmas.List.{map_more}
 use Rattle.std.proofs.Math.IntN.{zero-*ℤ}
 use Rattle.std.proofs.Math.Nat.{sub_self, zero-max}
 use Rattle.edm_values.specs.declared.EdmType.{EdmType}
@@ -17,15 +14,9 @@ use Rattle.edm_values.specs.declared.Value.{Value}
 use Rattle.std.specs.Prelude.{find, cond}
 use Rattle.edm_values.specs.Lists.{is_nonempty}
 use Rattle.edm_values.specs.Literals.{is_number_kind, is_of_kind}
-use Rattle.edm_values.specs.Values.{Number, number_of, number_part, number_plus, is_beyond, integer, dec, is_integer, is_null, is_number, seen_value, total, value_in}
-use Rattle.edm_data.specs.Fitting.{FitsModel, is_value_of, are_values_of}
-use Rattle.edm_data.specs.References.{entities_of}
-use Rattle.edm_data.specs.Worlds.{World}
-use Rattle.edm_data.proofs.TableLemmas.{key_there}
-use Rattle.edm_model.specs.LookUps.{properties_of, property_at, set_type}
-use Rattle.edm_model.specs.Models.{Model, Property, Part}
-use Rattle.apply_meaning.specs.Aggregates.{aggregate, exact_sum}
-use Rattle.apply_meaning.specs.Sums.{number_in, sum_of, HasNumberType}
+use Rattle.edm_values.specs.Values.{Number, number_of, number_part, number_plus, is_beyond, integer, dec, is_integer, is_null, is_number, seen_value, total}
+use Rattle.edm_data.specs.Fitting.{is_value_of}
+use Rattle.apply_meaning.specs.Aggregates.{aggregate, exact_sum, number_in}
 
 -- ---- the sum of mantissas
 
@@ -36,24 +27,6 @@ amount v = (number_part v).0
 -- a number and the mantissas of a list
 abbrev pub amounts : ℤ → List Value → ℤ
 amounts = fold (λ a v. a +ℤ amount v)
-
--- the sum of the mantissas of the first k values, and whether a number is among them
-pub record IsSumOf (vs : List Value) (k : ℕ) (sum : ℤ) (found : Bool) : Type 0 where
-  pub sum_is : sum ≡ amounts (pos 0) (take k vs)
-  pub found_is : found ≡ list_any is_number (take k vs)
-
--- the values of a property
-abbrev pub column : ℕ → List (List Value) → List Value
-column p rows = map (λ vs. value_in vs p) rows
-
-pub IsSumOf-more : (rows : List (List Value)) (p k : ℕ) (sum : ℤ) (found : Bool) (v : Value) → IsSumOf (column p rows) k sum found → k < length rows → v ≡ value_in (unwrap_or (slice_get rows k) []) p → IsSumOf (column p rows) (k + 1) (sum +ℤ amount v) (found || is_number v)
-IsSumOf-more rows p k sum found v h within is =
-    let there : k < length (column p rows) = rw length-map within in
-    let here : v ≡ get_or (column p rows) k Value.Null = is ∙ key_there rows p k in
-    record {
-      sum_is = (λ i. h.sum_is i +ℤ amount (here i)) ∙ sym (fold_more (λ a v. a +ℤ amount v) (pos 0) (column p rows) k Value.Null there);
-      found_is = (λ i. h.found_is i || is_number (here i)) ∙ sym (list_any_more is_number (column p rows) k Value.Null there);
-    }
 
 -- ---- values of a type of numbers
 
@@ -291,54 +264,3 @@ pub amounts-more : (vs : List Seen) (k : ℕ) (d : Seen) → k < length vs → d
 amounts-more vs k d h e =
     ap (amounts (pos 0)) (map_more seen_value vs k d h) ∙ amounts-append (pos 0) (map seen_value (take k vs)) (seen_value (get_or vs k d))
     ∙ ap (λ v. amounts (pos 0) (map seen_value (take k vs)) +ℤ amount (seen_value v)) (sym e)
-
--- ---- the values of a property of a world
-
-value_fits : (ps : List Property) (q : Property) (vs : List Value) (p : ℕ) → are_values_of ps vs ≡ true → slice_get ps p ≡ Some q → is_value_of q (value_in vs p) ≡ true
-value_fits [] q vs p h e = cc
-value_fits (r ∷ ps) q [] p h e = absurd (false≢true h)
-value_fits (r ∷ ps) q (v ∷ vs) zero h e =
-    let same : r ≡ q = cc in
-    ap (λ x. is_value_of x v) (sym same) ∙ and_first _ _ h
-value_fits (r ∷ ps) q (v ∷ vs) (suc p) h e = value_fits ps q vs p (and_second (is_value_of r v) _ h) e
-
-column-fits : (ps : List Property) (q : Property) (p : ℕ) (rows : List (List Value)) → slice_get ps p ≡ Some q → ((k : ℕ) (vs : List Value) → slice_get rows k ≡ Some vs → are_values_of ps vs ≡ true) → list_all (is_value_of q) (column p rows) ≡ true
-column-fits ps q p [] e each = refl
-column-fits ps q p (r ∷ rows) e each =
-    and_from _ _ (value_fits ps q r p (each zero r refl) e) (column-fits ps q p rows e (λ k vs h. each (suc k) vs h))
-
--- the property, of a type of numbers, whose kind was read
-pub record IsNumeric (w : World) (s : ℕ) (p : Part) (kind : EdmType) : Type 0 where
-  pub fitting : FitsModel w
-  pub of : p.of ≡ set_type w.model s
-  pub number : HasNumberType w.model p
-  pub kind_is : option_map (λ q. q.kind) (property_at w.model p) ≡ Some kind
-
-pub IsNumeric-read : (w : World) (m : Model) (s : ℕ) (p : Part) (kind : EdmType) → FitsModel w → m ≡ w.model → p.of ≡ set_type w.model s → HasNumberType w.model p → option_map (λ q. q.kind) (property_at m p) ≡ Some kind → IsNumeric w s p kind
-IsNumeric-read w m s p kind fitting same of number read = record {
-  fitting = fitting;
-  of = of;
-  number = number;
-  kind_is = ap (λ x. option_map (λ q. q.kind) (property_at x p)) (sym same) ∙ read;
-}
-
-property-read : (o : Option Property) (kind : EdmType) → option_map (λ q. q.kind) o ≡ Some kind → (q : Property) × (o ≡ Some q) × (q.kind ≡ kind)
-property-read None kind h = cc
-property-read (Some q) kind h = (q, refl, cc)
-
--- the sum of a list that fits, by whether a number is in it
-sum-by_found : (q : Property) (vs : List Value) (found : Bool) → IsTrue (is_number_kind q.kind) → list_all (is_value_of q) vs ≡ true → found ≡ list_any is_number vs → aggregate method.Sum vs ≡ (if found then number_in q.kind (amounts (pos 0) vs) else Value.Null)
-sum-by_found q vs true k h n = aggregate-found q.kind q.nullable vs true k h (sym n) ∙ exact_sum-kept q.kind q.nullable vs k h (sym n)
-sum-by_found q vs false k h n = aggregate-found q.kind q.nullable vs false k h (sym n)
-
--- the sum of a property, by what is known of the values of all entities
-pub sum_of-found : (w : World) (s : ℕ) (p : Part) (kind : EdmType) (n : ℕ) (sum : ℤ) (found : Bool) → IsNumeric w s p kind → IsSumOf (column p.at (entities_of w s)) n sum found → length (entities_of w s) ≤ n → (if found then number_in kind sum else Value.Null) ≡ sum_of w s p.at
-sum_of-found w s p kind n sum found numeric so_far all =
-    let vs : List Value = column p.at (entities_of w s) in
-    let read : (q : Property) × (property_at w.model p ≡ Some q) × (q.kind ≡ kind) = property-read (property_at w.model p) kind numeric.kind_is in
-    let there : slice_get (properties_of w.model (set_type w.model s)) p.at ≡ Some read.0 = ap (λ t. slice_get (properties_of w.model t) p.at) (sym numeric.of) ∙ read.1 in
-    let fit : list_all (is_value_of read.0) vs ≡ true = column-fits _ read.0 p.at (entities_of w s) there (numeric.fitting.rows s) in
-    let whole : take n vs ≡ vs = take_all n vs (rw length-map all) in
-    let by_found = sum-by_found read.0 vs found (numeric.number read.0 read.1) fit (so_far.found_is ∙ ap (list_any is_number) whole) in
-    let same : sum ≡ amounts (pos 0) vs = so_far.sum_is ∙ ap (amounts (pos 0)) whole in
-    (λ i. if found then number_in (sym read.2 i) (same i) else Value.Null) ∙ sym by_found

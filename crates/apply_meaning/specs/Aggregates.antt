@@ -1,10 +1,16 @@
 -- Aggregates of lists of values (Data Aggregation 4.0, section 3.2.1).
-use Rattle.std.specs.Prelude.{pos, not, List, length, filter, if◌then◌else◌}
+use Rattle.std.specs.Prelude.{ℤ, pos, not, List, length, filter, if◌then◌else◌}
 use Rattle.std.specs.List.{list_any, list_all}
+use Rattle.edm_values.specs.declared.EdmType.{EdmType}
 use Rattle.edm_values.specs.declared.Value.{Value}
 use Rattle.edm_values.specs.declared.Method.{Method}
 use Rattle.edm_values.specs.Lists.{is_nonempty, sorted, distinct, first_or}
 use Rattle.edm_values.specs.Values.{is_beyond, is_null, is_integer, same_value, total, value_before, integer, dec}
+
+-- the number of a numeric type with this mantissa, or `Beyond` where it is past the type's range
+abbrev pub number_in : EdmType → ℤ → Value
+number_in (EdmType.Dec scale precision) m = dec m scale
+number_in _ m = integer m
 
 -- the exact sum of numbers of one type, or `Beyond` where it is past the type's range
 abbrev pub exact_sum : List Value → Value

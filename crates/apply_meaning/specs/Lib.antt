@@ -23,4 +23,3 @@ pub mod Meaning
 pub mod MeaningLaws
 pub mod RowViews
 pub mod Running
-pub mod Sums

@@ -15,8 +15,8 @@
 //! It promises that a row is the instance that it was made of (`specs/Instances`, `specs/RowViews`), that `lookup` and
 //! `eval` are the definitions `lookup` and `val` on it, whatever the types of the expression's parts, and that `aggregate`
 //! is the aggregate of its values (`specs/Aggregates`). `specs/Meaning` says what each pipeline makes of a list of
-//! instances: `run_plain` gives that, and is refused exactly where it is (`specs/Running`). `first_sum` is the sum of a
-//! property over a set. `lookup`, `eval`, `skip_rows`, `top_rows` and `first_sum` take no memory.
+//! instances: `run_plain` gives that, and is refused exactly where it is (`specs/Running`). `lookup`, `eval`,
+//! `skip_rows` and `top_rows` take no memory.
 //!
 //! `laws` has the laws of these definitions: on instances that fit a shape, values have their types, sure expressions are
 //! never `Beyond`, what a typed pipeline gives fits its shape, and a quiet one is never refused.
@@ -51,4 +51,3 @@ pub use refusals::RunRefused;
 pub use rows::Row;
 pub use sets::set_rows;
 pub use steps::Steps;
-pub use sums::first_sum;

@@ -4,7 +4,7 @@ use Rattle.std.specs.Int.{w128}
 use Rattle.std.proofs.lemmas.Int.{ints}
 use Rattle.std.proofs.lemmas.List.{take_all}
 use Rattle.edm_values.specs.Values.{seen_value}
-use Rattle.apply_meaning.specs.Sums.{number_in}
+use Rattle.apply_meaning.specs.Aggregates.{number_in}
 use Rattle.apply_meaning.proofs.SumLaws.{amount, amounts, amounts-more, first-number, no-number, sum-none, sum-there}
 use Rattle.apply_meaning.proofs.sums.sum.Goals as goal
 
