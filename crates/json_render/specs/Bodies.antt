@@ -14,8 +14,9 @@ use Rattle.edm_model.specs.LookUps.{type_of_set}
 use Rattle.edm_data.specs.References.{property}
 use Rattle.edm_values.specs.Names.{Path}
 use Rattle.apply_meaning.specs.Instances.{Instance}
-use Rattle.context_typing.specs.Shapes.{ColumnShape, Shape}
+use Rattle.context_typing.specs.Shapes.{Shape}
 use Rattle.context_typing.specs.Paths.{same_path}
+use Rattle.context_typing.specs.Typing.{all_prefixes}
 
 -- ---- lists by path, seen from a place: a path that has ended there is empty
 
@@ -61,30 +62,42 @@ depth_of xs = fold (λ d x. max d (suc (length x.0))) 1 xs
 
 -- ---- the context URL (OData Protocol 4.01, section 10)
 
--- the entity types by prefix, the root's at the empty one, and the columns by path
-abbrev pub shape_prefixes : Shape → List (Path × ℕ)
-shape_prefixes s = unwrap_or (option_map (λ r. ([], r.of) ∷ []) s.root) [] ++ map (λ p. (p.path, p.of)) s.prefixes
+-- the paths of the prefixes, the root's the empty one
+abbrev pub shape_prefixes : Shape → List Path
+shape_prefixes s = map (λ x. x.path) (all_prefixes s)
 
--- the columns by path
-abbrev pub shape_columns : Shape → List (Path × ColumnShape)
-shape_columns s = map (λ c. (c.path, c)) s.columns
+-- the paths of the columns
+abbrev pub shape_columns : Shape → List Path
+shape_columns s = map (λ c. c.path) s.columns
+
+-- the paths under a segment, seen from there
+abbrev pub paths_under : List ℕ → List Path → List Path
+paths_under name ps = filter_map (after_segment name) ps
+
+-- the paths that go on
+abbrev pub going_on : List Path → List Path
+going_on ps = filter (λ p. not (is_here p)) ps
+
+-- more segments than any of the paths has
+abbrev pub depth_of_paths : List Path → ℕ
+depth_of_paths ps = fold (λ d p. max d (suc (length p))) 1 ps
 
 -- items in parentheses, with a comma between
 abbrev pub parenthesised : List (List ℕ) → List ℕ
 parenthesised items = 40 ∷ join_with_byte 44 items ++ 41 ∷ []
 
 -- the items at a place, at most d segments deep: `*` for an entity, and then by byte order each column's name and each segment with its own items
-abbrev pub items_at : ℕ → List (Path × ℕ) → List (Path × ColumnShape) → List (List ℕ)
+abbrev pub items_at : ℕ → List Path → List Path → List (List ℕ)
 items_at zero prefixes columns = []
 items_at (suc d) prefixes columns =
-    (if list_any (λ p. is_here p.0) prefixes then codes "*" ∷ [] else [])
-    ++ flat_map (λ n. (if list_any (λ c. is_here c.0) (under n columns) then n ∷ [] else [])
-    ++ (if is_empty (under n prefixes) && is_empty (further (under n columns)) then [] else (n ++ parenthesised (items_at d (under n prefixes) (further (under n columns)))) ∷ []))
-    (in_byte_order (names_of prefixes ++ names_of columns))
+    (if list_any is_here prefixes then codes "*" ∷ [] else [])
+    ++ flat_map (λ n. (if list_any is_here (paths_under n columns) then n ∷ [] else [])
+    ++ (if is_empty (paths_under n prefixes) && is_empty (going_on (paths_under n columns)) then [] else (n ++ parenthesised (items_at d (paths_under n prefixes) (going_on (paths_under n columns)))) ∷ []))
+    (in_byte_order (flat_map first_names prefixes ++ flat_map first_names columns))
 
 -- the items of a shape, seen from the root
 abbrev pub shape_items : Shape → List (List ℕ)
-shape_items s = items_at (max (depth_of (shape_prefixes s)) (depth_of (shape_columns s))) (shape_prefixes s) (shape_columns s)
+shape_items s = items_at (max (depth_of_paths (shape_prefixes s)) (depth_of_paths (shape_columns s))) (shape_prefixes s) (shape_columns s)
 
 -- the set's name, and the items where the shape has more than the root
 abbrev pub context : List ℕ → Shape → List ℕ
@@ -151,7 +164,7 @@ members_at (suc d) w prefixes columns =
 
 -- an instance as a JSON object
 abbrev pub row_json : World → Shape → Instance → Data
-row_json w s i = object_of (members_at (max (depth_of i.prefixes) (depth_of i.columns)) w i.prefixes (shown_columns s i))
+row_json w s i = object_of (members_at (max (depth_of i.prefixes) (depth_of (shown_columns s i))) w i.prefixes (shown_columns s i))
 
 -- ---- bodies
 

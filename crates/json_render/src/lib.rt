@@ -1,37 +1,25 @@
-//! A stub with the contract alone.
+//! Response bodies (JSON Format 4.01, sections 7 and 12, in this profile's exact form).
+//!
+//! `render` writes the body of a list of rows of one shape. `context` has the context; `members` makes the template of a
+//! row, which is the text of all rows of its form with a gap for each value (`templates`), by sorting its prefixes, columns
+//! and properties by name, segment by segment (`entries`); `patterns` says which rows have one form; `body` looks a row's
+//! template up or has it made, and fills its gaps (`texts`). Segments wait in a list of their own, so that a path of any
+//! length takes no stack.
+//!
+//! The crate stands on `apply_meaning` for rows, on `context_typing` for shapes, on `edm_data` and `edm_model` for the
+//! properties of entities and their names, on `edm_values` for the plain texts of numbers and days, and on `serde_json` for
+//! texts with characters that are escaped.
+//!
+//! It promises that the bytes are those of `body` in `specs/Bodies`, and that a body is refused for its range exactly where
+//! a value to be printed is past it. `docs/bodies.md` states the rules.
 #![tactic(auto)]
-ghost use Rattle.std.specs.Prelude.{◌≡◌, IfOk, Some, None, Err};
-ghost use Rattle.edm_model.specs.LookUps.{IsSet, set_name};
-ghost use Rattle.apply_meaning.specs.MeaningLaws.{AllFit};
-ghost use Rattle.json_render.specs.Bodies as spec;
 
-use apply_meaning::Row;
-use context_typing::Shape;
-use edm_data::Data;
-use edm_model::SetId;
-use std::alloc::Global;
+mod body;
+mod context;
+mod entries;
+mod members;
+mod patterns;
+mod templates;
+mod texts;
 
-/// Why rows have no body.
-#[derive(Clone, Copy, Debug, PartialEq, Eq, Drop)]
-pub enum RenderRefused {
-    /// A value to be printed is past its range.
-    Range,
-    /// The body does not fit in memory.
-    Memory,
-}
-
-/// The body of rows of a shape.
-pub fn render(
-    alloc: Global,
-    store: &Data,
-    set: SetId,
-    shape: &Shape,
-    rows: &[Row],
-) -> Result<Vec<u8>, RenderRefused>
-    requires set { IsSet store.now.model set }
-    requires fit { AllFit store.now shape.now rows.now }
-    ensures ok { IfOk result (λ b. spec.body store.now (set_name store.now.model set) shape.now rows.now ≡ Some b.items) }
-    ensures range { result ≡ Err RenderRefused.Range → spec.body store.now (set_name store.now.model set) shape.now rows.now ≡ None }
-{
-    Err(RenderRefused::Memory)
-}
+pub use body::{RenderRefused, render};

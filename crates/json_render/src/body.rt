@@ -1,0 +1,226 @@
+//! Bodies (JSON Format 4.01, "Collection of Entities").
+ghost use Rattle.std.specs.Prelude.{◌≡◌, ◌++◌, ◌<◌, All, List, length, nat_lt, slice_get, slice_index_or, false, true, Some, None, Err, IfOk, IfSome, OnOk};
+ghost use Rattle.std.specs.List.{list_any};
+ghost use Rattle.serde_json.specs.Written.{comma_if};
+ghost use Rattle.edm_model.specs.LookUps.{IsSet, set_name};
+ghost use Rattle.edm_data.specs.Worlds.{World};
+ghost use Rattle.context_typing.specs.Shapes.{Shape};
+ghost use Rattle.apply_meaning.specs.Instances.{Instance, no_instance};
+ghost use Rattle.apply_meaning.specs.MeaningLaws.{AllFit};
+ghost use Rattle.json_render.specs.Bodies as spec;
+ghost use Rattle.json_render.specs.RowRuns.{IsKnown, Serves, row_text, rows_run};
+ghost use Rattle.json_render.specs.RowTexts.{template_text};
+ghost use Rattle.json_render.specs.declared.body.RenderRefused.TheVariants as RenderRefused;
+
+use crate::context::context;
+use crate::members::row_template;
+use crate::patterns::same_pattern;
+use crate::templates::Template;
+use crate::texts::push_text;
+use apply_meaning::Row;
+use context_typing::Shape;
+use edm_data::Data;
+use edm_model::SetId;
+use edm_values::Value;
+use std::alloc::{AllocError, AllocFailed, Global};
+use thiserror::Error;
+
+/// How many templates are kept at a time.
+const TEMPLATES_MAX: usize = 64;
+
+/// Why rows have no body.
+#[derive(Clone, Copy, Debug, PartialEq, Eq, Error)]
+pub enum RenderRefused {
+    /// A value to be printed is past its range.
+    #[error("a number is past its range")]
+    Range,
+    /// The body does not fit in memory.
+    #[error("there is not enough memory")]
+    Memory,
+}
+
+impl<T: Drop> From<AllocFailed<T>> for RenderRefused {
+    ghost use Rattle.std.specs.Prelude.{◌≡◌};
+    ghost use Rattle.json_render.specs.declared.body.RenderRefused.TheVariants.{Memory};
+
+    ghost from_gives = { λ _ e. e ≡ Memory };
+
+    fn from(_: AllocFailed<T>) -> RenderRefused {
+        RenderRefused::Memory
+    }
+}
+
+impl From<AllocError> for RenderRefused {
+    ghost use Rattle.std.specs.Prelude.{◌≡◌};
+    ghost use Rattle.json_render.specs.declared.body.RenderRefused.TheVariants.{Memory};
+
+    ghost from_gives = { λ _ e. e ≡ Memory };
+
+    fn from(_: AllocError) -> RenderRefused {
+        RenderRefused::Memory
+    }
+}
+
+/// The template of the rows that have the pattern of the row at this place.
+#[derive(Debug, Drop)]
+pub(crate) struct Known {
+    pub row: usize,
+    pub template: Template,
+}
+
+/// Whether a column of the row is past its range.
+fn has_beyond(row: &Row) -> bool
+    ensures { result ≡ spec.has_beyond row.now }
+{
+    row.columns()
+        .iter()
+        .any(|column| matches!(column.1, Value::Beyond))
+}
+
+/// Whether the template is one of this row.
+fn serves(rows: &[Row], row: &Row, known: &Known) -> bool
+    requires { known.now.row < length rows.now }
+    ensures { (w : World) (s : Shape) → IsKnown w s rows.now known.now → result ≡ true → template_text w row.now known.now.template ≡ row_text w s row.now }
+{
+    same_pattern(&rows[known.row], row)
+}
+
+/// The place of the template of this row among the known ones.
+fn known_at(rows: &[Row], row: &Row, known: &[Known]) -> Option<usize>
+    requires { All (λ k. k.row < length rows.now) known.now }
+    ensures { (w : World) (s : Shape) → All (IsKnown w s rows.now) known.now → IfSome result (Serves w s row.now known.now) }
+{
+    for (k, other) in known.iter().enumerate() {
+        if serves(rows, row, other) {
+            return Some(k);
+        }
+    }
+    None
+}
+
+/// The place of the template of this row among the known ones, tried first at the one that served last.
+fn known_near(rows: &[Row], row: &Row, known: &[Known], last: usize) -> Option<usize>
+    requires { All (λ k. k.row < length rows.now) known.now }
+    ensures { (w : World) (s : Shape) → All (IsKnown w s rows.now) known.now → IfSome result (Serves w s row.now known.now) }
+{
+    if last < known.len() && serves(rows, row, &known[last]) {
+        return Some(last);
+    }
+    known_at(rows, row, known)
+}
+
+/// Adds a template, in the place of all others where there are many.
+fn add_known(known: &mut Vec<Known>, row: usize, template: Template) -> Result<usize, AllocError>
+    ensures known { (w : World) (s : Shape) (rows : List Instance) → All (IsKnown w s rows) known.old.items → IsKnown w s rows (record { row = row; template = template }) → OnOk result (All (IsKnown w s rows) known.new.items) }
+    ensures place { IfOk result (λ at. (at < length known.new.items) × (slice_get known.new.items at ≡ Some (record { row = row; template = template }))) }
+{
+    if known.len() >= TEMPLATES_MAX {
+        known.clear();
+    }
+    known.push(Known { row, template })?;
+    Ok(known.len() - 1)
+}
+
+/// The place of the template of the row at this place; one that is not known is made.
+fn template_at(
+    alloc: Global,
+    store: &Data,
+    shape: &Shape,
+    rows: &[Row],
+    row: usize,
+    known: &mut Vec<Known>,
+    last: usize,
+) -> Result<usize, AllocError>
+    requires fit { AllFit store.now shape.now rows.now }
+    requires there { row < length rows.now }
+    requires known { All (IsKnown store.now shape.now rows.now) known.old.items }
+    ensures serves { IfOk result (Serves store.now shape.now (slice_index_or rows.now row no_instance) known.new.items) }
+    ensures known { OnOk result (All (IsKnown store.now shape.now rows.now) known.new.items) }
+{
+    match known_near(rows, &rows[row], known, last) {
+        Some(place) => Ok(place),
+        None => {
+            let template = row_template(alloc, store, shape, &rows[row])?;
+            let place = add_known(known, row, template)?;
+            Ok(place)
+        }
+    }
+}
+
+/// Appends the row at this place, with a comma before all but the first; the place of its template.
+fn push_row(
+    alloc: Global,
+    store: &Data,
+    shape: &Shape,
+    rows: &[Row],
+    k: usize,
+    known: &mut Vec<Known>,
+    last: usize,
+    body: &mut Vec<u8>,
+) -> Result<usize, RenderRefused>
+    requires fit { AllFit store.now shape.now rows.now }
+    requires there { k < length rows.now }
+    requires known { All (IsKnown store.now shape.now rows.now) known.old.items }
+    ensures ok { OnOk result (body.new.items ≡ body.old.items ++ (comma_if (nat_lt 0 k) ++ row_text store.now shape.now (slice_index_or rows.now k no_instance))) }
+    ensures in_range { OnOk result (spec.has_beyond (slice_index_or rows.now k no_instance) ≡ false) }
+    ensures range { result ≡ Err RenderRefused.Range → spec.has_beyond (slice_index_or rows.now k no_instance) ≡ true }
+    ensures known { OnOk result (All (IsKnown store.now shape.now rows.now) known.new.items) }
+{
+    let row = &rows[k];
+    if has_beyond(row) {
+        return Err(RenderRefused::Range);
+    }
+    if k > 0 {
+        body.push(b',')?;
+    }
+    let place = template_at(alloc, store, shape, rows, k, known, last)?;
+    let found = &known[place];
+    found.template.push_row(alloc, store, row, body)?;
+    Ok(place)
+}
+
+/// Appends the rows with a comma between.
+fn push_rows(
+    alloc: Global,
+    store: &Data,
+    shape: &Shape,
+    rows: &[Row],
+    body: &mut Vec<u8>,
+) -> Result<(), RenderRefused>
+    requires { AllFit store.now shape.now rows.now }
+    ensures ok { OnOk result (body.new.items ≡ body.old.items ++ rows_run store.now shape.now false rows.now) }
+    ensures in_range { OnOk result (list_any spec.has_beyond rows.now ≡ false) }
+    ensures range { result ≡ Err RenderRefused.Range → list_any spec.has_beyond rows.now ≡ true }
+{
+    let mut known = Vec::new(alloc);
+    let mut last = 0;
+    for k in 0..rows.len() {
+        last = push_row(alloc, store, shape, rows, k, &mut known, last, body)?;
+    }
+    Ok(())
+}
+
+/// The body of rows of a shape, over the entity set that the request addresses. It is made in time that grows with its
+/// length. `Range` where a value to be printed is past its range; `Memory` where the body does not fit in memory, which
+/// says nothing of the rows.
+pub fn render(
+    alloc: Global,
+    store: &Data,
+    set: SetId,
+    shape: &Shape,
+    rows: &[Row],
+) -> Result<Vec<u8>, RenderRefused>
+    requires set { IsSet store.now.model set }
+    requires rows { AllFit store.now shape.now rows.now }
+    ensures ok { IfOk result (λ b. spec.body store.now (set_name store.now.model set) shape.now rows.now ≡ Some b.items) }
+    ensures range { result ≡ Err RenderRefused.Range → spec.body store.now (set_name store.now.model set) shape.now rows.now ≡ None }
+{
+    let mut body = Vec::new(alloc);
+    body.extend_from_slice(b"{\"@context\":")?;
+    let context = context(alloc, store.model().set_name(set), shape)?;
+    push_text(alloc, context.as_str(), &mut body)?;
+    body.extend_from_slice(b",\"value\":[")?;
+    push_rows(alloc, store, shape, rows, &mut body)?;
+    body.extend_from_slice(b"]}")?;
+    Ok(body)
+}
