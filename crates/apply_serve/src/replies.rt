@@ -75,7 +75,13 @@ fn body_of<L: Ledger>(
     let rows = run(alloc, store.data(), store.customs(), &plan, steps)?;
     let typed = plan.typed();
     rows_fit(store, typed, &rows);
-    match render(alloc, store.data(), typed.set, &typed.shape, rows.as_slice()) {
+    match render(
+        alloc,
+        store.data(),
+        typed.set,
+        &typed.shape,
+        rows.as_slice(),
+    ) {
         Ok(body) => Ok(body),
         Err(RenderRefused::Range) => Err(RunRefused::Range),
         Err(RenderRefused::Memory) => Err(RunRefused::Memory),
