@@ -1,26 +1,22 @@
-//! The service: it answers `$apply` requests over typed entity sets that are read from two JSON files.
+//! The program: it serves over the real files, standard input and standard output.
 //!
-//! [`service::serve`] is the one public call: the program's `main` makes the real objects and calls it. It stands on every
-//! other crate: `apply_io` for the outside, `edm_model` and `edm_data` for the files, `apply_grammar` and `apply_ast` for
-//! the lines, `context_typing` for which pipelines and custom aggregates have a typing, `apply_meaning` for what requests
-//! mean, `optimiser` and `plan_run` for running them, `json_render` for bodies, `edm_values` for values. Its contract is the service's promise: where the status is Served, nothing of the input is
-//! left and one framed response for each of its lines was written, in order, each the answer that the definitions in
-//! `specs/` give; and every other status, want of memory aside, comes only where it has its cause.
+//! `main` makes the real objects, calls [`apply_service::serve`] with the words after the program's name, tells on standard
+//! error what was wrong where something was, and ends with the number of the status. It stands on `apply_service` for the
+//! service and on `apply_io` for the objects.
 //!
-//! `words` has the command's words, `file` and `load` read and judge the files, `customs` the custom aggregates, `store` is
-//! what requests are answered over, `input` reads the input, `lines` cuts it into lines, `replies` has the reply to a line,
-//! `responses` frames and errors, `refusals` the lines of refused files, `output` the bytes to be written, and `write`
-//! writes.
+//! It promises that `run`, which makes the counter of steps, says of a run what `serve` says, and that the number that the
+//! program ends with is that of the status.
 #![tactic(auto)]
 
 ghost use Rattle.std.specs.Prelude.{◌≡◌, ◌<◌};
-ghost use Rattle.apply_serve.specs.ExitCodes.{exit_code};
-ghost use Rattle.apply_serve.specs.Service.{Run, Says};
-ghost use Rattle.apply_serve.specs.Words.{texts_of};
+ghost use Rattle.apply_service.specs.ExitCodes.{exit_code};
+ghost use Rattle.apply_service.specs.Service.{Run, Says};
+ghost use Rattle.apply_service.specs.Words.{texts_of};
 
 use apply_io::{DiskFolder, Folder, Sink, Source, StdSink, StdSource};
 use apply_meaning::Steps;
-use service::{INPUT_LIMIT, Status, serve};
+use apply_service::{INPUT_LIMIT, Status, serve};
+use par_stages::NoGate;
 use std::alloc::Global;
 use std::env::Env;
 use std::marker::Brand;
@@ -28,38 +24,6 @@ use std::process::ExitCode;
 use std::sync::ledger::{Blank, Ledger};
 use std::thread::Threads;
 use std::{env, io};
-
-pub mod customs;
-mod file;
-mod input;
-mod lines;
-mod load;
-mod output;
-mod refusals;
-mod replies;
-mod responses;
-pub mod service;
-mod store;
-#[cfg(test)]
-mod tests;
-mod words;
-mod write;
-
-/// The number that the program ends with.
-fn code(status: Status) -> u8
-    ensures { result ≡ exit_code status }
-{
-    match status {
-        Status::Served => 0,
-        Status::Usage => 1,
-        Status::ModelRefused => 2,
-        Status::DataRefused => 3,
-        Status::ReadFault => 4,
-        Status::WriteFault => 5,
-        Status::Memory => 6,
-        Status::InputLimit => 7,
-    }
-}
 
 /// How a run of the service ended, and the number that tells it.
 #[derive(Clone, Copy, Debug)]
@@ -99,10 +63,10 @@ fn run<R: Threads + Sync, F: Folder, S: Source, K: Sink, L: Ledger>(
     }) (F.is_steady folder.old) (folder.new ≡ folder.old) (input.new ≡ input.old) (output.new ≡ output.old) }
 {
     let mut steps = Steps::<L>::new(blank);
-    let status = serve(rt, alloc, words, folder, input, output, &mut steps);
+    let status = serve(rt, alloc, words, folder, input, output, &NoGate, &mut steps);
     Ended {
         status,
-        number: code(status),
+        number: status.number(),
     }
 }
 
@@ -167,7 +131,7 @@ fn main(rt: HostRuntime) -> ExitCode {
         Ok(words) => words,
         Err(status) => {
             let _ = explain(&rt, status, &[], None, 0);
-            return ExitCode::from(code(status));
+            return ExitCode::from(status.number());
         }
     };
     let mut folder = DiskFolder::new(&rt);

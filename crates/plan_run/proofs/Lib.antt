@@ -1,4 +1,12 @@
 pub mod CostEquations
+pub mod CustomLemmas
+pub mod FormLemmas
+pub mod GroupLemmas
+pub mod KeysApart
+pub mod LevelLemmas
+pub mod LevelPlaces
 pub mod OrderLemmas
 pub mod PlanLemmas
+pub mod RootLemmas
 pub mod RunLemmas
+pub mod RunLevels

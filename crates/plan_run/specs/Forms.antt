@@ -1,17 +1,36 @@
 -- The pipelines that are run.
-use Rattle.std.specs.Prelude.{◌||◌, Bool, true, false}
-use Rattle.apply_ast.specs.Trees.{Pipe, Step}
-use Rattle.apply_meaning.specs.Running.{all_steps, is_plain_step}
+use Rattle.std.specs.Prelude.{◌&&◌, Bool, true, false}
+use Rattle.apply_ast.specs.Trees.{Key, Keys, OptPipe, Pipe, Step}
 
--- the transformation is an order
-abbrev pub is_order : Step → Bool
-is_order (Step.OrderBy items) = true
-is_order _ = false
+-- a plain key or a rollup
+abbrev pub is_built_key : Key → Bool
+is_built_key (Key.Recursive h p T) = false
+is_built_key k = true
 
--- a plain transformation or an order
-abbrev pub is_built_step : Step → Bool
-is_built_step s = is_order s || is_plain_step s
+-- all keys are
+abbrev pub are_built_keys : Keys → Bool
+are_built_keys Keys.NoKeys = true
+are_built_keys (Keys.MoreKeys k ks) = is_built_key k && are_built_keys ks
 
--- a pipeline of such transformations
-abbrev pub is_built : Pipe → Bool
-is_built = all_steps is_built_step
+abbrev mutual
+  -- all transformations of a pipeline are run
+  pub is_built : Pipe → Bool
+  is_built Pipe.End = true
+  is_built (Pipe.Then s p) = is_built_step s && is_built p
+
+  -- the inner pipeline is run, where there is one
+  pub is_built_inner : OptPipe → Bool
+  is_built_inner OptPipe.NoPipe = true
+  is_built_inner (OptPipe.SomePipe p) = is_built p
+
+  -- a transformation that is run: a grouping only where each of its keys is plain or a rollup
+  pub is_built_step : Step → Bool
+  is_built_step Step.Identity = true
+  is_built_step (Step.Filter e) = true
+  is_built_step (Step.Compute items) = true
+  is_built_step (Step.OrderBy items) = true
+  is_built_step (Step.Skip n) = true
+  is_built_step (Step.Top n) = true
+  is_built_step (Step.Aggregate items) = true
+  is_built_step (Step.GroupBy ks T) = are_built_keys ks && is_built_inner T
+  is_built_step s = false

@@ -9,6 +9,11 @@ pub use Rattle.apply_meaning.specs.Meaning
 pub use Rattle.apply_meaning.specs.RowViews
 pub use Rattle.apply_meaning.specs.Running
 pub use Rattle.apply_meaning.specs.Aggregates
+pub use Rattle.group_rollup.specs.Groupings
+pub mod Conditions
+pub mod Contexts
 pub mod Costs
 pub mod Forms
+pub mod Levels
 pub mod Orders
+pub mod Roots

@@ -1,22 +1,30 @@
 //! Running a plan over data.
 //!
 //! `run` makes the rows of a plan's entity set and passes them through its pipeline, one transformation after another
-//! (`pipes`). The plain transformations are those of `apply_meaning`; `orders` sorts rows by the values of items and makes no
-//! row. `is_built` says which pipelines are run: those of `identity`, `filter`, `compute`, `orderby`, `skip`, `top`, and
-//! `aggregate` without custom aggregates.
+//! (`pipes`). `filter`, `compute`, `skip` and `top` are those of `apply_meaning`; `orders` sorts rows by the values of items and
+//! makes no row; `aggregations` has `aggregate`. `levels` finds the groups of each level of a `groupby`, and `groups` makes rows
+//! of groups and puts key columns on them. `roots` follows the type at the empty prefix from one transformation to the next,
+//! which custom aggregates are looked up by. `is_built` says which pipelines are run (`forms`).
 //!
-//! The crate stands on `apply_meaning` for rows, the plain transformations and the meaning of pipelines, on `optimiser` for
+//! The crate stands on `apply_meaning` for rows, the plain transformations and the meaning of pipelines, on `aggregate_ops`,
+//! `custom_agg` and `group_rollup` for aggregates, custom aggregates and groups, on `par_stages` for gates, on `optimiser` for
 //! plans, on `context_typing` for typed pipelines and custom aggregates, on `apply_ast` for pipelines, and on `edm_data` and
 //! `edm_model` for the data.
 //!
 //! It promises that what `run` answers is the meaning of the pipeline that was written, refused exactly where that is, and
 //! that the steps rise by no more than the pipeline that is run costs (`specs/Costs`). Rows that a transformation passes on
-//! are moved and not copied.
+//! are moved and not copied; the rows of a group are copied for a pipeline that is run on them.
 #![tactic(auto)]
 
+mod aggregations;
+mod contexts;
+mod forms;
+mod groups;
+mod levels;
 mod orders;
 mod pipes;
+mod roots;
 mod runs;
 
-pub use pipes::is_built;
+pub use forms::is_built;
 pub use runs::run;

@@ -1,43 +1,62 @@
 //! Plans over data.
-ghost use Rattle.std.specs.Prelude.{◌≡◌, ◌+◌, ◌≤◌, IsTrue};
-ghost use Rattle.edm_model.specs.LookUps.{IsSet};
+ghost use Rattle.std.specs.Prelude.{◌≡◌, ◌+◌, ◌<◌, ◌≤◌, IsTrue, Some};
+ghost use Rattle.edm_model.specs.LookUps.{IsSet, set_type};
 ghost use Rattle.apply_ast.specs.Views.{pipe_of};
-ghost use Rattle.context_typing.specs.Readings.{readings};
+ghost use Rattle.context_typing.specs.Readings.{AreTypedOver, readings};
 ghost use Rattle.context_typing.specs.Typing.{customs_typed, shape_of_set};
 ghost use Rattle.apply_meaning.specs.Instances as instances;
 ghost use Rattle.apply_meaning.specs.Meaning.{mean};
-ghost use Rattle.apply_meaning.specs.Running.{Gives, Runs};
+ghost use Rattle.apply_meaning.specs.Running.{Gives};
+ghost use Rattle.plan_run.specs.Conditions.{RunsFrom};
 ghost use Rattle.optimiser.specs.Plans.{IsPlan, own_of, written_of};
 ghost use Rattle.plan_run.specs.Costs.{total_cost};
 ghost use Rattle.plan_run.specs.Forms.{is_built};
 
+use crate::contexts::Context;
 use crate::pipes::run_pipe;
 use apply_meaning::{Row, RunRefused, Steps, data_is_loaded, set_rows};
 use context_typing::Customs;
 use edm_data::Data;
+use edm_model::TypeId;
 use optimiser::Plan;
+use par_stages::Gate;
 use std::alloc::Global;
 use std::sync::ledger::Ledger;
+use std::thread::Threads;
 
 /// A plan may be run on the instances of its entity set.
-fn plan_ready(store: &Data, c: &Customs, plan: &Plan, rows: &Vec<Row>)
-    requires customs { IsTrue (customs_typed store.now.model (readings c.now)) }
-    requires plan { IsPlan store.now.model (readings c.now) plan.now }
-    requires set { IsSet store.now.model (written_of plan.now).set }
-    requires rows { rows.now.items ≡ instances.rows store.now (own_of plan.now).set }
-    ensures { let t = own_of plan.now in Runs store.now (readings c.now) (shape_of_set store.now.model t.set) t.shape (pipe_of t.pipe) rows.now.items }
+fn plan_ready<R: Threads + Sync, G: Gate>(
+    context: &Context<'_, R, G>,
+    plan: &Plan,
+    root: &Option<TypeId>,
+    rows: &Vec<Row>,
+)
+    requires plan { IsPlan context.now.world.model (readings context.now.customs) plan.now }
+    requires set { IsSet context.now.world.model (written_of plan.now).set }
+    requires root { root.now ≡ Some (set_type context.now.world.model (own_of plan.now).set) }
+    requires rows { rows.now.items ≡ instances.rows context.now.world (own_of plan.now).set }
+    ensures { let t = own_of plan.now in
+        RunsFrom context.now root.now (shape_of_set context.now.world.model t.set) t.shape (pipe_of t.pipe) rows.now.items }
 {
-    data_is_loaded(store);
+    data_is_loaded(context.store());
+    let _customs = context.customs();
 }
 
-/// The rows that a plan gives on the instances of its entity set.
-pub fn run<L: Ledger>(
+/// The rows that a plan gives on the instances of its entity set. Lists of values and of keys are folded in at most `workers`
+/// pieces, each of which tells the gate that it begins.
+pub fn run<R: Threads + Sync, G: Gate, L: Ledger>(
+    rt: &R,
     alloc: Global,
     store: &Data,
     c: &Customs,
     plan: &Plan,
+    workers: u32,
+    gate: &G,
     steps: &mut Steps<L>,
 ) -> Result<Vec<Row>, RunRefused>
+    requires some { 0 < workers }
+    requires few { workers ≤ 64 }
+    requires typed { AreTypedOver store.now.model c.now }
     requires customs { IsTrue (customs_typed store.now.model (readings c.now)) }
     requires plan { IsPlan store.now.model (readings c.now) plan.now }
     requires set { IsSet store.now.model (written_of plan.now).set }
@@ -48,6 +67,8 @@ pub fn run<L: Ledger>(
 {
     let typed = plan.typed();
     let rows = set_rows(alloc, store, typed.set, steps)?;
-    plan_ready(store, c, plan, &rows);
-    run_pipe(alloc, store, &typed.pipe, rows, steps)
+    let context = Context::new(rt, store, c, workers, gate);
+    let root = Some(store.model().set_type(typed.set));
+    plan_ready(&context, plan, &root, &rows);
+    run_pipe(alloc, &context, &root, &typed.pipe, rows, steps)
 }

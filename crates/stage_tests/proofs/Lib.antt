@@ -1,2 +1,2 @@
+pub mod CustomFacts
 pub mod RowFacts
-pub mod TypingFacts

@@ -1,6 +1,6 @@
--- Names that texts are, and rows whose entities are of sets that the model has.
+-- Rows whose entities are of sets that the model has.
 use Rattle.std.proofs.Common.{◌≡◌, ℕ, zero, suc, ◌<◌, length, refl, subst, ◌∙◌, ap, Bool, true, false, List, [], ◌∷◌, Option, Some, None, arith}
-use Rattle.std.specs.Prelude.{Result, Ok, if◌then◌else◌, option_map, slice_get, is_some, unwrap_or}
+use Rattle.std.specs.Prelude.{Result, Ok, option_map, slice_get, is_some}
 use Rattle.std.specs.List.{list_all}
 use Rattle.std.proofs.lemmas.Bool.{and_from}
 use Rattle.edm_values.specs.Names.{Path}
@@ -11,11 +11,6 @@ use Rattle.edm_data.specs.References.{entity_type}
 use Rattle.context_typing.specs.Paths.{is_none_or}
 use Rattle.apply_meaning.specs.Instances.{Instance}
 use Rattle.apply_meaning.specs.RowViews.{is_of}
-
--- the name that a text is has the text's bytes
-pub named-text : (b : Bool) (t n : List ℕ) → Some n ≡ (if b then Some t else None) → n ≡ t
-named-text true t n e = ap (λ o. unwrap_or o t) e
-named-text false t n e = ap (λ o. unwrap_or o t) e
 
 pub ok_value : {X E : Type 0} {x y : X} → ◌≡◌ {A = Result X E} (Ok x) (Ok y) → x ≡ y
 ok_value e = cc

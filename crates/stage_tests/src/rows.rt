@@ -4,9 +4,6 @@ ghost use Rattle.std.specs.Prelude.{◌≡◌, ◌+◌, ◌<◌, ◌∷◌, [], 
 ghost use Rattle.edm_values.specs.declared.Value.{Value};
 ghost use Rattle.apply_meaning.specs.RowViews.{is_of};
 
-use crate::names::{longer_path, path};
-use crate::typing_models::{CYCLE_DATA, SALES_DATA, SAMPLE};
-use crate::typing_table::push_path;
 use apply_ast::Path;
 use apply_grammar::{read_expr, read_path};
 use apply_meaning::{Row, Steps, eval, lookup};
@@ -18,6 +15,9 @@ use std::marker::Brand;
 use std::process::Abort;
 use std::sync::ledger::{Blank, Ledger};
 use std::test::Fail;
+use test_support::names::{longer_path, path};
+use test_support::samples::{CYCLE_DATA, SALES_DATA, SAMPLE};
+use test_support::texts::push_path;
 
 type Made<T> = Result<T, AllocError>;
 

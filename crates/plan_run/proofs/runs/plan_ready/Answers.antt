@@ -1,6 +1,16 @@
+use Rattle.std.proofs.Common.{◌∙◌, ap, subst, sym, IsTrue}
+use Rattle.edm_model.specs.Models.{Model}
 use Rattle.context_typing.specs.Readings.{readings}
+use Rattle.context_typing.specs.Typing.{customs_typed}
+use Rattle.apply_meaning.specs.MeaningLaws.{IsLoaded}
 use Rattle.plan_run.proofs.PlanLemmas.{plan-runs}
 use Rattle.plan_run.proofs.runs.plan_ready.Goals as goal
 
 pub returns : goal.returns
-returns c = plan-runs c.args.store.now (readings c.args.c.now) c.args.plan.now c.args.rows.now.items c.data_is_loaded.ensures c.requires.customs c.requires.plan c.requires.set c.requires.rows
+returns g c =
+    let x = c.args.context.now in
+    let typed = subst (λ cs. IsTrue (customs_typed x.world.model (readings cs))) c.customs-customs.ensures.value c.customs-customs.ensures.whole in
+    record {
+      runs = plan-runs x.world (readings x.customs) c.args.plan.now c.args.rows.now.items (subst IsLoaded c.store.ensures c.data_is_loaded.ensures) typed c.requires.plan c.requires.set c.requires.rows;
+      root_is = sym c.requires.root;
+    }

@@ -6,10 +6,11 @@ use Rattle.context_typing.specs.Typing.{shape_of_set}
 use Rattle.context_typing.specs.declared.typed.Typed.{Typed}
 use Rattle.apply_meaning.specs.Instances as instances
 use Rattle.apply_meaning.specs.Meaning.{mean}
+use Rattle.apply_meaning.specs.Running.{Gives}
 use Rattle.optimiser.specs.Plans.{own_of}
+use Rattle.plan_run.specs.Contexts.{Context}
 use Rattle.plan_run.specs.Costs.{cost, total_cost}
-use Rattle.apply_meaning.specs.Running.{Gives, Runs}
-use Rattle.plan_run.proofs.PlanLemmas.{plan-means}
+use Rattle.plan_run.proofs.PlanLemmas.{plan-means, runs-as}
 use Rattle.plan_run.proofs.runs.run.Goals as goal
 
 pub returns-clause-mean : goal.returns-clause-mean
@@ -20,11 +21,14 @@ returns-clause-mean g c =
     let e = c.typed-typed.ensures in
     let S = shape_of_set w.model own.set in
     let l = c.in_ok-rows.rows.items in
-    let runs = subst (λ (t : Typed). Runs w cs S own.shape (pipe_of t.pipe) l) (sym e) c.plan_ready.ensures in
+    let x = c.new-context.result in
+    let p = pipe_of c.typed-typed.result.now.pipe in
+    let runs = runs-as x (shape_of_set x.world.model own.set) own.shape own c.typed-typed.result.now l e c.plan_ready.ensures in
+    let given = c.run_pipe.ensures.mean (shape_of_set x.world.model own.set) own.shape runs in
     let same = ap (λ (t : Typed). mean w cs S (pipe_of t.pipe) l) e
     ∙ ap (mean w cs S (pipe_of own.pipe)) (c.in_ok-rows.ensures.rows ∙ ap (λ (t : Typed). instances.rows w t.set) e)
     ∙ plan-means w cs c.args.plan.now c.requires.plan in
-    subst (Gives c.run_pipe.result) same (c.run_pipe.ensures.mean cs S own.shape runs)
+    subst (Gives c.run_pipe.result) same (subst (λ (x : Context). Gives c.run_pipe.result (mean x.world (readings x.customs) (shape_of_set x.world.model own.set) p l)) c.new-context.ensures given)
 
 pub returns-clause-steps : goal.returns-clause-steps
 returns-clause-steps g c =
@@ -34,11 +38,14 @@ returns-clause-steps g c =
     let e = c.typed-typed.ensures in
     let S = shape_of_set w.model own.set in
     let l = c.in_ok-rows.rows.items in
-    let runs = subst (λ (t : Typed). Runs w cs S own.shape (pipe_of t.pipe) l) (sym e) c.plan_ready.ensures in
-    let spent = c.run_pipe.ensures.steps cs S own.shape runs in
+    let x = c.new-context.result in
+    let p = pipe_of c.typed-typed.result.now.pipe in
+    let runs = runs-as x (shape_of_set x.world.model own.set) own.shape own c.typed-typed.result.now l e c.plan_ready.ensures in
+    let spent = c.run_pipe.ensures.steps (shape_of_set x.world.model own.set) own.shape runs in
     let made = c.set_rows.ensures.steps in
+    let same = ap (λ (x : Context). cost x.world (readings x.customs) (shape_of_set x.world.model own.set) p l) c.new-context.ensures in
     let costs = ap (λ (t : Typed). cost w cs S (pipe_of t.pipe) l) e
     ∙ ap (cost w cs S (pipe_of own.pipe)) (c.in_ok-rows.ensures.rows ∙ ap (λ (t : Typed). instances.rows w t.set) e) in
     let counts = ap (λ (t : Typed). count w t.set) e in
     let whole : total_cost w cs own.set (pipe_of own.pipe) ≡ count w own.set + cost w cs S (pipe_of own.pipe) (instances.rows w own.set) = refl in
-    omega (arith, spent, made, costs, counts, whole)
+    omega (arith, spent, made, same, costs, counts, whole)

@@ -1,0 +1,4 @@
+pub mod KeyGroups
+pub mod KeyTableLemmas
+pub mod KindLemmas
+pub mod PartialLemmas

@@ -1,0 +1,31 @@
+//! Partial aggregates of lists of values, and tables of keys.
+//!
+//! `SumOf`, `MinOf`, `MaxOf`, `DistinctOf` and `CountOf` are each a `Partial` over values: made for a type by `new`, given one
+//! value at a time, and ended by `finish`. `aggregate_values` folds a list of values by the partial of a method. `KeyTable` is
+//! a `Partial` over key lists; `groups` gives its `Groups`. `values` has what is asked of a single value.
+//!
+//! The crate stands on `par_stages` for folds, on `apply_meaning` for the meaning of aggregates and of groups, and on
+//! `edm_values` for values and their order.
+//!
+//! It promises that `finish` is the aggregate of the list that the partial stands for (`specs/Partials`), and that `groups`
+//! has the distinct keys in order of first appearance, each with its places in the order of the list (`specs/KeyTables`). The
+//! sum is kept exactly, and tested once against the range of its type, at `finish`. A partial of fewer than 2^63 items keeps
+//! its sum in 128 bits.
+#![tactic(auto)]
+
+mod counts;
+mod distincts;
+mod extremes;
+mod folds;
+mod groups;
+mod key_tables;
+mod sums;
+mod values;
+
+pub use counts::CountOf;
+pub use distincts::DistinctOf;
+pub use extremes::{MaxOf, MinOf};
+pub use folds::aggregate_values;
+pub use groups::Groups;
+pub use key_tables::KeyTable;
+pub use sums::SumOf;

@@ -1,4 +1,0 @@
-use Rattle.apply_serve.proofs.tests.outcome_over.Given as goal
-
-abbrev pub ghosts-run : goal.ghosts-run
-ghosts-run g a = record { name = a.blank.name; parts = a.blank.parts }

@@ -1,0 +1,6 @@
+pub mod DefinitionLemmas
+pub mod FoldLemmas
+pub mod GroupResults
+pub mod NamedCustoms
+pub mod RootValues
+pub mod TypedCustoms

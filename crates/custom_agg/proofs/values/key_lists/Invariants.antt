@@ -1,0 +1,7 @@
+use Rattle.std.proofs.Common.{◌≡◌, map, take}
+use Rattle.apply_meaning.specs.Meaning as spec
+use Rattle.custom_agg.proofs.values.key_lists.Given as goal
+
+-- the key lists so far
+abbrev pub invariant-loop-row : goal.invariant-loop-row
+invariant-loop-row l = map (λ k. k.items) l.lists.items ≡ map (spec.key_list l.store l.paths) (take l.row-index l.rows)

@@ -1,0 +1,102 @@
+//! The values of custom aggregates.
+ghost use Rattle.std.specs.Prelude.{◌≡◌, ◌<◌, ◌≤◌, Some, IfOk, IsTrue, is_some};
+ghost use Rattle.aggregate_ops.specs.Partials.{AreFoldable};
+ghost use Rattle.apply_ast.specs.Views.{expr_of};
+ghost use Rattle.apply_meaning.specs.Aggregates.{aggregate};
+ghost use Rattle.apply_meaning.specs.Meaning as spec;
+ghost use Rattle.apply_meaning.specs.Running.{all_of};
+ghost use Rattle.edm_model.specs.LookUps.{IsCustom};
+ghost use Rattle.context_typing.specs.Readings.{AreTypedOver, typed_at};
+ghost use Rattle.custom_agg.specs.CustomValues.{group_results, value_by_id, HaveRoot};
+
+use crate::definitions::definition;
+use crate::groups::{group_values, groups_by};
+use crate::values::values_of;
+use aggregate_ops::aggregate_values;
+use apply_ast::Expr;
+use apply_meaning::{Row, data_is_loaded};
+use context_typing::{Customs, ReadCustom};
+use edm_data::Data;
+use edm_model::CustomId;
+use edm_values::{Method, Value};
+use par_stages::Gate;
+use std::alloc::{AllocError, Global};
+use std::thread::Threads;
+
+/// What a method gives on the values of an expression on all rows.
+fn over_all<R: Threads + Sync, G: Gate>(
+    rt: &R,
+    alloc: Global,
+    store: &Data,
+    e: &Expr,
+    method: Method,
+    rows: &[Row],
+    workers: u32,
+    gate: &G,
+) -> Result<Value, AllocError>
+    requires some { 0 < workers }
+    requires few { workers ≤ 64 }
+    requires of { IsTrue (all_of store.now rows.now) }
+    requires foldable { AreFoldable method (spec.values store.now (expr_of e.now) rows.now) }
+    ensures { IfOk result (λ v. v ≡ aggregate method (spec.values store.now (expr_of e.now) rows.now)) }
+{
+    let values = values_of(alloc, store, e, rows)?;
+    aggregate_values(rt, alloc, method, values.as_slice(), workers, gate)
+}
+
+/// What an outer method gives on the results of a method on the groups of the rows by the paths of a reading.
+fn over_groups<R: Threads + Sync, G: Gate>(
+    rt: &R,
+    alloc: Global,
+    store: &Data,
+    read: &ReadCustom,
+    method: Method,
+    outer: Method,
+    rows: &[Row],
+    workers: u32,
+    gate: &G,
+) -> Result<Value, AllocError>
+    requires some { 0 < workers }
+    requires few { workers ≤ 64 }
+    requires of { IsTrue (all_of store.now rows.now) }
+    requires foldable { AreFoldable method (spec.values store.now (expr_of read.now.of) rows.now) }
+    requires results { AreFoldable outer (group_results store.now (expr_of read.now.of) method read.now.per rows.now) }
+    ensures { IfOk result (λ v. v ≡ aggregate outer (group_results store.now (expr_of read.now.of) method read.now.per rows.now)) }
+{
+    let paths = read.per.as_slice();
+    let groups = groups_by(rt, alloc, store, paths, rows, workers, gate)?;
+    let results = group_values(
+        rt, alloc, store, &read.of, method, rows, &groups, workers, gate,
+    )?;
+    aggregate_values(rt, alloc, outer, results.as_slice(), workers, gate)
+}
+
+/// The value of a custom aggregate on rows: with paths to group by, its method over the values of each group and then its
+/// outer method over the groups' results; without, its method over all values.
+pub fn custom<R: Threads + Sync, G: Gate>(
+    rt: &R,
+    alloc: Global,
+    store: &Data,
+    rows: &[Row],
+    c: &Customs,
+    id: CustomId,
+    workers: u32,
+    gate: &G,
+) -> Result<Value, AllocError>
+    requires some { 0 < workers }
+    requires few { workers ≤ 64 }
+    requires customs { AreTypedOver store.now.model c.now }
+    requires there { IsCustom store.now.model id }
+    requires read { IsTrue (is_some (typed_at c.now id)) }
+    requires fit { HaveRoot store.now id.of rows.now }
+    ensures { IfOk result (λ v. Some v ≡ value_by_id store.now c.now id rows.now) }
+{
+    data_is_loaded(store);
+    let read = c.read(id);
+    let custom = definition(store, id);
+    let method = custom.method;
+    match custom.outer {
+        None => over_all(rt, alloc, store, &read.of, method, rows, workers, gate),
+        Some(outer) => over_groups(rt, alloc, store, read, method, outer, rows, workers, gate),
+    }
+}

@@ -1,0 +1,66 @@
+//! Groups of rows, and what a method gives on their values.
+ghost use Rattle.std.specs.Prelude.{◌≡◌, ◌<◌, ◌≤◌, IfOk, IsTrue, length, map};
+ghost use Rattle.aggregate_ops.specs.KeyTables.{groups_of};
+ghost use Rattle.aggregate_ops.specs.Partials.{AreFoldable};
+ghost use Rattle.apply_ast.specs.Views.{expr_of};
+ghost use Rattle.apply_meaning.specs.Meaning.{key_list, values};
+ghost use Rattle.apply_meaning.specs.Running.{all_of};
+ghost use Rattle.par_stages.specs.Placed.{placed};
+ghost use Rattle.custom_agg.specs.CustomValues.{are_within, results_at};
+
+use crate::values::{key_lists, values_at};
+use aggregate_ops::{Groups, KeyTable, aggregate_values};
+use apply_ast::{Expr, Path};
+use apply_meaning::Row;
+use edm_data::Data;
+use edm_values::{Method, Value};
+use par_stages::{Gate, pieces};
+use std::alloc::{AllocError, Global};
+use std::thread::Threads;
+
+/// The groups of rows by paths, in order of first appearance, each with the places of its rows.
+pub(crate) fn groups_by<R: Threads + Sync, G: Gate>(
+    rt: &R,
+    alloc: Global,
+    store: &Data,
+    paths: &[Path],
+    rows: &[Row],
+    workers: u32,
+    gate: &G,
+) -> Result<Groups, AllocError>
+    requires some { 0 < workers }
+    requires few { workers ≤ 64 }
+    requires of { IsTrue (all_of store.now rows.now) }
+    ensures { IfOk result (λ found. found ≡ groups_of (placed 0 (map (key_list store.now paths.now) rows.now))) }
+{
+    let lists = key_lists(alloc, store, paths, rows)?;
+    let empty = KeyTable::new(alloc, paths.len());
+    pieces(rt, lists.as_slice(), workers, gate, &empty)?.groups()
+}
+
+/// What a method gives on the values of an expression on the rows of each group.
+pub(crate) fn group_values<R: Threads + Sync, G: Gate>(
+    rt: &R,
+    alloc: Global,
+    store: &Data,
+    e: &Expr,
+    method: Method,
+    rows: &[Row],
+    groups: &Groups,
+    workers: u32,
+    gate: &G,
+) -> Result<Vec<Value>, AllocError>
+    requires some { 0 < workers }
+    requires few { workers ≤ 64 }
+    requires of { IsTrue (all_of store.now rows.now) }
+    requires within { IsTrue (are_within (length rows.now) groups.now) }
+    requires foldable { AreFoldable method (values store.now (expr_of e.now) rows.now) }
+    ensures { IfOk result (λ vs. vs.items ≡ results_at store.now (expr_of e.now) method rows.now groups.now) }
+{
+    let mut results = Vec::with_capacity(alloc, groups.len())?;
+    for k in 0..groups.len() {
+        let values = values_at(alloc, store, e, rows, groups.places(k))?;
+        results.push(aggregate_values(rt, alloc, method, values.as_slice(), workers, gate)?)?;
+    }
+    Ok(results)
+}

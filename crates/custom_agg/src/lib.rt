@@ -1,0 +1,20 @@
+//! Custom aggregates: the value of one on rows.
+//!
+//! `custom` evaluates the expression of a custom aggregate on each row and aggregates the values by its method, in groups and
+//! again by its outer method where its definition says so. `definitions` finds the definition of a custom aggregate, `values`
+//! has the values of expressions and of key paths on rows, and `groups` groups rows and aggregates the values of each group.
+//!
+//! The crate stands on `aggregate_ops` for aggregates and tables of keys, on `par_stages` for folds in pieces, on
+//! `apply_meaning` for rows and expressions, on `context_typing` for the readings of custom aggregates, and on `edm_data` and
+//! `edm_model` for the data.
+//!
+//! It promises that the value is the one that the definition of the custom aggregate gives on the rows (`custom_value` of
+//! apply_meaning's `specs/Meaning`, by `specs/CustomValues`).
+#![tactic(auto)]
+
+mod customs;
+mod definitions;
+mod groups;
+mod values;
+
+pub use customs::custom;

@@ -1,0 +1,17 @@
+use Rattle.std.proofs.Common.{◌≡◌, ◌-◌, ◌++◌, ◌∷◌, [], ◌∙◌, ap, arith, map}
+use Rattle.group_rollup.specs.Groupings.{front_groups}
+use Rattle.group_rollup.proofs.LevelLemmas.{front_groups-more}
+use Rattle.group_rollup.proofs.groupings.level_groups.Goals as goal
+
+pub loop-front-preserved : goal.loop-front-preserved
+loop-front-preserved g c = (
+  c.in_ok-push.ensures.items
+      ∙ (λ i. c.loop-front.invariant.0 i ++ c.in_ok-groups_by_front.ensures i ∷ [])
+      ∙ front_groups-more c.loop-front.front c.args.width (map (λ k. k.items) c.args.lists.now) (omega arith) (omega arith),
+  omega arith,
+)
+
+pub returns : goal.returns
+returns g c =
+    let end : c.loop-front.front ≡ c.args.least = omega arith in
+    c.loop-front.invariant.0 ∙ ap (λ n. front_groups n (c.args.width - n) (map (λ k. k.items) c.args.lists.now)) end

@@ -1,0 +1,138 @@
+//! Groups of rows by their keys.
+ghost use Rattle.std.specs.Prelude.{◌≡◌, ◌-◌, ◌<◌, ◌≤◌, ◌++◌, length, map, take, All, IfOk, IsTrue};
+ghost use Rattle.aggregate_ops.specs.KeyTables.{HasWidth};
+ghost use Rattle.apply_meaning.specs.Running.{all_of};
+ghost use Rattle.group_rollup.specs.Groupings as spec;
+ghost use Rattle.group_rollup.specs.Groupings.{front_groups, groups, key_groups, GivesFor};
+
+use crate::GroupRefused;
+use crate::key_lists::{fronts, key_lists};
+use aggregate_ops::{Groups, KeyTable};
+use apply_ast::Path;
+use apply_meaning::Row;
+use edm_data::Data;
+use edm_values::Value;
+use par_stages::{Gate, pieces};
+use std::alloc::{AllocError, Global};
+use std::thread::Threads;
+
+/// The groups of key lists of this many values.
+fn groups_of<R: Threads + Sync, G: Gate>(
+    rt: &R,
+    alloc: Global,
+    lists: &[Vec<Value>],
+    width: usize,
+    workers: u32,
+    gate: &G,
+) -> Result<Groups, AllocError>
+    requires some { 0 < workers }
+    requires few { workers ≤ 64 }
+    requires width { All (HasWidth width) lists.now }
+    ensures { IfOk result (λ found. found ≡ key_groups (map (λ k. k.items) lists.now)) }
+{
+    pieces(rt, lists, workers, gate, &KeyTable::new(alloc, width))?.groups()
+}
+
+/// The groups of rows by key paths, in order of first appearance, each with the places of its rows. The keys are worked out
+/// once a row; `workers` says into how many pieces the rows may be cut.
+pub fn group<R: Threads + Sync, G: Gate>(
+    rt: &R,
+    alloc: Global,
+    store: &Data,
+    rows: &[Row],
+    keys: &[Path],
+    workers: u32,
+    gate: &G,
+) -> Result<Groups, GroupRefused>
+    requires some { 0 < workers }
+    requires few { workers ≤ 64 }
+    requires of { IsTrue (all_of store.now rows.now) }
+    ensures { GivesFor (λ found. found ≡ groups store.now keys.now rows.now) store.now keys.now rows.now result }
+{
+    let lists = key_lists(alloc, store, keys, rows)?;
+    Ok(groups_of(rt, alloc, lists.as_slice(), keys.len(), workers, gate)?)
+}
+
+/// Copies of the key paths and of the level paths behind them.
+fn all_paths(alloc: Global, keys: &[Path], levels: &[Path]) -> Result<Vec<Path>, AllocError>
+    ensures { IfOk result (λ paths. paths.items ≡ keys.now ++ levels.now) }
+{
+    let mut paths = Vec::new(alloc);
+    for path in keys {
+        paths.push(path.copy(alloc)?)?;
+    }
+    for path in levels {
+        paths.push(path.copy(alloc)?)?;
+    }
+    Ok(paths)
+}
+
+/// The groups of key lists by their first `front` values.
+fn groups_by_front<R: Threads + Sync, G: Gate>(
+    rt: &R,
+    alloc: Global,
+    lists: &[Vec<Value>],
+    front: usize,
+    workers: u32,
+    gate: &G,
+) -> Result<Groups, AllocError>
+    requires some { 0 < workers }
+    requires few { workers ≤ 64 }
+    requires long { All (λ k. front ≤ length k.items) lists.now }
+    ensures { IfOk result (λ found. found ≡ key_groups (map (take front) (map (λ k. k.items) lists.now))) }
+{
+    let cut = fronts(alloc, lists, front)?;
+    groups_of(rt, alloc, cut.as_slice(), front, workers, gate)
+}
+
+/// The groups of key lists of `width` values by their first values, for each number of these from all to one more than
+/// `least`.
+fn level_groups<R: Threads + Sync, G: Gate>(
+    rt: &R,
+    alloc: Global,
+    lists: &[Vec<Value>],
+    least: usize,
+    width: usize,
+    workers: u32,
+    gate: &G,
+) -> Result<Vec<Groups>, AllocError>
+    requires some { 0 < workers }
+    requires few { workers ≤ 64 }
+    requires least { least ≤ width }
+    requires width { All (HasWidth width) lists.now }
+    ensures { IfOk result (λ found. found.items ≡ front_groups least (width - least) (map (λ k. k.items) lists.now)) }
+{
+    let mut found = Vec::new(alloc);
+    for front in (least..width).rev() {
+        found.push(groups_by_front(rt, alloc, lists, front + 1, workers, gate)?)?;
+    }
+    Ok(found)
+}
+
+/// The groups of rows by each level of a rollup, the finest first: by the keys with the first of these paths, for each count
+/// of paths from all to one, and with `with_all` by the keys alone. Each level is grouped from the rows.
+pub fn rollup<R: Threads + Sync, G: Gate>(
+    rt: &R,
+    alloc: Global,
+    store: &Data,
+    rows: &[Row],
+    keys: &[Path],
+    levels: &[Path],
+    with_all: bool,
+    workers: u32,
+    gate: &G,
+) -> Result<Vec<Groups>, GroupRefused>
+    requires some { 0 < workers }
+    requires few { workers ≤ 64 }
+    requires of { IsTrue (all_of store.now rows.now) }
+    ensures { GivesFor (λ found. found.items ≡ spec.level_groups store.now keys.now levels.now with_all rows.now) store.now (keys.now ++ levels.now) rows.now result }
+{
+    let paths = all_paths(alloc, keys, levels)?;
+    let lists = key_lists(alloc, store, paths.as_slice(), rows)?;
+    let lists = lists.as_slice();
+    let mut found = level_groups(rt, alloc, lists, keys.len(), paths.len(), workers, gate)?;
+    if with_all {
+        found.push(groups_by_front(rt, alloc, lists, keys.len(), workers, gate)?)?;
+    }
+    Ok(found)
+}

@@ -1,0 +1,101 @@
+-- When a pipeline may be run, where the type at the empty prefix is known, and what runs of its parts need.
+use Rattle.std.specs.Prelude.{◌≡◌, ℕ, IsTrue, List, Option, Some, None, map, slice_get, is_some, option_and_then, option_map}
+use Rattle.std.specs.List.{list_all}
+use Rattle.edm_values.specs.declared.Value.{Value}
+use Rattle.edm_values.specs.Names.{Name, Path}
+use Rattle.edm_model.specs.Models.{Custom}
+use Rattle.edm_data.specs.Worlds.{World}
+use Rattle.apply_ast.specs.Trees.{AggItem, Pipe, Step}
+use Rattle.context_typing.specs.Readings.{readings}
+use Rattle.context_typing.specs.Shapes.{Shape}
+use Rattle.context_typing.specs.Typing.{Reading, custom_at, item_column, root_type}
+use Rattle.apply_meaning.specs.Instances.{Instance, extended}
+use Rattle.apply_meaning.specs.Meaning.{Outcome, custom_value, group, item_value, keyed, mean}
+use Rattle.apply_meaning.specs.MeaningLaws.{AllFit}
+use Rattle.apply_meaning.specs.RowViews.{columns_differ}
+use Rattle.apply_meaning.specs.Running.{Runs, StepRuns}
+use Rattle.plan_run.specs.Contexts.{Context}
+use Rattle.plan_run.specs.Costs.{application, cost}
+
+-- ---- pipelines
+
+-- a pipeline that takes one shape to another, the type at the empty prefix of the first, and instances that fit it
+pub record RunsFrom (x : Context) (root : Option ℕ) (S S' : Shape) (p : Pipe) (l : List Instance) : Type 0 where
+  pub runs : Runs x.world (readings x.customs) S S' p l
+  pub root_is : root_type S ≡ root
+
+-- the same of one transformation
+pub record StepRunsFrom (x : Context) (root : Option ℕ) (S S' : Shape) (s : Step) (l : List Instance) : Type 0 where
+  pub runs : StepRuns x.world (readings x.customs) S S' s l
+  pub root_is : root_type S ≡ root
+
+-- the pipeline is typed on some shape that the instances fit and that has this type at its empty prefix
+abbrev pub ReadyFrom : Context → Option ℕ → Pipe → List Instance → Type 0
+ReadyFrom x root p l = (S : Shape) × (S' : Shape) × RunsFrom x root S S' p l
+
+-- the same of one transformation
+abbrev pub StepReadyFrom : Context → Option ℕ → Step → List Instance → Type 0
+StepReadyFrom x root s l = (S : Shape) × (S' : Shape) × StepRunsFrom x root S S' s l
+
+-- ---- aggregations
+
+-- the custom aggregate of this name of the type at the empty prefix, with its reading
+abbrev pub named_custom : Context → Option ℕ → Name → Option (Custom × Reading)
+named_custom x root n = option_and_then (λ t. custom_at x.world.model (readings x.customs) t n) root
+
+-- its value on instances, null where there is none
+abbrev pub named_value : Context → Option ℕ → Name → List Instance → Value
+named_value x root n l = elim (named_custom x root n) [ None ↦ Value.Null | Some u ↦ custom_value x.world u.0 u.1 l ]
+
+-- the instances fit some shape that has this type at its empty prefix
+abbrev pub RootFits : World → Option ℕ → List Instance → Type 0
+RootFits w root l = (S : Shape) × (root_type S ≡ root) × AllFit w S l
+
+-- an item is typed on a shape that has this type at its empty prefix, and that the instances fit
+pub record ItemRuns (x : Context) (root : Option ℕ) (S : Shape) (item : AggItem) (l : List Instance) : Type 0 where
+  pub root_is : root_type S ≡ root
+  pub typed : IsTrue (is_some (item_column x.world.model (readings x.customs) S item))
+  pub fit : AllFit x.world S l
+
+-- the same of all items, whose columns differ
+pub record ItemsRun (x : Context) (root : Option ℕ) (S : Shape) (items : List AggItem) (l : List Instance) : Type 0 where
+  pub root_is : root_type S ≡ root
+  pub typed : IsTrue (list_all (λ item. is_some (item_column x.world.model (readings x.customs) S item)) items)
+  pub fit : AllFit x.world S l
+  pub differ : IsTrue (columns_differ (map (item_value x.world (readings x.customs) S l) items))
+
+-- the item is typed on some such shape
+abbrev pub ItemReady : Context → Option ℕ → AggItem → List Instance → Type 0
+ItemReady x root item l = (S : Shape) × ItemRuns x root S item l
+
+-- the items are
+abbrev pub ItemsReady : Context → Option ℕ → List AggItem → List Instance → Type 0
+ItemsReady x root items l = (S : Shape) × ItemsRun x root S items l
+
+-- ---- groupings
+
+-- what an inner pipeline makes of the group of a key list, each result with the key's columns
+abbrev pub made_of : Context → Shape → List Path → Pipe → List Instance → List Value → Outcome
+made_of x S ks p l k = option_map (map (λ r. extended r (keyed ks k))) (mean x.world (readings x.customs) S p (group x.world ks k l))
+
+-- what its application to that group counts
+abbrev pub charge_of : Context → Shape → List Path → Pipe → List Instance → List Value → ℕ
+charge_of x S ks p l k = application (cost x.world (readings x.customs) S p) (mean x.world (readings x.customs) S p) (group x.world ks k l)
+
+-- an inner pipeline is typed on a shape that the instances fit, and what it makes of a group by these paths has no column of a key
+pub record GroupRuns (x : Context) (root : Option ℕ) (S G : Shape) (level : List Path) (p : Pipe) (l : List Instance) : Type 0 where
+  pub inner : RunsFrom x root S G p l
+  pub free : (k : List Value) (r : List Instance) → mean x.world (readings x.customs) S p (group x.world level k l) ≡ Some r → IsTrue (list_all (λ i. columns_differ (extended i (keyed level k)).columns) r)
+
+-- the same for the paths of each level
+pub record LevelsRun (x : Context) (root : Option ℕ) (S G : Shape) (levels : List (List Path)) (p : Pipe) (l : List Instance) : Type 0 where
+  pub inner : RunsFrom x root S G p l
+  pub free : (n : ℕ) (level : List Path) → slice_get levels n ≡ Some level → GroupRuns x root S G level p l
+
+-- the inner pipeline is so typed on some shape
+abbrev pub GroupReady : Context → Option ℕ → List Path → Pipe → List Instance → Type 0
+GroupReady x root level p l = (S : Shape) × (G : Shape) × GroupRuns x root S G level p l
+
+-- the same for the paths of each level
+abbrev pub LevelsReady : Context → Option ℕ → List (List Path) → Pipe → List Instance → Type 0
+LevelsReady x root levels p l = (S : Shape) × (G : Shape) × LevelsRun x root S G levels p l

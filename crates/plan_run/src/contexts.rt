@@ -1,0 +1,185 @@
+//! What a run works with.
+ghost use Rattle.std.specs.Prelude.{◌≡◌, ◌++◌, ◌<◌, ◌≤◌, Some, IfOk, IsTrue, is_some};
+ghost use Rattle.edm_model.specs.LookUps.{IsCustom};
+ghost use Rattle.context_typing.specs.Readings.{AreTypedOver, readings, typed_at};
+ghost use Rattle.context_typing.specs.Typing.{customs_typed};
+ghost use Rattle.apply_meaning.specs.Aggregates as aggregates;
+ghost use Rattle.apply_meaning.specs.Running.{all_of};
+ghost use Rattle.aggregate_ops.specs.Partials.{AreFoldable};
+ghost use Rattle.custom_agg.specs.CustomValues.{value_by_id, HaveRoot};
+ghost use Rattle.group_rollup.specs.Groupings.{groups, level_groups};
+ghost use Rattle.plan_run.specs.Levels.{GivesFor};
+
+use aggregate_ops::{Groups, aggregate_values};
+use apply_ast::Path;
+use apply_meaning::{Row, RunRefused};
+use context_typing::Customs;
+use custom_agg::custom;
+use edm_data::Data;
+use edm_model::CustomId;
+use edm_values::{Method, Value};
+use group_rollup::{GroupRefused, group, rollup};
+use par_stages::Gate;
+use std::alloc::{AllocError, Global};
+use std::marker::Model;
+use std::thread::Threads;
+
+/// The data with the custom aggregates of its model, and the threads that fold lists of it.
+#[derive(Drop)]
+pub(crate) struct Context<'a, R: Threads + Sync, G: Gate> {
+    rt: &'a R,
+    store: &'a Data,
+    customs: &'a Customs,
+    workers: u32,
+    gate: &'a G,
+}
+
+impl<'a, R: Threads + Sync, G: Gate> Model for Context<'a, R, G> {
+    ghost use Rattle.std.specs.Coded.{codes};
+    ghost use Rattle.std.specs.Prelude.{◌<◌, ◌≤◌, IsTrue};
+    ghost use Rattle.apply_ast.specs.contracts.expressions.Expr as of_expr;
+    ghost use Rattle.context_typing.specs.Readings.{AreTypedOver, readings};
+    ghost use Rattle.context_typing.specs.Typing.{customs_typed};
+    ghost use Rattle.plan_run.specs.Contexts as seen;
+
+    ghost Value = { seen.Context };
+
+    ghost coded = { Prim.hlevel (codes, of_expr.the_row.coded) };
+
+    ghost view = { λ s. record { world = s.store.now; customs = s.customs.now } };
+
+    ghost invariant = { λ s. AreTypedOver s.store.now.model s.customs.now × IsTrue (customs_typed s.store.now.model (readings s.customs.now))
+        × (0 < s.workers) × (s.workers ≤ 64) };
+}
+
+impl<'a, R: Threads + Sync, G: Gate> Context<'a, R, G> {
+    /// The data with the custom aggregates of its model, whose lists are folded in at most so many pieces.
+    pub(crate) fn new(
+        rt: &'a R,
+        store: &'a Data,
+        customs: &'a Customs,
+        workers: u32,
+        gate: &'a G,
+    ) -> Context<'a, R, G>
+        requires some { 0 < workers }
+        requires few { workers ≤ 64 }
+        requires typed { AreTypedOver store.now.model customs.now }
+        requires whole { IsTrue (customs_typed store.now.model (readings customs.now)) }
+        ensures { result ≡ record { world = store.now; customs = customs.now } }
+    {
+        Context {
+            rt,
+            store,
+            customs,
+            workers,
+            gate,
+        }
+    }
+
+    /// The data.
+    pub(crate) fn store(&self) -> &Data
+        ensures { result.now ≡ self.now.world }
+    {
+        self.store
+    }
+
+    /// The custom aggregates of the model.
+    pub(crate) fn customs(&self) -> &Customs
+        ensures value { result.now ≡ self.now.customs }
+        ensures typed { AreTypedOver self.now.world.model result.now }
+        ensures whole { IsTrue (customs_typed self.now.world.model (readings result.now)) }
+    {
+        self.customs
+    }
+
+    /// The aggregate of values of one type by a method.
+    pub(crate) fn aggregate(
+        &self,
+        alloc: Global,
+        method: Method,
+        values: &[Value],
+    ) -> Result<Value, AllocError>
+        requires { AreFoldable method values.now }
+        ensures { IfOk result (λ v. v ≡ aggregates.aggregate method values.now) }
+    {
+        aggregate_values(self.rt, alloc, method, values, self.workers, self.gate)
+    }
+
+    /// The value of a custom aggregate on rows.
+    pub(crate) fn custom(
+        &self,
+        alloc: Global,
+        id: CustomId,
+        rows: &[Row],
+    ) -> Result<Value, AllocError>
+        requires there { IsCustom self.now.world.model id }
+        requires read { IsTrue (is_some (typed_at self.now.customs id)) }
+        requires fit { HaveRoot self.now.world id.of rows.now }
+        ensures { IfOk result (λ v. Some v ≡ value_by_id self.now.world self.now.customs id rows.now) }
+    {
+        custom(
+            self.rt,
+            alloc,
+            self.store,
+            rows,
+            self.customs,
+            id,
+            self.workers,
+            self.gate,
+        )
+    }
+
+    /// The groups of rows by key paths.
+    pub(crate) fn group(
+        &self,
+        alloc: Global,
+        rows: &[Row],
+        keys: &[Path],
+    ) -> Result<Groups, RunRefused>
+        requires { IsTrue (all_of self.now.world rows.now) }
+        ensures { GivesFor (λ found. found ≡ groups self.now.world keys.now rows.now) self.now.world keys.now rows.now result }
+    {
+        match group(
+            self.rt,
+            alloc,
+            self.store,
+            rows,
+            keys,
+            self.workers,
+            self.gate,
+        ) {
+            Ok(found) => Ok(found),
+            Err(GroupRefused::Range) => Err(RunRefused::Range),
+            Err(GroupRefused::Memory) => Err(RunRefused::Memory),
+        }
+    }
+
+    /// The groups of rows by each level of a rollup, the finest first.
+    pub(crate) fn rollup(
+        &self,
+        alloc: Global,
+        rows: &[Row],
+        keys: &[Path],
+        levels: &[Path],
+        with_all: bool,
+    ) -> Result<Vec<Groups>, RunRefused>
+        requires { IsTrue (all_of self.now.world rows.now) }
+        ensures { GivesFor (λ found. found.items ≡ level_groups self.now.world keys.now levels.now with_all rows.now) self.now.world (keys.now ++ levels.now) rows.now result }
+    {
+        match rollup(
+            self.rt,
+            alloc,
+            self.store,
+            rows,
+            keys,
+            levels,
+            with_all,
+            self.workers,
+            self.gate,
+        ) {
+            Ok(found) => Ok(found),
+            Err(GroupRefused::Range) => Err(RunRefused::Range),
+            Err(GroupRefused::Memory) => Err(RunRefused::Memory),
+        }
+    }
+}

@@ -1,0 +1,16 @@
+//! Tests of the service: the worked rows through `serve` (`apply_service`), over objects in memory.
+//!
+//! `worlds` has the files and lines that tests share and `runs` runs the service over them; `lines` has requests with their
+//! responses, `files` refused files with their lines, and `ends` how runs end.
+#![tactic(auto)]
+
+#[cfg(test)]
+mod ends;
+#[cfg(test)]
+mod files;
+#[cfg(test)]
+mod lines;
+#[cfg(test)]
+mod runs;
+#[cfg(test)]
+mod worlds;

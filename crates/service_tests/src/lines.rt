@@ -1,0 +1,387 @@
+//! Lines of requests and their responses.
+use crate::runs::{Case, PLAIN, outcome, outcome_of, words};
+use crate::worlds::{FIRST, RESPONSES};
+use apply_service::Status;
+use std::test::Fail;
+use test_support::samples::{SALES_DATA, SAMPLE};
+
+#[test]
+fn lines_are_answered_in_order_however_the_input_is_cut(rt: HostRuntime) -> Result<(), Fail> {
+    for most in [1usize, 7, 4096] {
+        let ran = outcome(&rt, rt.alloc(), &Case { most, ..PLAIN })?;
+        assert_eq!(rt; ran.status, Status::Served);
+        assert_eq!(rt; ran.output.as_slice(), RESPONSES);
+    }
+    Ok(())
+}
+
+#[test]
+fn each_line_is_answered_by_the_first_reason_that_holds(rt: HostRuntime) -> Result<(), Fail> {
+    let sample = Case {
+        model: SAMPLE,
+        data: SALES_DATA,
+        ..PLAIN
+    };
+    for (input, output) in [
+        (
+            b"Shops?$apply=aggregate(Amount with sum as T)\n".as_slice(),
+            b"404 77\n{\"error\":{\"code\":\"NotFound\",\"message\":\"no such entity set\",\"target\":\"Shops\"}}\n".as_slice(),
+        ),
+        (
+            b"Sales?$apply=aggregate(Nope with sum as T)\n".as_slice(),
+            b"400 81\n{\"error\":{\"code\":\"Type\",\"message\":\"the transformation has no type\",\"target\":\"1\"}}\n".as_slice(),
+        ),
+        (
+            b"Sales?$apply=topcount(1,ID)\n".as_slice(),
+            b"501 68\n{\"error\":{\"code\":\"NotBuilt\",\"message\":\"this form is not built yet\"}}\n".as_slice(),
+        ),
+        (
+            b"/Sales?%24apply=aggregate( Amount with sum as Total )\n".as_slice(),
+            FIRST,
+        ),
+        (
+            b"Sales?$apply=filter(not ID eq 1)\n".as_slice(),
+            b"400 81\n{\"error\":{\"code\":\"Type\",\"message\":\"the transformation has no type\",\"target\":\"1\"}}\n".as_slice(),
+        ),
+        (
+            b"explain Sales?$apply=aggregate(Amount with sum as T)\n".as_slice(),
+            b"501 68\n{\"error\":{\"code\":\"NotBuilt\",\"message\":\"this form is not built yet\"}}\n".as_slice(),
+        ),
+        (
+            b"explain Sales?$apply=filter(null)\n".as_slice(),
+            b"400 81\n{\"error\":{\"code\":\"Type\",\"message\":\"the transformation has no type\",\"target\":\"1\"}}\n".as_slice(),
+        ),
+        (
+            b"Sales?$apply=filter(null)\n".as_slice(),
+            b"400 81\n{\"error\":{\"code\":\"Type\",\"message\":\"the transformation has no type\",\"target\":\"1\"}}\n".as_slice(),
+        ),
+        (
+            b"Sales?$apply=compute(Amount as Amount)\n".as_slice(),
+            b"400 81\n{\"error\":{\"code\":\"Type\",\"message\":\"the transformation has no type\",\"target\":\"1\"}}\n".as_slice(),
+        ),
+        (
+            b"Sales?$apply=identity/filter(Nope eq 1)\n".as_slice(),
+            b"400 81\n{\"error\":{\"code\":\"Type\",\"message\":\"the transformation has no type\",\"target\":\"2\"}}\n".as_slice(),
+        ),
+        (
+            b"Sales?$apply=aggregate(Amount with sum as T)/aggregate(Amount with sum as T)\n".as_slice(),
+            b"400 81\n{\"error\":{\"code\":\"Type\",\"message\":\"the transformation has no type\",\"target\":\"2\"}}\n".as_slice(),
+        ),
+        (
+            b"Sales?$apply=concat(identity,aggregate($count as N))/filter(N eq 6)\n".as_slice(),
+            b"501 68\n{\"error\":{\"code\":\"NotBuilt\",\"message\":\"this form is not built yet\"}}\n".as_slice(),
+        ),
+        (
+            b"Customers?$apply=join(Sales as S)/aggregate($count as N)\n".as_slice(),
+            b"501 68\n{\"error\":{\"code\":\"NotBuilt\",\"message\":\"this form is not built yet\"}}\n".as_slice(),
+        ),
+        (
+            b"Customers?$apply=aggregate(Best)\n".as_slice(),
+            b"400 81\n{\"error\":{\"code\":\"Type\",\"message\":\"the transformation has no type\",\"target\":\"1\"}}\n".as_slice(),
+        ),
+        (
+            b"Shops?$apply=filter(null)\n".as_slice(),
+            b"404 77\n{\"error\":{\"code\":\"NotFound\",\"message\":\"no such entity set\",\"target\":\"Shops\"}}\n".as_slice(),
+        ),
+        (
+            b"Shops?$apply=identity\n".as_slice(),
+            b"404 77\n{\"error\":{\"code\":\"NotFound\",\"message\":\"no such entity set\",\"target\":\"Shops\"}}\n".as_slice(),
+        ),
+        (
+            b"Sales\n".as_slice(),
+            b"400 76\n{\"error\":{\"code\":\"Syntax\",\"message\":\"the text is no pipeline\",\"target\":\"0\"}}\n".as_slice(),
+        ),
+        (
+            b"Sales?$apply=aggregate(Amount with average as X)\n".as_slice(),
+            b"400 76\n{\"error\":{\"code\":\"Syntax\",\"message\":\"the text is no pipeline\",\"target\":\"1\"}}\n".as_slice(),
+        ),
+        (
+            b"Sales?$apply=filter(ID eq 1)/aggregate(\n".as_slice(),
+            b"400 76\n{\"error\":{\"code\":\"Syntax\",\"message\":\"the text is no pipeline\",\"target\":\"2\"}}\n".as_slice(),
+        ),
+        (
+            b"Sales?$apply=identity/\n".as_slice(),
+            b"400 76\n{\"error\":{\"code\":\"Syntax\",\"message\":\"the text is no pipeline\",\"target\":\"2\"}}\n".as_slice(),
+        ),
+        (
+            b"Sales?$apply=aggregate(Amount with sum as sum)".as_slice(),
+            b"200 82\n{\"@context\":\"$metadata#Sales(sum)\",\"value\":[{\"sum@type\":\"Decimal\",\"sum\":\"26.00\"}]}\n".as_slice(),
+        ),
+        (
+            b"Sales?$apply=aggregate(Amount with sum as desc)\n".as_slice(),
+            b"400 76\n{\"error\":{\"code\":\"Syntax\",\"message\":\"the text is no pipeline\",\"target\":\"1\"}}\n".as_slice(),
+        ),
+    ] {
+        let ran = outcome(&rt, rt.alloc(), &Case { input, ..sample })?;
+        assert_eq!(rt; ran.status, Status::Served);
+        assert_eq!(rt; ran.output.as_slice(), output);
+    }
+    Ok(())
+}
+
+#[test]
+fn a_line_that_is_too_long_is_told_so_and_the_next_is_answered(
+    rt: HostRuntime,
+) -> Result<(), Fail> {
+    let alloc = rt.alloc();
+    let words = words(alloc)?;
+    let mut input = vec![in alloc; b'x'; 65_536]?;
+    input.extend_from_slice(b"x\nSales?$apply=aggregate(Amount with sum as Total)\n")?;
+    let ran = outcome_of(&rt, alloc, &PLAIN, words.as_slice(), input)?;
+    let mut expected =
+        b"414 61\n{\"error\":{\"code\":\"TooLong\",\"message\":\"the line is too long\"}}\n"
+            .as_slice()
+            .to_vec(alloc)?;
+    expected.extend_from_slice(FIRST)?;
+    assert_eq!(rt; ran.status, Status::Served);
+    assert_eq!(rt; ran.output.as_slice(), expected.as_slice());
+    Ok(())
+}
+
+#[test]
+fn sums_skip_nulls_and_keep_their_range(rt: HostRuntime) -> Result<(), Fail> {
+    for (data, input, output) in [
+        (
+            "{}",
+            b"Sales?$apply=aggregate(Amount with sum as Total)\n".as_slice(),
+            b"200 85\n{\"@context\":\"$metadata#Sales(Total)\",\"value\":[{\"Total@type\":\"Decimal\",\"Total\":null}]}\n".as_slice(),
+        ),
+        (
+            "{\"Sales\":[{\"ID\":9223372036854775807},{\"ID\":1}]}",
+            b"Sales?$apply=aggregate(ID with sum as Total)\n".as_slice(),
+            b"422 65\n{\"error\":{\"code\":\"Range\",\"message\":\"a number is past its range\"}}\n".as_slice(),
+        ),
+        (
+            "{\"Sales\":[{\"ID\":9223372036854775807},{\"ID\":1},{\"ID\":-1}]}",
+            b"Sales?$apply=aggregate(ID with sum as Total)\n".as_slice(),
+            b"200 100\n{\"@context\":\"$metadata#Sales(Total)\",\"value\":[{\"Total@type\":\"Int64\",\"Total\":\"9223372036854775807\"}]}\n".as_slice(),
+        ),
+    ] {
+        let ran = outcome(
+            &rt,
+            rt.alloc(),
+            &Case {
+                data,
+                input,
+                ..PLAIN
+            },
+        )?;
+        assert_eq!(rt; ran.status, Status::Served);
+        assert_eq!(rt; ran.output.as_slice(), output);
+    }
+    Ok(())
+}
+
+/// Requests over the sample, with the code and the body of their responses, from the rules and from a program that was written
+/// apart from this one.
+const ANSWERS: &[(&str, &str, &str)] = &[
+    (
+        "Sales?$apply=identity",
+        "200",
+        "{\"@context\":\"$metadata#Sales\",\"value\":[{\"Amount\":\"10.00\",\"CustomerID\":\"C1\",\"ID\":\"1\",\"OrgID\":\"West\"},{\"Amount\":\"5.50\",\"CustomerID\":\"C1\",\"ID\":\"2\",\"OrgID\":\"East\"},{\"Amount\":\"7.25\",\"CustomerID\":\"C2\",\"ID\":\"3\",\"OrgID\":\"EMEA\"},{\"Amount\":null,\"CustomerID\":\"C3\",\"ID\":\"4\",\"OrgID\":\"West\"},{\"Amount\":\"1.00\",\"CustomerID\":\"C2\",\"ID\":\"5\",\"OrgID\":null},{\"Amount\":\"2.25\",\"CustomerID\":\"C1\",\"ID\":\"6\",\"OrgID\":\"US\"}]}",
+    ),
+    (
+        "Customers?$apply=skip(1)/top(2)",
+        "200",
+        "{\"@context\":\"$metadata#Customers\",\"value\":[{\"Country\":\"NL\",\"ID\":\"C2\",\"Name\":\"Sue\",\"Since\":\"2020-02-29\"},{\"Country\":\"FR\",\"ID\":\"C3\",\"Name\":\"Luc\",\"Since\":null}]}",
+    ),
+    (
+        "Orgs?$apply=filter(ParentID eq 'US')",
+        "200",
+        "{\"@context\":\"$metadata#Orgs\",\"value\":[{\"ID\":\"West\",\"ParentID\":\"US\"},{\"ID\":\"East\",\"ParentID\":\"US\"}]}",
+    ),
+    (
+        "Sales?$apply=filter(ID eq 99)/aggregate(Amount with sum as T,$count as N)",
+        "200",
+        "{\"@context\":\"$metadata#Sales(N,T)\",\"value\":[{\"N@type\":\"Int64\",\"N\":\"0\",\"T@type\":\"Decimal\",\"T\":null}]}",
+    ),
+    (
+        "Sales?$apply=compute(Amount mul 100000000000000000 as X)",
+        "422",
+        "{\"error\":{\"code\":\"Range\",\"message\":\"a number is past its range\"}}",
+    ),
+    (
+        "Sales?$apply=compute(Amount mul 100000000000000000 as X)/filter(ID eq 99)",
+        "200",
+        "{\"@context\":\"$metadata#Sales(*,X)\",\"value\":[]}",
+    ),
+    (
+        "Sales?$apply=filter(Amount mul 100000000000000000 gt 0)",
+        "422",
+        "{\"error\":{\"code\":\"Range\",\"message\":\"a number is past its range\"}}",
+    ),
+    (
+        "Sales?$apply=orderby(Amount mul 100000000000000000)",
+        "422",
+        "{\"error\":{\"code\":\"Range\",\"message\":\"a number is past its range\"}}",
+    ),
+    (
+        "Sales?$apply=aggregate(CustomerID with countdistinct as D,Amount with min as L,Amount with max as M)",
+        "200",
+        "{\"@context\":\"$metadata#Sales(D,L,M)\",\"value\":[{\"D@type\":\"Int64\",\"D\":\"3\",\"L@type\":\"Decimal\",\"L\":\"1.00\",\"M@type\":\"Decimal\",\"M\":\"10.00\"}]}",
+    ),
+    (
+        "/Sales?%24apply=filter(year(Customer/Since)%20eq%202020)/aggregate(%24count%20as%20N)",
+        "200",
+        "{\"@context\":\"$metadata#Sales(N)\",\"value\":[{\"N@type\":\"Int64\",\"N\":\"2\"}]}",
+    ),
+    (
+        "Sales?$apply=orderby(Amount desc)/top(1)",
+        "200",
+        "{\"@context\":\"$metadata#Sales\",\"value\":[{\"Amount\":\"10.00\",\"CustomerID\":\"C1\",\"ID\":\"1\",\"OrgID\":\"West\"}]}",
+    ),
+    (
+        "Sales?$apply=orderby(Amount)/top(1)/aggregate(ID with max as M)",
+        "200",
+        "{\"@context\":\"$metadata#Sales(M)\",\"value\":[{\"M@type\":\"Int64\",\"M\":\"4\"}]}",
+    ),
+    (
+        "Sales?$apply=skip(6)/top(9223372036854775807)",
+        "200",
+        "{\"@context\":\"$metadata#Sales\",\"value\":[]}",
+    ),
+    (
+        "Sales?$apply=top(1)/compute(ID eq 1 as B,Amount as D,ID add 1 as I,Customer/Name as T,Customer/Since as S)",
+        "200",
+        "{\"@context\":\"$metadata#Sales(*,B,D,I,S,T)\",\"value\":[{\"Amount\":\"10.00\",\"B\":true,\"CustomerID\":\"C1\",\"D@type\":\"Decimal\",\"D\":\"10.00\",\"I@type\":\"Int64\",\"I\":\"2\",\"ID\":\"1\",\"OrgID\":\"West\",\"S@type\":\"Date\",\"S\":\"2019-05-01\",\"T\":\"Joe\"}]}",
+    ),
+    (
+        "Sales?$apply=filter(ID eq 4)/compute(Amount as D,Customer/Since as S)",
+        "200",
+        "{\"@context\":\"$metadata#Sales(*,D,S)\",\"value\":[{\"Amount\":null,\"CustomerID\":\"C3\",\"D@type\":\"Decimal\",\"D\":null,\"ID\":\"4\",\"OrgID\":\"West\",\"S@type\":\"Date\",\"S\":null}]}",
+    ),
+    (
+        "Sales?$apply=top(1)/compute('a\"b\\c' as T,'' as E)",
+        "200",
+        "{\"@context\":\"$metadata#Sales(*,E,T)\",\"value\":[{\"Amount\":\"10.00\",\"CustomerID\":\"C1\",\"E\":\"\",\"ID\":\"1\",\"OrgID\":\"West\",\"T\":\"a\\\"b\\\\c\"}]}",
+    ),
+    (
+        "Sales?$apply=aggregate(Customer/Since with min as S,OrgID with max as O)",
+        "200",
+        "{\"@context\":\"$metadata#Sales(O,S)\",\"value\":[{\"O\":\"West\",\"S@type\":\"Date\",\"S\":\"2019-05-01\"}]}",
+    ),
+    (
+        "Sales?$apply=aggregate(ID mul 3000000000000000000 with sum as T)",
+        "422",
+        "{\"error\":{\"code\":\"Range\",\"message\":\"a number is past its range\"}}",
+    ),
+    (
+        "Sales?$apply=aggregate(Amount with sum as Total)/compute(Total mul 2 as Twice)/filter(Twice gt 52)",
+        "200",
+        "{\"@context\":\"$metadata#Sales(Total,Twice)\",\"value\":[]}",
+    ),
+    (
+        "Sales?$apply=groupby((Customer/Country),aggregate(Amount with sum as T))",
+        "200",
+        "{\"@context\":\"$metadata#Sales(Customer(Country),T)\",\"value\":[{\"Customer\":{\"Country\":\"US\"},\"T@type\":\"Decimal\",\"T\":\"17.75\"},{\"Customer\":{\"Country\":\"NL\"},\"T@type\":\"Decimal\",\"T\":\"8.25\"},{\"Customer\":{\"Country\":\"FR\"},\"T@type\":\"Decimal\",\"T\":null}]}",
+    ),
+    (
+        "Sales?$apply=groupby((rollup(Customer/Country,Customer/Name)),aggregate($count as N))",
+        "200",
+        "{\"@context\":\"$metadata#Sales(Customer(Country,Name),N)\",\"value\":[{\"Customer\":{\"Country\":\"US\",\"Name\":\"Joe\"},\"N@type\":\"Int64\",\"N\":\"3\"},{\"Customer\":{\"Country\":\"NL\",\"Name\":\"Sue\"},\"N@type\":\"Int64\",\"N\":\"2\"},{\"Customer\":{\"Country\":\"FR\",\"Name\":\"Luc\"},\"N@type\":\"Int64\",\"N\":\"1\"},{\"Customer\":{\"Country\":\"US\"},\"N@type\":\"Int64\",\"N\":\"3\"},{\"Customer\":{\"Country\":\"NL\"},\"N@type\":\"Int64\",\"N\":\"2\"},{\"Customer\":{\"Country\":\"FR\"},\"N@type\":\"Int64\",\"N\":\"1\"}]}",
+    ),
+    (
+        "Sales?$apply=groupby((rollup($all,Customer/Country)),aggregate($count as N))",
+        "200",
+        "{\"@context\":\"$metadata#Sales(Customer(Country),N)\",\"value\":[{\"Customer\":{\"Country\":\"US\"},\"N@type\":\"Int64\",\"N\":\"3\"},{\"Customer\":{\"Country\":\"NL\"},\"N@type\":\"Int64\",\"N\":\"2\"},{\"Customer\":{\"Country\":\"FR\"},\"N@type\":\"Int64\",\"N\":\"1\"},{\"N@type\":\"Int64\",\"N\":\"6\"}]}",
+    ),
+    (
+        "Sales?$apply=aggregate(Best)",
+        "200",
+        "{\"@context\":\"$metadata#Sales(Best)\",\"value\":[{\"Best@type\":\"Decimal\",\"Best\":\"17.75\"}]}",
+    ),
+    (
+        "Sales?$apply=aggregate($count as N,Best)",
+        "200",
+        "{\"@context\":\"$metadata#Sales(Best,N)\",\"value\":[{\"Best@type\":\"Decimal\",\"Best\":\"17.75\",\"N@type\":\"Int64\",\"N\":\"6\"}]}",
+    ),
+    (
+        "Sales?$apply=orderby(Amount desc,ID)/skip(1)/top(2)/groupby((ID))",
+        "200",
+        "{\"@context\":\"$metadata#Sales(ID)\",\"value\":[{\"ID\":\"3\"},{\"ID\":\"2\"}]}",
+    ),
+    (
+        "Sales?$apply=filter(ID eq 99)/groupby((rollup($all,OrgID)),aggregate($count as N))",
+        "200",
+        "{\"@context\":\"$metadata#Sales(N,OrgID)\",\"value\":[]}",
+    ),
+    (
+        "Sales?$apply=groupby((OrgID))/skip(3)",
+        "200",
+        "{\"@context\":\"$metadata#Sales(OrgID)\",\"value\":[{\"OrgID\":null},{\"OrgID\":\"US\"}]}",
+    ),
+    (
+        "Sales?$apply=filter(ID eq 99)/aggregate(Best)",
+        "200",
+        "{\"@context\":\"$metadata#Sales(Best)\",\"value\":[{\"Best@type\":\"Decimal\",\"Best\":null}]}",
+    ),
+    (
+        "Sales?$apply=groupby((CustomerID),top(1))",
+        "200",
+        "{\"@context\":\"$metadata#Sales(*,CustomerID)\",\"value\":[{\"Amount\":\"10.00\",\"CustomerID\":\"C1\",\"ID\":\"1\",\"OrgID\":\"West\"},{\"Amount\":\"7.25\",\"CustomerID\":\"C2\",\"ID\":\"3\",\"OrgID\":\"EMEA\"},{\"Amount\":null,\"CustomerID\":\"C3\",\"ID\":\"4\",\"OrgID\":\"West\"}]}",
+    ),
+    (
+        "Sales?$apply=groupby((CustomerID),aggregate(ID mul 3000000000000000000 with sum as T))",
+        "422",
+        "{\"error\":{\"code\":\"Range\",\"message\":\"a number is past its range\"}}",
+    ),
+    (
+        "Sales?$apply=compute(Amount mul 100000000000000000 as X)/groupby((X))",
+        "422",
+        "{\"error\":{\"code\":\"Range\",\"message\":\"a number is past its range\"}}",
+    ),
+    (
+        "Sales?$apply=groupby((rolluprecursive($root/Orgs,OrgTree,OrgID)))",
+        "501",
+        "{\"error\":{\"code\":\"NotBuilt\",\"message\":\"this form is not built yet\"}}",
+    ),
+    (
+        "Sales?$apply=groupby((CustomerID),topcount(1,Amount))",
+        "501",
+        "{\"error\":{\"code\":\"NotBuilt\",\"message\":\"this form is not built yet\"}}",
+    ),
+    (
+        "Customers?$apply=join(Sales as S)",
+        "501",
+        "{\"error\":{\"code\":\"NotBuilt\",\"message\":\"this form is not built yet\"}}",
+    ),
+    (
+        "explain Sales?$apply=groupby((ID))",
+        "501",
+        "{\"error\":{\"code\":\"NotBuilt\",\"message\":\"this form is not built yet\"}}",
+    ),
+    (
+        "explain Sales?$apply=identity",
+        "501",
+        "{\"error\":{\"code\":\"NotBuilt\",\"message\":\"this form is not built yet\"}}",
+    ),
+    (
+        "Sales?$apply=topcount(1,Amount)",
+        "501",
+        "{\"error\":{\"code\":\"NotBuilt\",\"message\":\"this form is not built yet\"}}",
+    ),
+    (
+        "Sales?$apply=identity/concat(identity,identity)",
+        "501",
+        "{\"error\":{\"code\":\"NotBuilt\",\"message\":\"this form is not built yet\"}}",
+    ),
+];
+
+#[test]
+fn pipelines_that_are_built_have_their_bodies(rt: HostRuntime) -> Result<(), Fail> {
+    let alloc = rt.alloc();
+    for (line, code, body) in ANSWERS {
+        let case = Case {
+            model: SAMPLE,
+            data: SALES_DATA,
+            input: line.as_bytes(),
+            ..PLAIN
+        };
+        let length = body.len();
+        let expected = format!(in alloc; "{code} {length}\n{body}\n")?;
+        let ran = outcome(&rt, alloc, &case)?;
+        assert_eq!(rt; ran.status, Status::Served);
+        assert_eq!(rt; ran.output.as_slice(), expected.as_bytes());
+    }
+    Ok(())
+}

@@ -1,0 +1,28 @@
+//! Model files, data files, lines of requests and responses that tests share.
+
+/// One entity set with a key and an amount.
+pub(crate) const MODEL: &str =
+    "{\"$Version\":\"4.01\",\"$EntityContainer\":\"W.C\",\"W\":{\"Sale\":{\"$Kind\":\"EntityType\",\"$Key\":[\"ID\"],\"ID\":{\"$Type\":\"Edm.Int64\"},\"Amount\":{\"$Type\":\"Edm.Decimal\",\"$Precision\":16,\"$Scale\":2,\"$Nullable\":true}},\"C\":{\"$Kind\":\"EntityContainer\",\"Sales\":{\"$Collection\":true,\"$Type\":\"W.Sale\"}}}}";
+
+/// Organisations, each below another or none.
+pub(crate) const ORGS: &str =
+    "{\"$Version\":\"4.01\",\"$EntityContainer\":\"W.C\",\"W\":{\"Org\":{\"$Kind\":\"EntityType\",\"$Key\":[\"ID\"],\"ID\":{},\"ParentID\":{\"$Nullable\":true},\"Superordinate\":{\"$Kind\":\"NavigationProperty\",\"$Type\":\"W.Org\",\"$ReferentialConstraint\":{\"ParentID\":\"ID\"}}},\"C\":{\"$Kind\":\"EntityContainer\",\"Orgs\":{\"$Collection\":true,\"$Type\":\"W.Org\"}}}}";
+
+pub(crate) const DATA: &str =
+    "{\"Sales\":[{\"ID\":1,\"Amount\":\"10.00\"},{\"ID\":\"2\",\"Amount\":\"5.50\"},{\"ID\":\"3\",\"Amount\":\"7.25\"},{\"ID\":\"4\",\"Amount\":null},{\"ID\":\"5\",\"Amount\":1},{\"ID\":\"6\",\"Amount\":\"2.25\"}]}";
+
+/// Two lines of the first form, the first with CR and LF, an empty line between them, and no LF at the end.
+pub(crate) const LINES: &[u8] =
+    b"Sales?$apply=aggregate(Amount with sum as Total)\r\n\r\nSales?$apply=aggregate(ID with sum as T)";
+
+/// The responses to them.
+pub(crate) const RESPONSES: &[u8] =
+    b"200 88\n{\"@context\":\"$metadata#Sales(Total)\",\"value\":[{\"Total@type\":\"Decimal\",\"Total\":\"26.00\"}]}\n200 71\n{\"@context\":\"$metadata#Sales(T)\",\"value\":[{\"T@type\":\"Int64\",\"T\":\"21\"}]}\n";
+
+/// The first of the responses.
+pub(crate) const FIRST: &[u8] =
+    b"200 88\n{\"@context\":\"$metadata#Sales(Total)\",\"value\":[{\"Total@type\":\"Decimal\",\"Total\":\"26.00\"}]}\n";
+
+/// The definition of the sample's custom aggregate.
+pub(crate) const DEFINITION: &str =
+    "{\"Of\":\"Amount\",\"With\":\"sum\",\"Per\":[\"CustomerID\"],\"Then\":\"max\"}";
