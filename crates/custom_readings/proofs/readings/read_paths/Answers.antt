@@ -1,5 +1,5 @@
-use Rattle.apply_service.proofs.CustomsRead.{no-paths, paths-more}
-use Rattle.apply_service.proofs.customs.read_paths.Goals as goal
+use Rattle.custom_readings.proofs.ReadLists.{no-paths, paths-more}
+use Rattle.custom_readings.proofs.readings.read_paths.Goals as goal
 
 pub returns-in-Err-Syntax : goal.returns-in-Err-Syntax
 returns-in-Err-Syntax c =

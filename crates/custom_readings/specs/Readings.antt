@@ -1,23 +1,16 @@
--- What the program has read of a model's custom aggregates.
-use Rattle.std.specs.Prelude.{◌≡◌, ℕ, List, take, length, find, slice_get, Option, Some, None, ⊤}
+-- What is read of custom aggregates (Data Aggregation 4.0, section 5.2).
+use Rattle.std.specs.Prelude.{◌≡◌, ℕ, List, take, length, slice_get, Option, Some, None}
 use Rattle.std.specs.List.{AllZip}
 use Rattle.edm_values.specs.Names.{Path}
-use Rattle.edm_model.specs.Models.{Model, Part}
-use Rattle.edm_model.specs.Models as seen
-use Rattle.edm_model.specs.LookUps.{IsType}
-use Rattle.edm_model.specs.IdLists.{custom_list}
 use Rattle.edm_model.specs.declared.parts.Custom.{Custom}
 use Rattle.apply_ast.specs.Trees.{Expr}
 use Rattle.apply_ast.specs.Views.{expr_of}
-use Rattle.apply_grammar.specs.Limits.{PathText}
-use Rattle.context_typing.specs.Answers.{custom_of}
-use Rattle.context_typing.specs.Readings.{same_part}
+use Rattle.apply_grammar.specs.Limits.{ExprTextIn, PathText}
 use Rattle.context_typing.specs.declared.customs.ReadCustom.{ReadCustom}
-use Rattle.context_typing.specs.declared.definitions.CustomRefused.{CustomRefused}
-use Rattle.context_typing.specs.declared.definitions.CustomRefused.TheVariants as refused
-use Rattle.apply_service.specs.CustomReadings.{AreOfTexts, IsFirstUntyped}
-use Rattle.apply_service.specs.declared.customs.CustomStop.{CustomStop}
-use Rattle.apply_service.specs.declared.customs.CustomStop.TheVariants as stop
+
+-- the expression and the paths are those of these texts
+abbrev pub AreOfTexts : List ℕ → List (List ℕ) → Expr → List Path → Type 0
+AreOfTexts of per e ps = ExprTextIn of e × AllZip PathText per ps
 
 -- the paths are those of the texts, and no others are
 pub record ArePathsOf (texts : List (List ℕ)) (ps : List Path) : Type 0 where
@@ -48,24 +41,3 @@ AnswersReading u None = HasNoReading u
 pub record AreRead (us : List Custom) (list : List ReadCustom) : Type 0 where
   pub read : AllZip IsRead (take (length list) us) list
   pub ended : (u : Custom) → slice_get us (length list) ≡ Some u → HasNoReading u
-
--- the fact holds of the line of a refusal, if it is one
-abbrev pub IfRefused : CustomStop → (List ℕ → Type 0) → Type 0
-IfRefused stop.Memory P = ⊤
-IfRefused (stop.Refused line) P = P line.items
-
--- a custom aggregate with its type, as the model has it
-abbrev pub owned : Custom → ℕ × seen.Custom
-owned u = (u.owner, custom_of u)
-
--- the custom aggregate of this id is the first of the model that has no typed reading
-pub record IsFirstId (m : Model) (id : Part) : Type 0 where
-  pub custom : Custom
-  pub found : find (λ u. same_part u.id id) (custom_list m) ≡ Some custom
-  pub there : IsType m custom.owner
-  pub first : IsFirstUntyped m (owned custom)
-
--- the same of the custom aggregate that a refusal names, if it names one
-abbrev pub NamesFirst : Model → CustomRefused → Type 0
-NamesFirst m (refused.At id) = IsFirstId m id
-NamesFirst m refused.Memory = ⊤

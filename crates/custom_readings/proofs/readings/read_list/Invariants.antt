@@ -1,7 +1,7 @@
 use Rattle.std.proofs.Common.{◌≡◌, length, take}
 use Rattle.std.specs.List.{AllZip}
-use Rattle.apply_service.specs.ReadCustoms.{IsRead}
-use Rattle.apply_service.proofs.customs.read_customs.Given as goal
+use Rattle.custom_readings.specs.Readings.{IsRead}
+use Rattle.custom_readings.proofs.readings.read_list.Given as goal
 
 abbrev pub invariant-loop-custom : goal.invariant-loop-custom
 invariant-loop-custom l = record {

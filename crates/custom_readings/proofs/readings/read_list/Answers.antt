@@ -1,7 +1,7 @@
 use Rattle.std.proofs.Common.{arith, ap, length, length-append, ◌∷◌, []}
-use Rattle.apply_service.specs.ReadCustoms.{IsRead}
-use Rattle.apply_service.proofs.CustomsRead.{read-stopped, read-all, zip-more}
-use Rattle.apply_service.proofs.customs.read_customs.Goals as goal
+use Rattle.custom_readings.specs.Readings.{IsRead}
+use Rattle.custom_readings.proofs.ReadLists.{read-stopped, read-all, zip-more}
+use Rattle.custom_readings.proofs.readings.read_list.Goals as goal
 
 pub returns-in-None : goal.returns-in-None
 returns-in-None c =
