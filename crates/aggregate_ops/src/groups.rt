@@ -3,7 +3,7 @@ ghost use Rattle.std.specs.Prelude.{◌≡◌, ◌<◌, [], ◌∷◌, ◌++◌,
 ghost use Rattle.std.specs.Option.{option_map};
 ghost use Rattle.apply_meaning.specs.Meaning.{same_keys};
 
-use crate::values::copy;
+use crate::values::copies;
 use edm_values::Value;
 use std::alloc::{AllocError, Global};
 use std::marker::Model;
@@ -59,17 +59,6 @@ impl Group {
             places: Vec::from_slice(alloc, self.places.as_slice())?,
         })
     }
-}
-
-/// Copies of the values.
-fn copies(alloc: Global, values: &[Value]) -> Result<Vec<Value>, AllocError>
-    ensures { IfOk result (λ vs. vs.items ≡ values.now) }
-{
-    let mut copied = Vec::with_capacity(alloc, values.len())?;
-    for value in values {
-        copied.push(copy(alloc, value)?)?;
-    }
-    Ok(copied)
 }
 
 /// The groups of a list of key lists: the distinct keys in order of first appearance, each with its places.

@@ -2,7 +2,8 @@
 //!
 //! `SumOf`, `MinOf`, `MaxOf`, `DistinctOf` and `CountOf` are each a `Partial` over values: made for a type by `new`, given one
 //! value at a time, and ended by `finish`. `aggregate_values` folds a list of values by the partial of a method. `KeyTable` is
-//! a `Partial` over key lists; `groups` gives its `Groups`. `values` has what is asked of a single value.
+//! a `Partial` over key lists; `groups` gives its `Groups`. `values` has what is asked of a single value, and copies of
+//! values.
 //!
 //! The crate stands on `par_stages` for folds, on `apply_meaning` for the meaning of aggregates and of groups, and on
 //! `edm_values` for values and their order.
@@ -29,3 +30,4 @@ pub use folds::aggregate_values;
 pub use groups::Groups;
 pub use key_tables::KeyTable;
 pub use sums::SumOf;
+pub use values::copies;

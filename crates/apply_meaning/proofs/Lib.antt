@@ -22,6 +22,7 @@ pub mod MergedFit
 pub mod NodeLemmas
 mod NodeRows
 pub mod PlaceLemmas
+pub mod PlacedRows
 pub mod QuietLemmas
 pub mod RootLemmas
 pub mod RunLemmas

@@ -187,7 +187,7 @@ module _ (w : World) (c : Customs) (P : IsWellTyped w) where
     step_fits (Step.Skip n) S S' L e l r a h = chosen S S' (then_some-parts _ _ S' e).1 _ r (some_value h) (all-drop (fits w S) n l a)
     step_fits (Step.Top n) S S' L e l r a h = chosen S S' (then_some-parts _ _ S' e).1 _ r (some_value h) (all-take (fits w S) n l a)
     step_fits (Step.Aggregate items) S S' L e l r a h =
-        ap (list_all (fits w S')) (sym (some_value h)) ∙ aggregate_step-fits w P c S L l a S' items (lawful-from w.model S' (step_law w.model c (Step.Aggregate items) S S' L e).0) e
+        ap (list_all (fits w S')) (sym (some_value h)) ∙ aggregate_step-fits w P c S l a S' items (lawful-from w.model S' (step_law w.model c (Step.Aggregate items) S S' L e).0) e
     step_fits (Step.GroupBy ks T) S S' L e l r a h =
         let t = if_else-parts (keys_typed w.model c S ks) (option_and_then (grouped_shape w.model S (group_keys ks)) (inner_shape w.model c S no_shape T)) S' e in
         let G = chained (grouped_shape w.model S (group_keys ks)) (inner_shape w.model c S no_shape T) S' t.1 in

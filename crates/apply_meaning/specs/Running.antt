@@ -5,10 +5,9 @@ use Rattle.std.specs.declared.result.Result.TheVariants.{Ok, Err}
 use Rattle.std.specs.Global.{Vec}
 use Rattle.std.specs.List.{list_all}
 use Rattle.edm_data.specs.Worlds.{World}
-use Rattle.edm_values.specs.declared.EdmType.{EdmType}
 use Rattle.edm_values.specs.declared.Method.{Method}
 use Rattle.edm_values.specs.declared.Value.{Value}
-use Rattle.edm_values.specs.Literals.{is_number_kind, is_of_kind}
+use Rattle.edm_values.specs.Literals.{AreNumbers}
 use Rattle.edm_values.specs.Names.{Path}
 use Rattle.apply_ast.specs.Trees.{AggItem, Named, Pipe, Step}
 use Rattle.context_typing.specs.Shapes.{Shape}
@@ -46,10 +45,6 @@ all_free w ns l = list_all (λ i. columns_differ (extended i (new_columns w ns i
 abbrev pub is_standard : AggItem → Bool
 is_standard (AggItem.Custom n a) = false
 is_standard _ = true
-
--- the values are of one type of numbers
-abbrev pub AreNumbers : List Value → Type 0
-AreNumbers vs = (k : EdmType) × IsTrue (is_number_kind k) × IsTrue (list_all (is_of_kind k) vs)
 
 -- the method is no sum, or the values are of one type of numbers
 abbrev pub AreFor : Method → List Value → Type 0

@@ -9,7 +9,6 @@ ghost use Rattle.apply_meaning.specs.Aggregates as spec;
 ghost use Rattle.apply_meaning.specs.Meaning.{item_before};
 ghost use Rattle.apply_meaning.specs.Running.{AreFor};
 
-use crate::operators::is_null;
 use crate::sums::sum;
 use edm_values::{Method, Seen, Value, order};
 use indexmap::IndexSet;
@@ -80,7 +79,7 @@ fn count_distinct(alloc: Global, values: &[Seen<'_>]) -> Result<Value, AllocErro
 {
     let mut seen = IndexSet::new(alloc);
     for value in values {
-        if !is_null(*value) {
+        if !value.is_null() {
             seen.insert(value.own(alloc)?)?;
         }
     }
@@ -88,7 +87,7 @@ fn count_distinct(alloc: Global, values: &[Seen<'_>]) -> Result<Value, AllocErro
 }
 
 /// The count as a value: one past 63 bits counts more than any memory holds.
-pub(crate) fn count(n: usize) -> Result<Value, AllocError>
+pub fn count(n: usize) -> Result<Value, AllocError>
     ensures { IfOk result (λ v. v ≡ Value'.Int (pos n)) }
 {
     match i64::try_from(n) {

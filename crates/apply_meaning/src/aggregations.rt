@@ -17,8 +17,8 @@ use edm_values::{Seen, Value};
 use std::alloc::{AllocError, Global};
 use std::sync::ledger::Ledger;
 
-/// The values of an expression on rows.
-fn values_of<'a>(
+/// The values of an expression on rows, as they are seen.
+pub fn seen_values<'a>(
     alloc: Global,
     store: &'a Data,
     e: &'a Expr,
@@ -34,8 +34,25 @@ fn values_of<'a>(
     Ok(found)
 }
 
+/// The values of an expression on rows.
+pub fn values_of(
+    alloc: Global,
+    store: &Data,
+    e: &Expr,
+    rows: &[Row],
+) -> Result<Vec<Value>, AllocError>
+    requires { IsTrue (all_of store.now rows.now) }
+    ensures { IfOk result (λ vs. vs.items ≡ values store.now (expr_of e.now) rows.now) }
+{
+    let mut found = Vec::with_capacity(alloc, rows.len())?;
+    for row in rows {
+        found.push(eval(store, row, e).own(alloc)?)?;
+    }
+    Ok(found)
+}
+
 /// The path of one name.
-pub(crate) fn path_of(alloc: Global, name: &Name) -> Result<Path, AllocError>
+pub fn path_of(alloc: Global, name: &Name) -> Result<Path, AllocError>
     ensures { IfOk result (λ p. p ≡ name.now ∷ []) }
 {
     let mut names = Vec::new(alloc);
@@ -58,7 +75,7 @@ fn item_value(
     match item {
         AggItem::Count(name) => Ok((path_of(alloc, name)?, count(rows.len())?)),
         AggItem::Standard(e, method, name) => {
-            let values = values_of(alloc, store, e, rows)?;
+            let values = seen_values(alloc, store, e, rows)?;
             let value = aggregate(alloc, *method, values.as_slice())?;
             Ok((path_of(alloc, name)?, value))
         }

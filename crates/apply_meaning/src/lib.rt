@@ -4,8 +4,9 @@
 //! A `Row` is an instance: entities at prefixes, and values at columns. `Row::make`, `Row::extend` and `Row::copy` are the
 //! only calls that give one, and each counts one step. `lookup` gives the value of a path on a row, and `eval` that of an
 //! expression; `operators` has the operators and functions. `aggregates` has the aggregates of lists of values, and `sums`
-//! adds numbers. Each plain transformation has a function of its own over lists of rows: `filters`, `computes`,
-//! `aggregations`; `sets` makes the rows of an entity set, and `plain` runs whole pipelines of these (`run_plain`).
+//! adds numbers; `values_of` gives the values of an expression on rows. Each plain transformation has a function of its own
+//! over lists of rows: `filters`, `computes`, `aggregations`; `sets` makes the rows of an entity set, and `plain` runs whole
+//! pipelines of these (`run_plain`).
 //! `Steps` counts the steps of a run; only `tick` changes the count, by one. `docs/meaning.md` states the rules.
 //!
 //! The crate stands on `edm_values` for values, their arithmetic and their ranges, on `edm_model` for sets, properties and
@@ -37,7 +38,8 @@ mod sets;
 mod steps;
 mod sums;
 
-pub use aggregates::aggregate;
+pub use aggregates::{aggregate, count};
+pub use aggregations::{path_of, seen_values, values_of};
 pub use computes::compute_rows;
 pub use evaluation::eval;
 pub use filters::{filter_rows, skip_rows, top_rows};
@@ -48,6 +50,6 @@ pub use laws::{
 pub use lookups::lookup;
 pub use plain::{aggregated, is_plain, is_plain_step, run_plain};
 pub use refusals::RunRefused;
-pub use rows::Row;
+pub use rows::{Row, copy_columns, copy_prefixes};
 pub use sets::set_rows;
 pub use steps::Steps;

@@ -8,20 +8,6 @@ ghost use Rattle.apply_meaning.specs.Instances.{binary, call1, call2};
 use apply_ast::{BinOp, Fun1, Fun2};
 use edm_values::{Seen, add, compare, mul, sub};
 
-/// Whether the value is `Beyond`.
-fn is_beyond(v: Seen<'_>) -> bool
-    ensures { result ≡ spec.is_beyond (seen_value v.entry) }
-{
-    matches!(v, Seen::Beyond)
-}
-
-/// Whether the value is null.
-pub(crate) fn is_null(v: Seen<'_>) -> bool
-    ensures { result ≡ spec.is_null (seen_value v.entry) }
-{
-    matches!(v, Seen::Null)
-}
-
 /// Whether the value is this Boolean.
 fn is_value(b: bool, v: Seen<'_>) -> bool
     ensures { result ≡ spec.is_value b (seen_value v.entry) }
@@ -36,10 +22,10 @@ fn is_value(b: bool, v: Seen<'_>) -> bool
 fn equal<'a>(a: Seen<'a>, b: Seen<'a>) -> Seen<'a>
     ensures { seen_value result ≡ spec.equal (seen_value a.entry) (seen_value b.entry) }
 {
-    if is_beyond(a) || is_beyond(b) {
+    if a.is_beyond() || b.is_beyond() {
         Seen::Beyond
-    } else if is_null(a) || is_null(b) {
-        Seen::Bool(is_null(a) && is_null(b))
+    } else if a.is_null() || b.is_null() {
+        Seen::Bool(a.is_null() && b.is_null())
     } else {
         match compare(a, b) {
             Some(order) => Seen::Bool(order.is_eq()),
@@ -52,10 +38,10 @@ fn equal<'a>(a: Seen<'a>, b: Seen<'a>) -> Seen<'a>
 fn not_equal<'a>(a: Seen<'a>, b: Seen<'a>) -> Seen<'a>
     ensures { seen_value result ≡ spec.not_equal (seen_value a.entry) (seen_value b.entry) }
 {
-    if is_beyond(a) || is_beyond(b) {
+    if a.is_beyond() || b.is_beyond() {
         Seen::Beyond
-    } else if is_null(a) || is_null(b) {
-        Seen::Bool(!(is_null(a) && is_null(b)))
+    } else if a.is_null() || b.is_null() {
+        Seen::Bool(!(a.is_null() && b.is_null()))
     } else {
         match compare(a, b) {
             Some(order) => Seen::Bool(order.is_ne()),
@@ -68,7 +54,7 @@ fn not_equal<'a>(a: Seen<'a>, b: Seen<'a>) -> Seen<'a>
 fn greater<'a>(a: Seen<'a>, b: Seen<'a>) -> Seen<'a>
     ensures { seen_value result ≡ spec.greater (seen_value a.entry) (seen_value b.entry) }
 {
-    if is_beyond(a) || is_beyond(b) {
+    if a.is_beyond() || b.is_beyond() {
         return Seen::Beyond;
     }
     match compare(a, b) {
@@ -81,7 +67,7 @@ fn greater<'a>(a: Seen<'a>, b: Seen<'a>) -> Seen<'a>
 fn greater_or_equal<'a>(a: Seen<'a>, b: Seen<'a>) -> Seen<'a>
     ensures { seen_value result ≡ spec.greater_or_equal (seen_value a.entry) (seen_value b.entry) }
 {
-    if is_beyond(a) || is_beyond(b) {
+    if a.is_beyond() || b.is_beyond() {
         return Seen::Beyond;
     }
     match compare(a, b) {
@@ -94,7 +80,7 @@ fn greater_or_equal<'a>(a: Seen<'a>, b: Seen<'a>) -> Seen<'a>
 fn less<'a>(a: Seen<'a>, b: Seen<'a>) -> Seen<'a>
     ensures { seen_value result ≡ spec.less (seen_value a.entry) (seen_value b.entry) }
 {
-    if is_beyond(a) || is_beyond(b) {
+    if a.is_beyond() || b.is_beyond() {
         return Seen::Beyond;
     }
     match compare(a, b) {
@@ -107,7 +93,7 @@ fn less<'a>(a: Seen<'a>, b: Seen<'a>) -> Seen<'a>
 fn less_or_equal<'a>(a: Seen<'a>, b: Seen<'a>) -> Seen<'a>
     ensures { seen_value result ≡ spec.less_or_equal (seen_value a.entry) (seen_value b.entry) }
 {
-    if is_beyond(a) || is_beyond(b) {
+    if a.is_beyond() || b.is_beyond() {
         return Seen::Beyond;
     }
     match compare(a, b) {
@@ -120,7 +106,7 @@ fn less_or_equal<'a>(a: Seen<'a>, b: Seen<'a>) -> Seen<'a>
 fn both<'a>(a: Seen<'a>, b: Seen<'a>) -> Seen<'a>
     ensures { seen_value result ≡ spec.both (seen_value a.entry) (seen_value b.entry) }
 {
-    if is_beyond(a) || is_beyond(b) {
+    if a.is_beyond() || b.is_beyond() {
         Seen::Beyond
     } else if is_value(false, a) || is_value(false, b) {
         Seen::Bool(false)
@@ -135,7 +121,7 @@ fn both<'a>(a: Seen<'a>, b: Seen<'a>) -> Seen<'a>
 fn either<'a>(a: Seen<'a>, b: Seen<'a>) -> Seen<'a>
     ensures { seen_value result ≡ spec.either (seen_value a.entry) (seen_value b.entry) }
 {
-    if is_beyond(a) || is_beyond(b) {
+    if a.is_beyond() || b.is_beyond() {
         Seen::Beyond
     } else if is_value(true, a) || is_value(true, b) {
         Seen::Bool(true)

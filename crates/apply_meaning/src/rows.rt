@@ -126,8 +126,8 @@ fn joined(
     Ok(all)
 }
 
-/// The same prefixes.
-fn copy_prefixes(
+/// Copies of prefixes: paths share their names.
+pub fn copy_prefixes(
     alloc: Global,
     prefixes: &[(Path, Option<EntityRef>)],
 ) -> Result<Vec<(Path, Option<EntityRef>)>, AllocError>
@@ -140,8 +140,11 @@ fn copy_prefixes(
     Ok(copies)
 }
 
-/// The same columns.
-fn copy_columns(alloc: Global, columns: &[(Path, Value)]) -> Result<Vec<(Path, Value)>, AllocError>
+/// Copies of columns: paths share their names.
+pub fn copy_columns(
+    alloc: Global,
+    columns: &[(Path, Value)],
+) -> Result<Vec<(Path, Value)>, AllocError>
     ensures { IfOk result (λ copies. copies.items ≡ columns.now) }
 {
     let mut copies = Vec::with_capacity(alloc, columns.len())?;

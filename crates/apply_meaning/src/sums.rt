@@ -3,11 +3,10 @@ ghost use Rattle.std.specs.Prelude.{◌≡◌, IsTrue, false, find, map};
 ghost use Rattle.std.specs.List.{list_any};
 ghost use Rattle.edm_values.specs.declared.EdmType.{EdmType};
 ghost use Rattle.edm_values.specs.declared.Method.TheVariants as method;
-ghost use Rattle.edm_values.specs.Literals.{is_of_kind};
+ghost use Rattle.edm_values.specs.Literals.{AreNumbers, is_of_kind};
 ghost use Rattle.edm_values.specs.Values as spec;
-ghost use Rattle.edm_values.specs.Values.{number_part, seen_value};
+ghost use Rattle.edm_values.specs.Values.{seen_value};
 ghost use Rattle.apply_meaning.specs.Aggregates.{aggregate, number_in};
-ghost use Rattle.apply_meaning.specs.Running.{AreNumbers};
 
 use edm_values::{Dec, Seen, Value};
 
@@ -22,7 +21,7 @@ pub(crate) fn sum(values: &[Seen<'_>]) -> Value
     };
     let mut sum: i128 = 0;
     for value in values {
-        sum += i128::from(mantissa(*value));
+        sum += i128::from(value.mantissa());
     }
     number_like(first, sum)
 }
@@ -31,7 +30,7 @@ pub(crate) fn sum(values: &[Seen<'_>]) -> Value
 fn first_number<'a>(values: &[Seen<'a>]) -> Option<Seen<'a>>
     ensures { result ≡ find (λ v. spec.is_number (seen_value v)) values.now }
 {
-    values.iter().copied().find(|value| is_number(*value))
+    values.iter().copied().find(|value| value.is_number())
 }
 
 /// The number of the same type as a number, with this mantissa, or `Beyond` where it is past the type's range.
@@ -49,22 +48,4 @@ fn number_like(v: Seen<'_>, mantissa: i128) -> Value
         },
         _ => Value::Int(mantissa),
     }
-}
-
-/// The mantissa of a number, an integer being its own; 0 of a value that is no number.
-fn mantissa(v: Seen<'_>) -> i64
-    ensures { result ≡ (number_part (seen_value v.entry)).0 }
-{
-    match v {
-        Seen::Int(n) => n,
-        Seen::Dec(d) => d.mantissa(),
-        _ => 0,
-    }
-}
-
-/// Whether the value is a number.
-fn is_number(v: Seen<'_>) -> bool
-    ensures { result ≡ spec.is_number (seen_value v.entry) }
-{
-    matches!(v, Seen::Int(_) | Seen::Dec(_))
 }

@@ -1,14 +1,12 @@
 -- From what was read of a model's custom aggregates to their typed readings, or to the first that has none.
-use Rattle.std.proofs.Common.{◌≡◌, ℕ, zero, suc, ◌+◌, ◌<◌, ◌≤◌, ◌&&◌, Bool, true, false, List, [], ◌∷◌, ◌++◌, Option, Some, None, Err, refl, sym, ap, subst, ◌∙◌, map, take, length, get_or, arith, cond}
+use Rattle.std.proofs.Common.{◌≡◌, ℕ, zero, suc, ◌<◌, ◌≤◌, ◌&&◌, Bool, true, false, List, [], ◌∷◌, Option, Some, None, Err, refl, sym, ap, subst, ◌∙◌, map, take, length, get_or, arith, cond}
 use Rattle.std.specs.Prelude.{All, find, is_none, is_some, slice_get, option_map, unwrap_or, ◌==◌}
 use Rattle.std.specs.List.{AllZip, enumerate_from}
 use Rattle.std.proofs.lemmas.Bool.{and_parts, eqb-true, eq-eqb}
-use Rattle.std.proofs.lemmas.List.{length-map, take_more, take-map, take_all}
+use Rattle.std.proofs.lemmas.List.{length-map, take-map, take_all}
 use Rattle.std.proofs.lemmas.List.Elements.{All-get_or, All-head, All-tail, All-take}
-use Rattle.std.proofs.lemmas.Option.{slice_get-get_or, slice_get_past}
 use Rattle.edm_values.specs.declared.EdmType.{EdmType}
 use Rattle.edm_values.specs.Lists.{same_text}
-use Rattle.edm_values.specs.Names.{Path}
 use Rattle.edm_values.proofs.OptionFacts.{none_or, some_value, mapped, chained}
 use Rattle.edm_values.proofs.SameTexts.{same_texts}
 use Rattle.edm_values.proofs.SearchFacts.{found-passes}
@@ -18,9 +16,6 @@ use Rattle.edm_model.specs.LookUps.{custom_named, customs_of_type, item_named, t
 use Rattle.edm_model.specs.IdLists.{custom_list}
 use Rattle.edm_model.specs.Soundness.{IsSound}
 use Rattle.edm_model.specs.declared.parts.Custom.{Custom}
-use Rattle.apply_ast.specs.Trees.{Expr}
-use Rattle.apply_ast.specs.Views.{expr_of}
-use Rattle.apply_grammar.specs.Limits.{ExprTextIn, PathText}
 use Rattle.context_typing.specs.Answers.{IfUntyped, IsEntry, custom_of, reading_for}
 use Rattle.context_typing.specs.Readings.{AreTypedOver, IsTypedCustom, read_kind, reading_of, readings, same_part}
 use Rattle.context_typing.specs.Typing.{Customs, Reading, custom_kind, custom_risky, customs_typed}
@@ -30,108 +25,17 @@ use Rattle.context_typing.specs.declared.definitions.CustomRefused.TheVariants a
 use Rattle.context_typing.specs.declared.customs.TypedCustom.{TypedCustom}
 use Rattle.context_typing.proofs.CustomEntries.{entries, read-kind-is}
 use Rattle.context_typing.proofs.WholeCustoms.{customs_are_typed}
+use Rattle.custom_readings.specs.Readings.{AreRead, HasNoReading, IsRead}
+use Rattle.custom_readings.proofs.ReadLists.{first-ids}
 use Rattle.apply_service.specs.CustomReadings.{IsTypedReading, AreCustoms, IsFirstUntyped}
 use Rattle.apply_service.specs.LoadStops.{CustomStopSays}
-use Rattle.apply_service.specs.ReadCustoms.{ArePathsOf, IsRead, HasNoReading, AreRead, IfRefused, IsFirstId, NamesFirst, owned}
+use Rattle.apply_service.specs.FirstCustoms.{IfRefused, IsFirstId, NamesFirst, owned}
 use Rattle.apply_service.specs.Responses.{custom_line}
 use Rattle.apply_service.specs.declared.customs.CustomStop.{CustomStop}
 use Rattle.apply_service.specs.declared.customs.CustomStop.TheVariants as stop
 use Rattle.edm_model.specs.LookUps.{IsType, type_name}
-use Rattle.apply_service.proofs.FirstCustoms.{zipped, customs-owned}
+use Rattle.apply_service.proofs.FirstCustoms.{customs-owned}
 use Rattle.apply_service.proofs.Named.{item_at}
-
--- ---- pairs of lists that grow
-
-pushed : {A B : Type 0} (P : A → B → Type 0) (xs : List A) (ys : List B) (x : A) (y : B) → AllZip P xs ys → P x y → AllZip P (xs ++ x ∷ []) (ys ++ y ∷ [])
-pushed P [] [] x y h p = (p, tt)
-pushed P [] (b ∷ ys) x y h p = absurd h
-pushed P (a ∷ xs) [] x y h p = absurd h
-pushed P (a ∷ xs) (b ∷ ys) x y h p = (h.0, pushed P xs ys x y h.1 p)
-
-parted : {A B : Type 0} (P : A → B → Type 0) (xs : List A) (x : A) (zs : List B) → AllZip P (xs ++ x ∷ []) zs → (ys : List B) × (y : B) × (zs ≡ ys ++ y ∷ []) × AllZip P xs ys × P x y
-parted P [] x [] h = absurd h
-parted P [] x (z ∷ []) h = ([], z, refl, tt, h.0)
-parted P [] x (z ∷ y ∷ zs) h = absurd h.1
-parted P (w ∷ xs) x [] h = absurd h
-parted P (w ∷ xs) x (z ∷ zs) h =
-    let r = parted P xs x zs h.1 in
-    (z ∷ r.0, r.1, ap (λ l. z ∷ l) r.2, (h.0, r.3), r.4)
-
--- one item more was read
-item_more : {X : Type 0} (xs : List X) (i : ℕ) (x : X) → i < length xs → x ≡ get_or xs i x → take (i + 1) xs ≡ take i xs ++ x ∷ []
-item_more xs i x within is = take_more xs i x within ∙ ap (λ z. take i xs ++ z ∷ []) (sym is)
-
-pub item_get : {X : Type 0} (xs : List X) (i : ℕ) (x : X) → i < length xs → x ≡ get_or xs i x → slice_get xs i ≡ Some x
-item_get xs i x within is = slice_get-get_or xs i x within ∙ ap Some (sym is)
-
-pub zip-more : {A B : Type 0} (P : A → B → Type 0) (xs : List A) (ys : List B) (i : ℕ) (x : A) (y : B) → i < length xs → x ≡ get_or xs i x → AllZip P (take i xs) ys → P x y → AllZip P (take (i + 1) xs) (ys ++ y ∷ [])
-zip-more P xs ys i x y within is h p =
-    let Q : List _ → Type 0 = λ l. AllZip P l (ys ++ y ∷ []) in
-    subst Q (sym (item_more xs i x within is)) (pushed P (take i xs) ys x y h p)
-
--- ---- paths
-
-no_more : (qs : List Path) → AllZip PathText [] qs → qs ≡ []
-no_more [] h = refl
-no_more (q ∷ qs) h = absurd h
-
-pub paths-none : ArePathsOf [] []
-paths-none = record { are = tt; only = no_more }
-
-pub paths-more : (texts : List (List ℕ)) (ps : List Path) (i : ℕ) (t : List ℕ) (p : Path) → i < length texts → t ≡ get_or texts i t → ArePathsOf (take i texts) ps → PathText t p → ((q : Path) → PathText t q → Some q ≡ Some p) → ArePathsOf (take (i + 1) texts) (ps ++ p ∷ [])
-paths-more texts ps i t p within is h text only =
-    let P : List (List ℕ) → Type 0 = λ l. ArePathsOf l (ps ++ p ∷ []) in
-    subst P (sym (item_more texts i t within is)) (record {
-      are = pushed PathText (take i texts) ps t p h.are text;
-      only = λ qs z.
-          let r = parted PathText (take i texts) t qs z in
-          r.2 ∙ (λ j. h.only r.0 r.3 j ++ some_value (only r.1 r.4) j ∷ []);
-    })
-
-pub paths-all : (texts : List (List ℕ)) (ps : List Path) (i : ℕ) → length texts ≤ i → ArePathsOf (take i texts) ps → ArePathsOf texts ps
-paths-all texts ps i past h = let P : List (List ℕ) → Type 0 = λ l. ArePathsOf l ps in subst P (take_all i texts past) h
-
--- one text that is no path
-pub no-paths : (texts : List (List ℕ)) (i : ℕ) (t : List ℕ) → i < length texts → t ≡ get_or texts i t → ((q : Path) → PathText t q → ◌≡◌ {A = Option Path} (Some q) None) → (ps : List Path) → ¬ AllZip PathText texts ps
-no-paths texts i t within is none ps h =
-    let r = zipped PathText i texts ps t h (item_get texts i t within is) in
-    none_or r.0 (sym (none r.0 r.1))
-
--- ---- one custom aggregate
-
-pub is-read : (u : Custom) (r : ReadCustom) → r.id ≡ u.id → ExprTextIn u.of (expr_of r.of) → ((e : Expr) → ExprTextIn u.of e → Some e ≡ Some (expr_of r.of)) → ArePathsOf u.per r.per → IsRead u r
-is-read u r id text only paths = record {
-  id = id;
-  texts = (text, paths.are);
-  only = λ e ps h. (some_value (only e h.0), paths.only ps h.1);
-}
-
-pub no-expression : (u : Custom) → ((e : Expr) → ExprTextIn u.of e → ◌≡◌ {A = Option Expr} (Some e) None) → HasNoReading u
-no-expression u none e ps h = none_or e (sym (none e h.0))
-
-pub no-per : (u : Custom) → ((ps : List Path) → ¬ AllZip PathText u.per ps) → HasNoReading u
-no-per u none e ps h = none ps h.1
-
--- ---- all custom aggregates
-
-pub read-stopped : (us : List Custom) (list : List ReadCustom) (i : ℕ) (u : Custom) → i < length us → u ≡ get_or us i u → length list ≡ i → AllZip IsRead (take i us) list → HasNoReading u → AreRead us list
-read-stopped us list i u within is count zip none =
-    let P : ℕ → Type 0 = λ n. AllZip IsRead (take n us) list in
-    record {
-      read = subst P (sym count) zip;
-      ended = λ v e.
-          let same : u ≡ v = some_value (sym (item_get us i u within is) ∙ ap (slice_get us) (sym count) ∙ e) in
-          let Q : Custom → Type 0 = HasNoReading in
-          subst Q same none;
-    }
-
-pub read-all : (us : List Custom) (list : List ReadCustom) (i : ℕ) → length us ≤ i → length list ≡ i → AllZip IsRead (take i us) list → AreRead us list
-read-all us list i past count zip =
-    let P : ℕ → Type 0 = λ n. AllZip IsRead (take n us) list in
-    record {
-      read = subst P (sym count) zip;
-      ended = λ v e. none_or v (sym (slice_get_past us (length list) (omega (arith, count))) ∙ e);
-    }
 
 -- ---- typed readings
 
@@ -280,15 +184,6 @@ module _ (m : Model) where
   -- ---- what the calls have to say
 
   module _ (sound : IsSound m) (list : List ReadCustom) (are : AreRead (custom_list m) list) where
-    pub first-ids : map (λ r. r.id) list ≡ take (length list) (map (λ u. u.id) (custom_list m))
-    first-ids = go (take (length list) (custom_list m)) list are.read ∙ sym (take-map (λ (u : Custom). u.id) (length list) (custom_list m))
-      where
-        go : (us : List Custom) (list : List ReadCustom) → AllZip IsRead us list → map (λ r. r.id) list ≡ map (λ u. u.id) us
-        go [] [] z = refl
-        go [] (r ∷ list) z = absurd z
-        go (u ∷ us) [] z = absurd z
-        go (u ∷ us) (r ∷ list) z = λ i. z.0.id i ∷ go us list z.1 i
-
     zip-typed : (c : List TypedCustom) → map (λ x. x.read) c ≡ list → AreTypedOver m c → AllZip (IsTypedReading m) (map owned (take (length list) (custom_list m))) (readings c)
     zip-typed c reads typed =
         let P : List ReadCustom → Type 0 = λ l. AllZip IsRead (take (length list) (custom_list m)) l in
@@ -305,7 +200,7 @@ module _ (m : Model) where
     whole-typed c reads typed past =
         let ids = map (λ (u : Custom). u.id) (custom_list m) in
         let short : length ids ≤ length list = omega (arith, past, length-map (custom_list m) (λ (u : Custom). u.id)) in
-        customs_are_typed m c typed (sym (read-ids c) ∙ ap (map (λ (r : ReadCustom). r.id)) reads ∙ first-ids ∙ take_all (length list) ids short)
+        customs_are_typed m c typed (sym (read-ids c) ∙ ap (map (λ (r : ReadCustom). r.id)) reads ∙ first-ids (custom_list m) list are ∙ take_all (length list) ids short)
       where
         read-ids : (c : List TypedCustom) → map (λ (r : ReadCustom). r.id) (map (λ (x : TypedCustom). x.read) c) ≡ map (λ x. x.read.id) c
         read-ids [] = refl

@@ -1,28 +1,20 @@
 -- The custom aggregates of a model: in a row with their types, all with typed readings, and the first that has none.
-use Rattle.std.proofs.Common.{◌≡◌, ℕ, zero, suc, ◌+◌, ◌<◌, ◌≤◌, List, [], ◌∷◌, ◌++◌, Some, refl, sym, ap, subst, ◌∙◌, map, take, length, get_or, arith}
-use Rattle.std.specs.Prelude.{flat_map, slice_get, option_map, unwrap_or}
-use Rattle.std.specs.List.{AllZip, enumerate_from}
+use Rattle.std.proofs.Common.{◌≡◌, ℕ, zero, suc, ◌+◌, ◌<◌, ◌≤◌, List, [], ◌∷◌, ◌++◌, refl, sym, ap, ◌∙◌, map, take, length, get_or, arith}
+use Rattle.std.specs.Prelude.{flat_map, option_map, unwrap_or}
+use Rattle.std.specs.List.{enumerate_from}
 use Rattle.std.proofs.lemmas.List.{map-append, take_all}
 use Rattle.std.proofs.lemmas.Option.{slice_get-get_or}
 use Rattle.std.proofs.lemmas.Grind.{flat_map-append}
 use Rattle.std.proofs.lemmas.List.{append-nil}
 use Rattle.edm_values.specs.Lists.{places}
-use Rattle.edm_values.proofs.OptionFacts.{none_or, some_value}
 use Rattle.edm_model.specs.Models.{Custom, EntityType, Model}
 use Rattle.edm_model.specs.LookUps.{all_customs, customs_of_type}
 use Rattle.edm_model.specs.IdLists.{custom_entry, custom_list, customs_in}
 use Rattle.edm_model.proofs.Counted.{enumerate_more, flat_places_more}
 use Rattle.context_typing.specs.Typing.{Customs}
+use Rattle.custom_readings.proofs.ReadLists.{zipped}
 use Rattle.apply_service.specs.CustomReadings.{IsTypedReading, AreCustoms, IsFirstUntyped}
-use Rattle.apply_service.specs.ReadCustoms.{owned}
-
--- ---- pairs of lists
-
-pub zipped : {A B : Type 0} (P : A → B → Type 0) (n : ℕ) (xs : List A) (ys : List B) (x : A) → AllZip P xs ys → slice_get xs n ≡ Some x → (y : B) × P x y
-zipped P n [] ys x a e = none_or x e
-zipped P n (x ∷ xs) [] z a e = absurd a
-zipped P zero (x ∷ xs) (y ∷ ys) z a e = let Q : _ → Type 0 = λ v. P v y in (y, subst Q (some_value e) a.0)
-zipped P (suc n) (x ∷ xs) (y ∷ ys) z a e = zipped P n xs ys z a.1 e
+use Rattle.apply_service.specs.FirstCustoms.{owned}
 
 -- where all have typed readings, none is the first without
 pub not_both : (m : Model) (c : Customs) (u : ℕ × Custom) → AreCustoms m c → IsFirstUntyped m u → ⊥

@@ -1,16 +1,10 @@
 -- The readings of a model's custom aggregates (Data Aggregation 4.0, section 5.2).
-use Rattle.std.specs.Prelude.{◌≡◌, ℕ, List, take, slice_get, Some, is_some, IsTrue}
+use Rattle.std.specs.Prelude.{◌≡◌, ℕ, take, slice_get, Some, is_some, IsTrue}
 use Rattle.std.specs.List.{AllZip}
-use Rattle.edm_values.specs.Names.{Path}
 use Rattle.edm_model.specs.Models.{Custom, Model}
 use Rattle.edm_model.specs.LookUps.{all_customs}
-use Rattle.apply_ast.specs.Trees.{Expr}
-use Rattle.apply_grammar.specs.Limits.{ExprTextIn, PathText}
 use Rattle.context_typing.specs.Typing.{Reading, Customs, custom_kind}
-
--- the expression and the paths are those of these texts
-abbrev pub AreOfTexts : List ℕ → List (List ℕ) → Expr → List Path → Type 0
-AreOfTexts of per e ps = ExprTextIn of e × AllZip PathText per ps
+use Rattle.custom_readings.specs.Readings.{AreOfTexts}
 
 -- a reading of the texts of a custom aggregate's definition
 abbrev pub IsReading : Custom → Reading → Type 0

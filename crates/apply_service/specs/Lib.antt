@@ -1,9 +1,9 @@
 pub mod Answers
 pub mod CustomReadings
 pub mod ExitCodes
+pub mod FirstCustoms
 pub mod Loads
 pub mod Replies
-pub mod ReadCustoms
 pub mod OutputBytes
 pub mod Requests
 pub mod Responses

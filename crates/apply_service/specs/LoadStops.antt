@@ -6,7 +6,7 @@ use Rattle.edm_model.specs.Models.{Model}
 use Rattle.apply_service.specs.Words.{FileNames}
 use Rattle.apply_service.specs.Loads.{RefusedModel, RefusedData, FilesMake, RefusesModel, RefusesCustom, RefusesData}
 use Rattle.apply_service.specs.OutputBytes.{bytes_of}
-use Rattle.apply_service.specs.ReadCustoms.{IfRefused}
+use Rattle.apply_service.specs.FirstCustoms.{IfRefused}
 use Rattle.apply_service.specs.declared.customs.CustomStop.{CustomStop}
 use Rattle.apply_service.specs.declared.load.ModelStop.{ModelStop}
 use Rattle.apply_service.specs.declared.load.ModelStop.TheVariants as model_stop

@@ -1,22 +1,20 @@
-//! The custom aggregates of a model: their definitions are read and typed.
-ghost use Rattle.std.specs.Prelude.{◌≡◌, IfOk, IfErr, IfSome, IsTrue, find};
+//! The custom aggregates of a model: their readings are typed.
+ghost use Rattle.std.specs.Prelude.{◌≡◌, IfOk, IfErr, IsTrue, find};
 ghost use Rattle.std.specs.Option.{option_copied};
 ghost use Rattle.edm_model.specs.IdLists.{custom_list};
 ghost use Rattle.edm_model.specs.LookUps.{IsType, type_name};
 ghost use Rattle.context_typing.specs.Readings.{readings, AreTypedOver, same_part};
 ghost use Rattle.context_typing.specs.Typing.{customs_typed};
 ghost use Rattle.apply_service.specs.CustomReadings.{AreCustoms};
+ghost use Rattle.apply_service.specs.FirstCustoms.{IfRefused, NamesFirst};
 ghost use Rattle.apply_service.specs.LoadStops.{CustomStopSays};
-ghost use Rattle.apply_service.specs.ReadCustoms.{AnswersPaths, AnswersReading, AreRead, IfRefused, NamesFirst};
 ghost use Rattle.apply_service.specs.Responses as spec;
 
 use crate::refusals::custom_line;
-use apply_ast::PathList;
-use apply_grammar::{ExprRefused, read_expr, read_path};
-use context_typing::{CustomRefused, Customs, ReadCustom, type_customs};
+use context_typing::{CustomRefused, Customs, type_customs};
+use custom_readings::read_customs;
 use edm_model::{Custom, CustomId, Model};
-use edm_values::Text;
-use std::alloc::{AllocError, Global};
+use std::alloc::Global;
 
 /// Why the custom aggregates of a model are not typed.
 #[derive(Debug, Drop)]
@@ -25,54 +23,6 @@ pub enum CustomStop {
     Memory,
     /// The first that has no reading or no typing is refused, with this line.
     Refused(Vec<u8>),
-}
-
-/// The paths of these texts, if each is the text of one.
-fn read_paths(alloc: Global, texts: &[Text]) -> Result<Option<PathList>, AllocError>
-    ensures { IfOk result (AnswersPaths texts.now) }
-{
-    let mut paths = Vec::new(alloc);
-    for text in texts {
-        match read_path(alloc, text.as_str()) {
-            Ok(path) => paths.push(path)?,
-            Err(ExprRefused::Syntax) => return Ok(None),
-            Err(ExprRefused::Memory) => return Err(AllocError),
-        }
-    }
-    Ok(Some(PathList::new(paths)))
-}
-
-/// The reading of a custom aggregate's definition, if its texts have one.
-fn read_custom(alloc: Global, custom: &Custom) -> Result<Option<ReadCustom>, AllocError>
-    ensures { IfOk result (AnswersReading custom.now) }
-{
-    let of = match read_expr(alloc, custom.of.as_str()) {
-        Ok(of) => of,
-        Err(ExprRefused::Syntax) => return Ok(None),
-        Err(ExprRefused::Memory) => return Err(AllocError),
-    };
-    match read_paths(alloc, custom.per.as_slice())? {
-        Some(per) => Ok(Some(ReadCustom {
-            id: custom.id,
-            of,
-            per,
-        })),
-        None => Ok(None),
-    }
-}
-
-/// The readings of custom aggregates, up to the first that has none.
-fn read_customs(alloc: Global, customs: &[Custom]) -> Result<Vec<ReadCustom>, AllocError>
-    ensures { IfOk result (λ l. AreRead customs.now l.items) }
-{
-    let mut list = Vec::new(alloc);
-    for custom in customs {
-        match read_custom(alloc, custom)? {
-            Some(read) => list.push(read)?,
-            None => return Ok(list),
-        }
-    }
-    Ok(list)
 }
 
 /// Whether it is the custom aggregate of this id.
@@ -123,7 +73,7 @@ pub fn judge_customs(alloc: Global, m: &Model) -> Result<Customs, CustomStop>
 {
     let _sets = m.sets();
     let customs = m.customs();
-    let Ok(list) = read_customs(alloc, customs) else {
+    let Ok(list) = read_customs(alloc, m) else {
         return Err(CustomStop::Memory);
     };
     let read = list.len();

@@ -21,13 +21,14 @@ use Rattle.context_typing.specs.Typing.{Reading, custom_kind, expr_kind, method_
 use Rattle.context_typing.specs.declared.customs.ReadCustom.{ReadCustom}
 use Rattle.context_typing.specs.declared.customs.TypedCustom.{TypedCustom}
 use Rattle.apply_meaning.proofs.AggregateLemmas.{aggregate-fits}
+use Rattle.apply_meaning.proofs.AggregatedFit.{own-values}
+use Rattle.apply_meaning.proofs.MeaningProved.{loaded-typed}
 use Rattle.apply_meaning.specs.Aggregates.{aggregate}
 use Rattle.apply_meaning.specs.Instances.{Instance, fits}
 use Rattle.apply_meaning.specs.Meaning.{custom_value, group, key_list, keys, same_keys, values}
 use Rattle.apply_meaning.specs.MeaningLaws.{IsLoaded}
 use Rattle.aggregate_ops.specs.Partials.{AreFoldable}
 use Rattle.custom_agg.specs.CustomValues.{HaveRoot, group_results, value_by_id}
-use Rattle.custom_agg.proofs.RootValues.{values-fit}
 use Rattle.custom_agg.proofs.TypedCustoms.{typed-found}
 
 -- the types of a typed custom aggregate: of its values, and of its method's result on these
@@ -55,12 +56,12 @@ module _ (w : World) (loaded : IsLoaded w) (t : ℕ) (u : Custom) (r : Reading) 
 
   -- the method takes the values on all instances
   pub foldable-all : AreFoldable u.method (values w r.of l)
-  foldable-all = (types.of, ap is_some types.inner_is, values-fit w loaded root.0 t root.1 r.of types.of l own-kind root.2)
+  foldable-all = (types.of, ap is_some types.inner_is, own-values w (loaded-typed w loaded) root.0 t root.1 r.of types.of l own-kind root.2)
 
   result-fits : (g : List Value) → is_of_kind types.inner (aggregate u.method (values w r.of (group w r.per g l))) ≡ true
   result-fits g =
       let of_group = all-filter (fits w root.0) (λ i. same_keys (key_list w r.per i) g) l root.2 in
-      aggregate-fits u.method types.of types.inner (values w r.of (group w r.per g l)) types.inner_is (values-fit w loaded root.0 t root.1 r.of types.of (group w r.per g l) own-kind of_group)
+      aggregate-fits u.method types.of types.inner (values w r.of (group w r.per g l)) types.inner_is (own-values w (loaded-typed w loaded) root.0 t root.1 r.of types.of (group w r.per g l) own-kind of_group)
 
   -- the outer method takes the results of the groups
   pub foldable-results : (o : Method) → u.outer ≡ Some o → AreFoldable o (group_results w r.of u.method r.per l)

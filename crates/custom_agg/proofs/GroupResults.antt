@@ -1,8 +1,7 @@
 -- The instances at the places of groups, and what a method gives on their values.
-use Rattle.std.proofs.Common.{◌≡◌, refl, sym, ◌∙◌, ap, ℕ, suc, ◌+◌, ◌<◌, ◌&&◌, Bool, true, IsTrue, List, [], ◌∷◌, ◌++◌, Some, length, map, take, drop, get_or, arith, drop-cons, add-one}
+use Rattle.std.proofs.Common.{◌≡◌, refl, sym, ◌∙◌, ap, ℕ, ◌+◌, ◌<◌, ◌&&◌, Bool, true, List, [], ◌∷◌, ◌++◌, Some, length, map, take, get_or, arith}
 use Rattle.std.specs.Prelude.{nat_lt, option_map, slice_get}
-use Rattle.std.specs.List.{cons_option, list_all}
-use Rattle.std.proofs.lemmas.Bool.{ltb-true}
+use Rattle.std.specs.List.{list_all}
 use Rattle.std.proofs.lemmas.List.{map_more}
 use Rattle.std.proofs.lemmas.Option.{slice_get-get_or}
 use Rattle.std.proofs.lemmas.Simd.{map-map}
@@ -25,16 +24,6 @@ use Rattle.aggregate_ops.specs.KeyTables.{groups_of}
 use Rattle.aggregate_ops.specs.Partials.{AreFoldable}
 use Rattle.aggregate_ops.proofs.KeyGroups.{groups-of_images}
 use Rattle.custom_agg.specs.CustomValues.{are_within, group_results, results_at}
-
--- the next place of the list that is there
-pub next-place : (l : List Instance) (ks : List ℕ) (i : ℕ) (x : Instance) → IsTrue (list_all (λ k. nat_lt k (length l)) ks) → i < length ks → x ≡ get_or l (get_or ks i 0) x → at_places l (drop i ks) ≡ x ∷ at_places l (drop (i + 1) ks)
-next-place l ks i x all h r =
-    let k = get_or ks i 0 in
-    let g : k < length l = ltb-true k (length l) (all-at (λ k. nat_lt k (length l)) ks i k all (slice_get-get_or ks i 0 h)) in
-    ap (at_places l) (drop-cons ks i 0 h)
-    ∙ ap (λ o. cons_option o (at_places l (drop (suc i) ks))) (slice_get-get_or l k x g)
-    ∙ ap (λ y. y ∷ at_places l (drop (suc i) ks)) (sym r)
-    ∙ ap (λ n. x ∷ at_places l (drop n ks)) (sym (add-one i))
 
 -- the places of one of the groups
 pub places-within : (n : ℕ) (groups : List (List Value × List ℕ)) (k : ℕ) (ps : List ℕ) → are_within n groups ≡ true → Some ps ≡ option_map (λ g. g.1) (slice_get groups k) → list_all (λ p. nat_lt p n) ps ≡ true

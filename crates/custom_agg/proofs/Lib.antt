@@ -2,5 +2,4 @@ pub mod DefinitionLemmas
 pub mod FoldLemmas
 pub mod GroupResults
 pub mod NamedCustoms
-pub mod RootValues
 pub mod TypedCustoms

@@ -11,10 +11,9 @@ ghost use Rattle.custom_agg.specs.CustomValues.{group_results, value_by_id, Have
 
 use crate::definitions::definition;
 use crate::groups::{group_values, groups_by};
-use crate::values::values_of;
 use aggregate_ops::aggregate_values;
 use apply_ast::Expr;
-use apply_meaning::{Row, data_is_loaded};
+use apply_meaning::{Row, data_is_loaded, values_of};
 use context_typing::{Customs, ReadCustom};
 use edm_data::Data;
 use edm_model::CustomId;

@@ -14,23 +14,6 @@ use edm_data::Data;
 use edm_values::Value;
 use std::alloc::{AllocError, Global};
 
-/// The values of an expression on rows.
-pub(crate) fn values_of(
-    alloc: Global,
-    store: &Data,
-    e: &Expr,
-    rows: &[Row],
-) -> Result<Vec<Value>, AllocError>
-    requires { IsTrue (all_of store.now rows.now) }
-    ensures { IfOk result (λ vs. vs.items ≡ values store.now (expr_of e.now) rows.now) }
-{
-    let mut found = Vec::with_capacity(alloc, rows.len())?;
-    for row in rows {
-        found.push(eval(store, row, e).own(alloc)?)?;
-    }
-    Ok(found)
-}
-
 /// The values of an expression on the rows at these places.
 pub(crate) fn values_at(
     alloc: Global,

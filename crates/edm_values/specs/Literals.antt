@@ -1,5 +1,5 @@
 -- The texts of primitive values (JSON Format 4.01, section 7.1; OData ABNF 4.01, section 7), in this profile's form: no exponent, and a decimal of fixed scale.
-use Rattle.std.specs.Prelude.{ℕ, suc, ◌-◌, ◌^◌, ◌==◌, ◌&&◌, ◌||◌, Bool, true, false, not, if◌then◌else◌, List, [], ◌∷◌, ◌++◌, length, take, drop, replicate, slice_range, slice_index, ℤ, pos, neg_ℤ, nat_abs, int_lt, nat_lt, nat_le, codes, decimal, Option, Some, None, option_map, Result, Ok, Err}
+use Rattle.std.specs.Prelude.{ℕ, suc, IsTrue, ◌-◌, ◌^◌, ◌==◌, ◌&&◌, ◌||◌, Bool, true, false, not, if◌then◌else◌, List, [], ◌∷◌, ◌++◌, length, take, drop, replicate, slice_range, slice_index, ℤ, pos, neg_ℤ, nat_abs, int_lt, nat_lt, nat_le, codes, decimal, Option, Some, None, option_map, Result, Ok, Err}
 use Rattle.std.specs.List.{list_any, list_all, before_first, after_first}
 use Rattle.std.specs.Char.{is_digit}
 use Rattle.std.specs.Str.Parse.{digits_value, without_leading_sign, starts_with_minus}
@@ -167,6 +167,10 @@ abbrev pub is_number_kind : EdmType → Bool
 is_number_kind EdmType.Int = true
 is_number_kind (EdmType.Dec scale precision) = true
 is_number_kind _ = false
+
+-- the values are of one type of numbers
+abbrev pub AreNumbers : List Value → Type 0
+AreNumbers vs = (k : EdmType) × IsTrue (is_number_kind k) × IsTrue (list_all (is_of_kind k) vs)
 
 -- the type of Booleans
 abbrev pub is_boolean_kind : EdmType → Bool

@@ -1,6 +1,8 @@
 //! Values that are seen without their memory.
-ghost use Rattle.std.specs.Prelude.{◌≡◌, IfOk, IsErr, IsTrue};
-ghost use Rattle.edm_values.specs.Values.{is_text, seen_value};
+ghost use Rattle.std.specs.Prelude.{◌≡◌, ◌≤◌, IfOk, IsErr, IsTrue};
+ghost use Rattle.edm_values.specs.Parts.{scale_max};
+ghost use Rattle.edm_values.specs.Values as spec;
+ghost use Rattle.edm_values.specs.Values.{is_text, number_part, seen_value};
 
 use crate::{Seen, Text, Value};
 use std::alloc::{AllocError, Global};
@@ -36,6 +38,49 @@ impl<'a> Seen<'a> {
             Seen::Text(t) => Ok(Value::Text(Text::of(alloc, t)?)),
             Seen::Day(d) => Ok(Value::Day(d)),
             Seen::Beyond => Ok(Value::Beyond),
+        }
+    }
+
+    /// Whether the value is null.
+    pub fn is_null(self) -> bool
+        ensures { result ≡ spec.is_null (seen_value self.entry) }
+    {
+        matches!(self, Seen::Null)
+    }
+
+    /// Whether the value is past the range of its type.
+    pub fn is_beyond(self) -> bool
+        ensures { result ≡ spec.is_beyond (seen_value self.entry) }
+    {
+        matches!(self, Seen::Beyond)
+    }
+
+    /// Whether the value is a number.
+    pub fn is_number(self) -> bool
+        ensures { result ≡ spec.is_number (seen_value self.entry) }
+    {
+        matches!(self, Seen::Int(_) | Seen::Dec(_))
+    }
+
+    /// The mantissa of a number, an integer being its own; 0 of a value that is no number.
+    pub fn mantissa(self) -> i64
+        ensures { result ≡ (number_part (seen_value self.entry)).0 }
+    {
+        match self {
+            Seen::Int(n) => n,
+            Seen::Dec(d) => d.mantissa(),
+            _ => 0,
+        }
+    }
+
+    /// The scale of a decimal; 0 of any other value.
+    pub fn scale(self) -> u8
+        ensures value { result ≡ (number_part (seen_value self.entry)).1 }
+        ensures limit { result ≤ scale_max }
+    {
+        match self {
+            Seen::Dec(d) => d.scale(),
+            _ => 0,
         }
     }
 }

@@ -5,7 +5,7 @@ ghost use Rattle.std.specs.List.{list_all};
 ghost use Rattle.edm_values.specs.Literals.{is_of_kind};
 ghost use Rattle.aggregate_ops.specs.Typing.{method_kind};
 
-use crate::words::{values_of, word_of};
+use crate::words::{SCALE_0, SCALE_2, SCALE_9, values_of, word_of};
 use aggregate_ops::{CountOf, DistinctOf, MaxOf, MinOf, SumOf, aggregate_values};
 use edm_values::{EdmType, Method, Value};
 use par_stages::{NoGate, pieces};
@@ -13,22 +13,6 @@ use std::alloc::Global;
 use std::process::Abort;
 use std::test::Fail;
 use std::thread::Threads;
-
-/// Decimals by the digits after their point.
-const SCALE_0: EdmType = EdmType::Dec {
-    scale: 0,
-    precision: 18,
-};
-
-const SCALE_2: EdmType = EdmType::Dec {
-    scale: 2,
-    precision: 18,
-};
-
-const SCALE_9: EdmType = EdmType::Dec {
-    scale: 9,
-    precision: 18,
-};
 
 /// Lists of values of a type, each with its sum, its least and its greatest value and the number of its distinct values; a dash
 /// stands where the method does not take the type.

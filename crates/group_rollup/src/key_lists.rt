@@ -6,6 +6,7 @@ ghost use Rattle.apply_meaning.specs.Running.{all_of};
 ghost use Rattle.group_rollup.specs.Groupings.{GivesFor, GivesKey};
 
 use crate::GroupRefused;
+use aggregate_ops::copies;
 use apply_ast::Path;
 use apply_meaning::{Row, lookup};
 use edm_data::Data;
@@ -47,17 +48,6 @@ pub(crate) fn key_lists(
         lists.push(key_list(alloc, store, paths, row)?)?;
     }
     Ok(lists)
-}
-
-/// Copies of the values.
-fn copies(alloc: Global, values: &[Value]) -> Result<Vec<Value>, AllocError>
-    ensures { IfOk result (λ vs. vs.items ≡ values.now) }
-{
-    let mut copied = Vec::with_capacity(alloc, values.len())?;
-    for value in values {
-        copied.push(value.seen().own(alloc)?)?;
-    }
-    Ok(copied)
 }
 
 /// The first `width` values of each key list.

@@ -1,5 +1,5 @@
 -- Custom aggregates by name, and what typed items of an aggregation need.
-use Rattle.std.proofs.Common.{◌≡◌, ℕ, zero, suc, ◌+◌, ◌<◌, true, false, Bool, ◌||◌, refl, sym, ◌∙◌, ap, subst, List, [], ◌∷◌, ◌++◌, Option, Some, None, length, map, take, get_or, arith, IsTrue}
+use Rattle.std.proofs.Common.{◌≡◌, ℕ, zero, suc, ◌+◌, ◌<◌, true, Bool, ◌||◌, refl, sym, ◌∙◌, ap, List, [], ◌∷◌, ◌++◌, Option, Some, None, length, map, take, get_or, arith}
 use Rattle.std.specs.Prelude.{find, is_some, not, ◌&&◌, ◌==◌, option_and_then, option_map}
 use Rattle.std.specs.Prelude.{IfOk}
 use Rattle.std.specs.declared.result.Result as result
@@ -15,7 +15,7 @@ use Rattle.edm_values.specs.Lists.{all_some, is_nonempty, same_text}
 use Rattle.edm_values.specs.Literals.{is_of_kind}
 use Rattle.edm_values.specs.Names.{Name}
 use Rattle.edm_values.proofs.ListFacts.{all-map}
-use Rattle.edm_values.proofs.OptionFacts.{all_some-parts, chained, mapped, some_value, then_some-parts}
+use Rattle.edm_values.proofs.OptionFacts.{all_some-parts, chained, mapped, some_value}
 use Rattle.edm_model.specs.Models.{Custom, EntityType, Model, Part}
 use Rattle.edm_model.specs.LookUps.{IsType, custom_named, custom_on, found_part, item_named, type_at}
 use Rattle.edm_data.specs.Worlds.{World}
@@ -29,8 +29,7 @@ use Rattle.context_typing.specs.Typing.{Customs, Reading, columns_differ as shap
 use Rattle.context_typing.specs.declared.customs.TypedCustom.{TypedCustom}
 use Rattle.apply_meaning.specs.Instances.{Instance, fits, no_instance, val}
 use Rattle.apply_meaning.specs.Meaning.{custom_value, item_value, values}
-use Rattle.apply_meaning.specs.MeaningLaws.{AllFit, IsLoaded}
-use Rattle.apply_meaning.specs.Running.{StepRuns}
+use Rattle.apply_meaning.specs.MeaningLaws.{IsLoaded}
 use Rattle.apply_meaning.proofs.MeaningEquations.{step_mean-Aggregate}
 use Rattle.apply_meaning.proofs.MeaningProved.{loaded-values}
 use Rattle.apply_meaning.proofs.RunLemmas.{fits-differ, step-fits}

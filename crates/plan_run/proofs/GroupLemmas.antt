@@ -1,14 +1,11 @@
 -- What a run makes of groups, from one to the next.
-use Rattle.std.proofs.Common.{◌≡◌, ℕ, zero, suc, ◌+◌, ◌<◌, ◌≤◌, refl, sym, ◌∙◌, ap, List, [], ◌∷◌, ◌++◌, length, drop, take, map, get_or, Option, Some, None, arith, drop-cons, add-one, IsTrue}
-use Rattle.std.specs.Prelude.{option_map, sum, flat_map, nat_lt, slice_get}
-use Rattle.std.specs.List.{cons_option, fold, list_all}
-use Rattle.std.proofs.lemmas.Bool.{ltb-true}
+use Rattle.std.proofs.Common.{◌≡◌, ℕ, zero, suc, ◌+◌, ◌<◌, refl, sym, ◌∙◌, ap, List, [], ◌∷◌, ◌++◌, length, drop, take, map, get_or, Option, Some, None, arith, drop-cons, add-one}
+use Rattle.std.specs.Prelude.{option_map, sum, flat_map}
+use Rattle.std.specs.List.{fold}
 use Rattle.std.proofs.lemmas.List.{append_assoc, append-nil}
-use Rattle.std.proofs.lemmas.Option.{slice_get-get_or}
 use Rattle.edm_values.specs.declared.Value.{Value}
-use Rattle.edm_values.specs.Lists.{all_some, at_places}
+use Rattle.edm_values.specs.Lists.{all_some}
 use Rattle.edm_values.specs.Names.{Path}
-use Rattle.edm_values.proofs.ListFacts.{all-at}
 use Rattle.apply_meaning.specs.Instances.{Instance}
 use Rattle.apply_meaning.specs.Meaning.{Outcome, joined, keyed}
 
@@ -48,15 +45,6 @@ next-flat f xs i d h e =
     ap (flat_map f) (drop-cons xs i d h)
     ∙ ap (λ x. f x ++ flat_map f (drop (suc i) xs)) (sym e)
     ∙ ap (λ n. f d ++ flat_map f (drop n xs)) (sym (add-one i))
-
-pub next-place : (l : List Instance) (ks : List ℕ) (i : ℕ) (x : Instance) → IsTrue (list_all (λ k. nat_lt k (length l)) ks) → i < length ks → x ≡ get_or l (get_or ks i 0) x → at_places l (drop i ks) ≡ x ∷ at_places l (drop (i + 1) ks)
-next-place l ks i x all h r =
-    let k = get_or ks i 0 in
-    let g : k < length l = ltb-true k (length l) (all-at (λ k. nat_lt k (length l)) ks i k all (slice_get-get_or ks i 0 h)) in
-    ap (at_places l) (drop-cons ks i 0 h)
-    ∙ ap (λ o. cons_option o (at_places l (drop (suc i) ks))) (slice_get-get_or l k x g)
-    ∙ ap (λ y. y ∷ at_places l (drop (suc i) ks)) (sym r)
-    ∙ ap (λ n. x ∷ at_places l (drop n ks)) (sym (add-one i))
 
 shift : (a : ℕ) (xs : List ℕ) → fold ◌+◌ a xs ≡ a + fold ◌+◌ 0 xs
 shift a [] = omega arith

@@ -3,7 +3,7 @@ use Rattle.std.proofs.Common.{◌≡◌, ◌≤◌, ◌+◌, refl, sym, ◌∙�
 use Rattle.std.specs.Prelude.{flat_map, sum, not, nat_le, slice_get, option_map, option_and_then, ◌||◌, if◌then◌else◌}
 use Rattle.std.specs.List.{list_all, list_any, range_with_len}
 use Rattle.std.proofs.Math.Seq.{take-append-add, take-append_seam}
-use Rattle.std.proofs.lemmas.Bool.{and_parts, and_from, leb-true, not-true, not_from_false, or_from, or_parts}
+use Rattle.std.proofs.lemmas.Bool.{and_parts, and_from, not-true, not_from_false, or_from, or_parts}
 use Rattle.std.proofs.lemmas.List.Concat.{flat_map_single}
 use Rattle.std.proofs.lemmas.List.Folds.{flat_map-map}
 use Rattle.std.proofs.lemmas.Simd.{map-map}
@@ -159,7 +159,6 @@ keys-cost w c S ks l built sure =
 record Grouping (m : Model) (c : Customs) (S : Shape) (ks : Keys) (T : OptPipe) : Type 0 where
   each : Shape
   inner : inner_shape m c S no_shape T ≡ Some each
-  one : length (rollup_parts ks) ≤ 1
   differ : are_distinct same_path (key_paths (group_keys ks)) ≡ true
   apart : list_all (λ p. not (list_any (same_path p) (key_paths (group_keys ks)))) (map (λ c. c.path) each.columns) ≡ true
 
@@ -170,11 +169,7 @@ grouping-parts m c S S' ks T e =
     let G = chained (grouped_shape m S g) (inner_shape m c S no_shape T) S' t.1 in
     let u = then_some-parts _ _ S' G.2 in
     let v = and_7 (is_nonempty (key_paths g)) (nat_le (length (rollup_parts ks)) 1) _ _ _ _ (not (is_nodes (rollup_part g)) || not (is_nonempty (all_prefixes G.0))) u.0 in
-    record { each = G.0; inner = G.1; one = leb-true (length (rollup_parts ks)) 1 v.1; differ = v.3; apart = grouped-apart (key_paths g) (G.0).columns v.4 }
-
--- it has at most one key that is not plain
-pub one-part : (w : World) (c : Customs) (S S' : Shape) (ks : Keys) (T : OptPipe) (l : List Instance) → StepRuns w c S S' (Step.GroupBy ks T) l → length (rollup_parts ks) ≤ 1
-one-part w c S S' ks T l R = (grouping-parts w.model c S S' ks T R.typed).one
+    record { each = G.0; inner = G.1; differ = v.3; apart = grouped-apart (key_paths g) (G.0).columns v.4 }
 
 -- ---- the paths of a level are the first of all key paths
 

@@ -1,5 +1,5 @@
 -- The levels of a rollup by their places, and levels with their groups.
-use Rattle.std.proofs.Common.{◌≡◌, ℕ, zero, suc, ◌+◌, ◌-◌, ◌<◌, ◌≤◌, refl, sym, ◌∙◌, ap, Bool, true, false, List, [], ◌∷◌, ◌++◌, length, drop, take, reverse, map, get_or, Option, Some, None, arith, drop-cons, add-one, add-zero, inl, inr, ◌⊎◌}
+use Rattle.std.proofs.Common.{◌≡◌, ℕ, zero, suc, ◌+◌, ◌-◌, ◌<◌, ◌≤◌, refl, sym, ◌∙◌, ap, Bool, true, false, List, [], ◌∷◌, ◌++◌, length, drop, take, reverse, map, Option, Some, None, arith, drop-cons, add-one, add-zero, inl, inr, ◌⊎◌}
 use Rattle.std.specs.Prelude.{slice_get, zip}
 use Rattle.std.specs.List.{range_with_len}
 use Rattle.std.proofs.lemmas.List.{append-nil, reverse-append}
@@ -12,7 +12,7 @@ use Rattle.context_typing.specs.Typing.{RollupPart, group_keys, key_paths, rollu
 use Rattle.apply_meaning.specs.Instances.{Instance}
 use Rattle.apply_meaning.specs.Meaning.{level_paths}
 use Rattle.group_rollup.specs.Groupings.{groups}
-use Rattle.plan_run.specs.Levels.{AreKeys, AreLevels, Level, LevelKeys, level_on, levels_of, part_of}
+use Rattle.plan_run.specs.Levels.{AreKeys, AreLevels, Level, LevelKeys, level_on, part_of}
 use Rattle.plan_run.proofs.GroupLemmas.{length-more}
 
 range-more : (a n : ℕ) → range_with_len a (suc n) ≡ range_with_len a n ++ (a + n) ∷ []

@@ -1,5 +1,5 @@
 -- The type at the empty prefix, from one transformation to the next.
-use Rattle.std.proofs.Common.{◌≡◌, ℕ, refl, sym, ◌∙◌, ap, Option, Some, None, List, ◌++◌, map}
+use Rattle.std.proofs.Common.{◌≡◌, ℕ, sym, ◌∙◌, ap, Bool, Option, Some, None, List, ◌++◌, map}
 use Rattle.std.specs.Prelude.{option_and_then, option_map, not, ◌&&◌}
 use Rattle.std.specs.Bool.{then_some}
 use Rattle.std.specs.List.{list_all}
@@ -9,11 +9,12 @@ use Rattle.edm_values.specs.Lists.{all_some, is_nonempty}
 use Rattle.edm_values.specs.Values.{integer_max}
 use Rattle.edm_values.specs.Literals.{is_boolean_kind}
 use Rattle.std.specs.Prelude.{nat_le}
-use Rattle.apply_ast.specs.Trees.{AggItem, Expr, Keys, Named, OptPipe, OrderItem, Pipe, Step, is_long}
-use Rattle.context_typing.specs.Shapes.{ColumnShape, Shape}
-use Rattle.context_typing.specs.Typing.{Customs, columns_differ, expr_kind, group_keys, grouped_shape, has_kind, inner_shape, is_free, is_sure, is_typed, item_column, keys_typed, new_column, no_shape, root_type, step_shape, steps_shape}
-use Rattle.context_typing.proofs.TypingEquations.{inner_shape-NoPipe, inner_shape-SomePipe, step_shape-Aggregate, step_shape-Compute, step_shape-Filter, step_shape-GroupBy, step_shape-Identity, step_shape-OrderBy, step_shape-Skip, step_shape-Top, steps_shape-End, steps_shape-Then}
-use Rattle.plan_run.specs.Roots.{InnerLeadsTo, LeadsTo, PipeLeadsTo}
+use Rattle.edm_values.specs.Names.{Name}
+use Rattle.apply_ast.specs.Trees.{AggItem, Expr, Keys, Named, OptPipe, OrderItem, Pipe, Pipes, Step, TopStep, is_long}
+use Rattle.context_typing.specs.Shapes.{Shape, set_shape}
+use Rattle.context_typing.specs.Typing.{Customs, columns_differ, expr_kind, group_keys, grouped_shape, has_kind, inner_shape, is_free, is_sure, is_typed, item_column, join_navigation, joined_shape, keys_typed, new_column, no_shape, root_type, step_shape, steps_shape, top_typed}
+use Rattle.context_typing.proofs.TypingEquations.{inner_shape-NoPipe, inner_shape-SomePipe, step_shape-Aggregate, step_shape-Compute, step_shape-Concat, step_shape-Filter, step_shape-GroupBy, step_shape-Identity, step_shape-Join, step_shape-OrderBy, step_shape-Skip, step_shape-Top, step_shape-TopBy, steps_shape-End, steps_shape-Then}
+use Rattle.plan_run.specs.Roots.{BranchesLeadTo, InnerLeadsTo, LeadsTo, PipeLeadsTo}
 
 -- ---- one transformation
 
@@ -51,6 +52,18 @@ root-GroupBy ks T root behind leads m c S S' t r =
     let k = if_else-parts (keys_typed m c S ks) (option_and_then (grouped_shape m S (group_keys ks)) (inner_shape m c S no_shape T)) S' (sym (step_shape-GroupBy m c S ks T) ∙ t) in
     let G = chained (grouped_shape m S (group_keys ks)) (inner_shape m c S no_shape T) S' k.1 in
     ap root_type (sym (then_some-parts _ _ S' G.2).1) ∙ leads m c S G.0 G.1 r
+
+pub root-Concat : (ps : Pipes) (root behind : Option ℕ) → BranchesLeadTo ps root behind → LeadsTo (Step.Concat ps) root behind
+root-Concat ps root behind leads m c S S' t r = leads m c S S' (sym (step_shape-Concat m c S ps) ∙ t) r
+
+pub root-Join : (outer : Bool) (n a : Name) (T : OptPipe) (root : Option ℕ) → LeadsTo (Step.Join outer n a T) root root
+root-Join outer n a T root m c S S' t r =
+    let v = chained (λ v. option_and_then (λ R. then_some (is_free m S a) (joined_shape outer a S R)) (inner_shape m c (set_shape v.target) (set_shape v.target) T)) (join_navigation m S n) S' (sym (step_shape-Join m c S outer n a T) ∙ t) in
+    let R = chained (λ R. then_some (is_free m S a) (joined_shape outer a S R)) (inner_shape m c (set_shape (v.0).target) (set_shape (v.0).target) T) S' v.2 in
+    sym (ap root_type (then_some-parts (is_free m S a) (joined_shape outer a S R.0) S' R.2).1) ∙ r
+
+pub root-TopBy : (x : TopStep) (root : Option ℕ) → LeadsTo (Step.TopBy x) root root
+root-TopBy x root m c S S' t r = same-root S S' root (then_some-parts (top_typed m S x.limit x.expr) S S' (sym (step_shape-TopBy m c S x) ∙ t)).1 r
 
 -- ---- pipelines
 

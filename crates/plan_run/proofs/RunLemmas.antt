@@ -1,5 +1,5 @@
 -- What a pipeline costs from one transformation to the next.
-use Rattle.std.proofs.Common.{◌≡◌, ◌+◌, ◌≤◌, refl, ◌∙◌, ap, suc, List, [], ◌∷◌, length, map, Some, None, arith}
+use Rattle.std.proofs.Common.{◌≡◌, ℕ, ◌+◌, ◌≤◌, refl, sym, ◌∙◌, ap, subst, suc, Option, List, [], ◌∷◌, length, map, Some, None, arith}
 use Rattle.std.specs.Prelude.{unwrap_or}
 use Rattle.edm_data.specs.Worlds.{World}
 use Rattle.apply_ast.specs.Trees.{AggItem, Named, Pipe, Step}
@@ -7,9 +7,15 @@ use Rattle.context_typing.specs.Shapes.{Shape}
 use Rattle.context_typing.specs.Typing.{Customs, after}
 use Rattle.apply_meaning.specs.Instances.{Instance, extended}
 use Rattle.apply_meaning.specs.Meaning.{step_mean}
-use Rattle.apply_meaning.specs.Running.{new_columns}
+use Rattle.apply_meaning.specs.Running.{Gives, new_columns}
+use Rattle.apply_meaning.specs.declared.refusals.RunRefused.{RunRefused}
+use Rattle.std.specs.declared.result.Result as result
+use Rattle.std.specs.Global.{Vec}
 use Rattle.apply_meaning.proofs.MeaningEquations.{step_mean-Aggregate, step_mean-Compute}
 use Rattle.apply_meaning.proofs.RunLemmas.{Turn}
+use Rattle.context_typing.specs.Readings.{readings}
+use Rattle.plan_run.specs.Conditions.{StepReadyFrom, StepRunsFrom}
+use Rattle.plan_run.specs.Contexts.{Context}
 use Rattle.plan_run.specs.Costs.{cost, inner_costs, result_length, step_cost}
 use Rattle.plan_run.proofs.CostEquations.{cost-Then, inner_costs-Aggregate, inner_costs-Compute}
 
@@ -42,3 +48,22 @@ pub aggregate-cost : (w : World) (c : Customs) (S : Shape) (items : List AggItem
 aggregate-cost w c S items l =
     ap (λ o. result_length o + inner_costs w c S (Step.Aggregate items) l) (step_mean-Aggregate w c S items l)
     ∙ ap (λ n. 1 + n) (inner_costs-Aggregate w c S items l)
+
+-- ---- another name of the same transformation and the same list
+
+pub runs-same : (x : Context) (root : Option ℕ) (S S' : Shape) (s s' : Step) (l l' : List Instance) → s ≡ s' → l ≡ l' → StepRunsFrom x root S S' s l → StepRunsFrom x root S S' s' l'
+runs-same x root S S' s s' l l' e h R = subst (StepRunsFrom x root S S' s') h (subst (λ s. StepRunsFrom x root S S' s l) e R)
+
+pub ready-same : (x : Context) (root : Option ℕ) (s s' : Step) (l l' : List Instance) → s ≡ s' → l ≡ l' → StepReadyFrom x root s l → StepReadyFrom x root s' l'
+ready-same x root s s' l l' e h r = (r.0, r.1, runs-same x root r.0 r.1 s s' l l' e h r.2)
+
+step-same : (x : Context) (S : Shape) (s s' : Step) (l l' : List Instance) → s ≡ s' → l ≡ l' → step_mean x.world (readings x.customs) S s l ≡ step_mean x.world (readings x.customs) S s' l'
+step-same x S s s' l l' e h = λ i. step_mean x.world (readings x.customs) S (e i) (h i)
+
+pub cost-same : (x : Context) (S : Shape) (s s' : Step) (l l' : List Instance) → s ≡ s' → l ≡ l' → step_cost x.world (readings x.customs) S s l ≡ step_cost x.world (readings x.customs) S s' l'
+cost-same x S s s' l l' e h = λ i. step_cost x.world (readings x.customs) S (e i) (h i)
+
+-- what a run of it gives
+pub gives-same : {x : Context} {root : Option ℕ} {S S' : Shape} {s s' : Step} {l l' : List Instance} (r : result.Result (Vec Instance) RunRefused) → s ≡ s' → l ≡ l' → StepRunsFrom x root S S' s l
+    → (StepRunsFrom x root S S' s' l' → Gives r (step_mean x.world (readings x.customs) S s' l')) → Gives r (step_mean x.world (readings x.customs) S s l)
+gives-same {x = x} {root = root} {S = S} {S' = S'} {s = s} {s' = s'} {l = l} {l' = l'} r e h R given = subst (Gives r) (sym (step-same x S s s' l l' e h)) (given (runs-same x root S S' s s' l l' e h R))

@@ -3,7 +3,7 @@ use Rattle.std.proofs.Common.{◌≡◌, ℕ, zero, suc, ◌+◌, ◌<◌, ◌�
 use Rattle.std.specs.Prelude.{flat_map, option_map, slice_get, sum}
 use Rattle.std.proofs.Math.ListN.{drop_of_length-le}
 use Rattle.std.proofs.lemmas.List.{length-map, map-append}
-use Rattle.std.proofs.lemmas.Option.{slice_get-get_or, slice_get-map}
+use Rattle.std.proofs.lemmas.Option.{get_or_from_slice_get, slice_get-get_or, slice_get-map, slice_get_within}
 use Rattle.std.proofs.lemmas.Simd.{map-map}
 use Rattle.edm_values.specs.declared.Value.{Value}
 use Rattle.edm_values.specs.Names.{Path}
@@ -13,8 +13,10 @@ use Rattle.context_typing.specs.Readings.{readings}
 use Rattle.context_typing.specs.Shapes.{Shape}
 use Rattle.apply_meaning.specs.Instances.{Instance, fits}
 use Rattle.apply_meaning.specs.Meaning.{Outcome, group, grouped, joined, key_list, keyed, keys, mean, same_keys, step_mean}
+use Rattle.edm_values.specs.Lists.{at_places}
+use Rattle.group_rollup.proofs.GroupLemmas.{group-at_places}
 use Rattle.group_rollup.specs.Groupings as found
-use Rattle.plan_run.specs.Conditions.{GroupRuns, RunsFrom, charge_of}
+use Rattle.plan_run.specs.Conditions.{GroupRuns, LevelsRun, RunsFrom, charge_of}
 use Rattle.plan_run.specs.Contexts.{Context}
 use Rattle.plan_run.specs.Costs.{application, cost, groups}
 use Rattle.plan_run.specs.Levels.{GivesLevels, IsLevel, Level, level_on}
@@ -32,7 +34,7 @@ use Rattle.apply_meaning.specs.declared.refusals.RunRefused.{RunRefused}
 use Rattle.apply_meaning.specs.declared.refusals.RunRefused.TheVariants.{Range, Memory}
 use Rattle.plan_run.specs.Forms.{are_built_keys}
 use Rattle.plan_run.proofs.LevelLemmas.{levels-refused}
-use Rattle.plan_run.proofs.GroupLemmas.{ended, joined-some, moved, next-flat, next-map, sum-cons}
+use Rattle.plan_run.proofs.GroupLemmas.{ended, joined-some, moved, next-flat, next-map, next-sum, sum-cons}
 
 -- the paths of levels with their groups
 pub paths-of_levels : (w : World) (l : List Instance) (levels : List (List Path)) → map (λ (level : Level). level.0) (map (level_on w l) levels) ≡ levels
@@ -145,3 +147,55 @@ joined-levels w F l levels paths e = ap joined (sym (map-map (λ level. grouped 
 pub grouped-levels : (w : World) (l : List Instance) (levels : List Level) (paths : List (List Path)) → map (λ (level : Level). level.0) levels ≡ paths
     → flat_map (λ (level : Level). groups w level.0 l) levels ≡ flat_map (λ level. groups w level l) paths
 grouped-levels w l levels paths e = sym (flat_map-map (λ level. groups w level l) (λ (level : Level). level.0) levels) ∙ ap (flat_map (λ level. groups w level l)) e
+
+-- ---- a run from one group, or one level, to the next
+
+-- the inner pipeline runs on copies of the rows of a group
+pub record GroupRun (x : Context) (root : Option ℕ) (S G : Shape) (ks : List Path) (p : Pipe) (l : List Instance) (key : List Value) (places : List ℕ) (copies : List Instance) : Type 0 where
+  pub few : length (at_places l places) ≡ length (group x.world ks key l)
+  pub runs : RunsFrom x root S G p copies
+  pub means : mean x.world (readings x.customs) S p (group x.world ks key l) ≡ mean x.world (readings x.customs) S p copies
+  pub costs : cost x.world (readings x.customs) S p copies ≡ cost x.world (readings x.customs) S p (group x.world ks key l)
+
+pub group-run : {x : Context} {root : Option ℕ} {S G : Shape} {ks : List Path} {p : Pipe} {l : List Instance} {gs gs' : List (List Value × List ℕ)} {k : ℕ} {key : List Value} {places : List ℕ} {copies : List Instance} → GroupRuns x root S G ks p l
+    → gs' ≡ found.groups x.world ks l → k < length gs' → gs ≡ gs' → Some places ≡ option_map (λ g. g.1) (slice_get gs k) → slice_get (keys x.world ks l) k ≡ Some key → copies ≡ at_places l places → GroupRun x root S G ks p l key places copies
+group-run {x = x} {root = root} {S = S} {G = G} {ks = ks} {p = p} {l = l} {gs = gs} {gs' = gs'} {k = k} {key = key} {places = places} {copies = copies} R level within same found at copied =
+    let w = x.world in
+    let c = readings x.customs in
+    let d = group-at w ks l gs' k level within in
+    let one : d.key ≡ key = some_value (sym d.at ∙ at) in
+    let whole : at_places l places ≡ group w ks key l = ap (at_places l) (places-at w ks l gs gs' k d same places found) ∙ group-at_places w ks d.key l ∙ ap (λ k. group w ks k l) one in
+    record {
+      few = ap length whole;
+      runs = group-runs x root S G ks p l key copies (copied ∙ whole) R;
+      means = ap (mean w c S p) (sym (copied ∙ whole));
+      costs = ap (cost w c S p) (copied ∙ whole);
+    }
+
+-- the next group of a level
+pub record NextGroup (x : Context) (S : Shape) (ks : List Path) (p : Pipe) (l : List Instance) (k : ℕ) : Type 0 where
+  pub key : List Value
+  pub at : slice_get (keys x.world ks l) k ≡ Some key
+  pub within : k < length (keys x.world ks l)
+  pub here : key ≡ get_or (keys x.world ks l) k key
+  pub costs : sum (map (charge_of x S ks p l) (drop k (keys x.world ks l))) ≡ charge_of x S ks p l key + sum (map (charge_of x S ks p l) (drop (k + 1) (keys x.world ks l)))
+
+pub next-group : (x : Context) (S : Shape) (ks : List Path) (p : Pipe) (l : List Instance) (k n : ℕ) (gs gs' : List (List Value × List ℕ)) → gs' ≡ found.groups x.world ks l → k < n → n ≡ length gs → gs ≡ gs' → NextGroup x S ks p l k
+next-group x S ks p l k n gs gs' level h counted same =
+    let long = ap length same in
+    let d = group-at x.world ks l gs' k level (omega (arith, h, counted, long)) in
+    let all = keys x.world ks l in
+    let within = slice_get_within all k d.key d.at in
+    let here = sym (get_or_from_slice_get all k d.key d.key d.at) in
+    record { key = d.key; at = d.at; within = within; here = here; costs = next-sum (charge_of x S ks p l) all k d.key within here }
+
+-- the next level
+pub next-level : {x : Context} {root : Option ℕ} {S G : Shape} {p : Pipe} {l : List Instance} (levels : List Level) (i : ℕ) (d : Level) → LevelsRun x root S G (map (λ level. level.0) levels) p l → i < length levels → d ≡ get_or levels i d → GroupRuns x root S G d.0 p l
+next-level levels i d R h e = R.free i d.0 (level-at levels i d (slice-at levels i d h e))
+
+-- what is counted of the levels from one to the next
+pub level-costs : (x : Context) (S : Shape) (p : Pipe) (l : List Instance) (levels : List Level) (i : ℕ) (d : Level) → i < length levels → d ≡ get_or levels i d
+    → sum (map (application (cost x.world (readings x.customs) S p) (mean x.world (readings x.customs) S p)) (flat_map (λ (level : Level). groups x.world level.0 l) (drop i levels)))
+    ≡ sum (map (application (cost x.world (readings x.customs) S p) (mean x.world (readings x.customs) S p)) (groups x.world d.0 l))
+    + sum (map (application (cost x.world (readings x.customs) S p) (mean x.world (readings x.customs) S p)) (flat_map (λ (level : Level). groups x.world level.0 l) (drop (i + 1) levels)))
+level-costs x S p l levels i d h e = next-total (application (cost x.world (readings x.customs) S p) (mean x.world (readings x.customs) S p)) (λ (level : Level). groups x.world level.0 l) levels i d h e

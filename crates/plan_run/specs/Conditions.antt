@@ -1,19 +1,27 @@
 -- When a pipeline may be run, where the type at the empty prefix is known, and what runs of its parts need.
-use Rattle.std.specs.Prelude.{◌≡◌, ℕ, IsTrue, List, Option, Some, None, map, slice_get, is_some, option_and_then, option_map}
+use Rattle.std.specs.Prelude.{◌≡◌, ℕ, ◌≤◌, IsTrue, List, Option, Some, None, map, slice_get, is_some, option_and_then, option_map}
 use Rattle.std.specs.List.{list_all}
+use Rattle.std.specs.declared.result.Result as result
+use Rattle.std.specs.declared.result.Result.TheVariants.{Ok, Err}
+use Rattle.std.specs.Global.{Vec}
 use Rattle.edm_values.specs.declared.Value.{Value}
+use Rattle.edm_values.specs.Lists.{all_some}
+use Rattle.edm_values.specs.Literals.{AreNumbers}
 use Rattle.edm_values.specs.Names.{Name, Path}
-use Rattle.edm_model.specs.Models.{Custom}
+use Rattle.edm_model.specs.LookUps.{navigation_on}
+use Rattle.edm_model.specs.Models.{Custom, Navigation, Part}
 use Rattle.edm_data.specs.Worlds.{World}
-use Rattle.apply_ast.specs.Trees.{AggItem, Pipe, Step}
+use Rattle.apply_ast.specs.Trees.{AggItem, Limit, OptPipe, Pipe, Step}
 use Rattle.context_typing.specs.Readings.{readings}
-use Rattle.context_typing.specs.Shapes.{Shape}
+use Rattle.context_typing.specs.Shapes.{Shape, set_shape}
 use Rattle.context_typing.specs.Typing.{Reading, custom_at, item_column, root_type}
 use Rattle.apply_meaning.specs.Instances.{Instance, extended}
-use Rattle.apply_meaning.specs.Meaning.{Outcome, custom_value, group, item_value, keyed, mean}
+use Rattle.apply_meaning.specs.Meaning.{Outcome, custom_value, group, item_value, keyed, mean, related_rows}
 use Rattle.apply_meaning.specs.MeaningLaws.{AllFit}
 use Rattle.apply_meaning.specs.RowViews.{columns_differ}
 use Rattle.apply_meaning.specs.Running.{Runs, StepRuns}
+use Rattle.apply_meaning.specs.declared.refusals.RunRefused.{RunRefused}
+use Rattle.apply_meaning.specs.declared.refusals.RunRefused.TheVariants.{Range, Memory}
 use Rattle.plan_run.specs.Contexts.{Context}
 use Rattle.plan_run.specs.Costs.{application, cost}
 
@@ -99,3 +107,48 @@ GroupReady x root level p l = (S : Shape) × (G : Shape) × GroupRuns x root S G
 -- the same for the paths of each level
 abbrev pub LevelsReady : Context → Option ℕ → List (List Path) → Pipe → List Instance → Type 0
 LevelsReady x root levels p l = (S : Shape) × (G : Shape) × LevelsRun x root S G levels p l
+
+-- ---- several runs
+
+-- what several runs returned, where the meaning of each is known: `Memory` says nothing
+abbrev pub GivesAll : result.Result (Vec (Vec Instance)) RunRefused → List Outcome → Type 0
+GivesAll (Ok v) os = all_some os ≡ Some (map (λ l. l.items) v.items)
+GivesAll (Err Range) os = all_some os ≡ None
+GivesAll (Err Memory) os = Unit {0}
+
+-- ---- concatenations
+
+-- each branch is typed on a shape that the instances fit
+abbrev pub BranchesRun : Context → Option ℕ → Shape → List Pipe → List Instance → Type 0
+BranchesRun x root S ps l = (n : ℕ) (p : Pipe) → slice_get ps n ≡ Some p → (G : Shape) × RunsFrom x root S G p l
+
+-- each branch is so typed on some shape
+abbrev pub BranchesReady : Context → Option ℕ → List Pipe → List Instance → Type 0
+BranchesReady x root ps l = (S : Shape) × BranchesRun x root S ps l
+
+-- ---- joins
+
+-- an inner pipeline, where there is one, is typed on a shape that the instances fit
+abbrev pub InnerRuns : Context → Option ℕ → Shape → Shape → OptPipe → List Instance → Type 0
+InnerRuns x root S G OptPipe.NoPipe l = Unit {0}
+InnerRuns x root S G (OptPipe.SomePipe p) l = RunsFrom x root S G p l
+
+-- the inner pipeline is so typed on some shape
+abbrev pub InnerReady : Context → Option ℕ → OptPipe → List Instance → Type 0
+InnerReady x root T l = (S : Shape) × (G : Shape) × InnerRuns x root S G T l
+
+-- an inner pipeline, where there is one, is typed on the shape of a navigation's target, and takes what is related to each instance
+abbrev pub RelatedRun : Context → Navigation → Shape → OptPipe → List Instance → Type 0
+RelatedRun x v G T l = (n : ℕ) (i : Instance) → slice_get l n ≡ Some i → InnerRuns x (Some v.target) (set_shape v.target) G T (related_rows x.world v i)
+
+-- the pipeline is so typed for the navigation that this one is
+abbrev pub RelatedReady : Context → Part → OptPipe → List Instance → Type 0
+RelatedReady x n T l = (v : Navigation) → navigation_on x.world.model n ≡ Some v → (G : Shape) × RelatedRun x v G T l
+
+-- ---- selections
+
+-- what a selection needs of the values: they are of one type of numbers where their sum is reached for
+abbrev pub LimitReady : Limit → List Value → Type 0
+LimitReady (Limit.Count n) vs = Unit {0}
+LimitReady (Limit.Sum x) vs = AreNumbers vs
+LimitReady (Limit.Percent p) vs = AreNumbers vs × (p ≤ 100)

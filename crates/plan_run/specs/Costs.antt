@@ -72,6 +72,11 @@ unfoldable mutual
   inner_costs w c S (Step.Traverse t) l = if is_nonempty t.items then elim (hierarchy_at w.model t.hier) [ None ↦ 0 | Some f ↦ count w f.set ] else 0
   inner_costs w c S s l = 0
 
+-- the cost of an inner pipeline, where there is one
+abbrev pub inner_cost : World → Customs → Shape → OptPipe → List Instance → ℕ
+inner_cost w c S OptPipe.NoPipe l = 0
+inner_cost w c S (OptPipe.SomePipe p) l = cost w c S p l
+
 -- the cost of one transformation
 abbrev pub step_cost : World → Customs → Shape → Step → List Instance → ℕ
 step_cost w c S s l = result_length (step_mean w c S s l) + inner_costs w c S s l

@@ -17,3 +17,4 @@ pub mod Forms
 pub mod Levels
 pub mod Orders
 pub mod Roots
+pub mod Selections

@@ -1,59 +1,25 @@
 //! Aggregations: one row of all rows.
-ghost use Rattle.std.specs.Prelude.{◌≡◌, ◌+◌, ◌≤◌, ◌∷◌, [], Some, IfOk, IfSome, IsTrue, is_some, map, pos};
+ghost use Rattle.std.specs.Prelude.{◌≡◌, ◌+◌, ◌≤◌, Some, IfOk, IfSome, IsTrue, is_some, map};
 ghost use Rattle.edm_model.specs.LookUps.{IsType};
-ghost use Rattle.edm_values.specs.declared.Value.{Value as Value'};
 ghost use Rattle.apply_ast.specs.Trees as tree;
-ghost use Rattle.apply_ast.specs.Views.{agg_of, expr_of};
+ghost use Rattle.apply_ast.specs.Views.{agg_of};
 ghost use Rattle.context_typing.specs.Readings.{AreTypedOver, readings};
 ghost use Rattle.context_typing.specs.Shapes.{Shape};
 ghost use Rattle.context_typing.specs.Typing.{root_type};
 ghost use Rattle.apply_meaning.specs.Instances.{no_instance};
 ghost use Rattle.apply_meaning.specs.Meaning as spec;
-ghost use Rattle.apply_meaning.specs.Meaning.{step_mean, values};
-ghost use Rattle.apply_meaning.specs.Running.{all_of};
+ghost use Rattle.apply_meaning.specs.Meaning.{step_mean};
 ghost use Rattle.plan_run.specs.Conditions.{ItemReady, ItemsReady, RootFits, StepReadyFrom, named_custom, named_value};
 
 use crate::contexts::Context;
-use apply_ast::{AggItem, AggList, Expr, Name, Path};
-use apply_meaning::{Row, Steps, data_is_loaded, eval};
-use edm_data::Data;
+use apply_ast::{AggItem, AggList, Name, Path};
+use apply_meaning::{Row, Steps, count, data_is_loaded, path_of, values_of};
 use edm_model::TypeId;
 use edm_values::Value;
 use par_stages::Gate;
 use std::alloc::{AllocError, Global};
 use std::sync::ledger::Ledger;
 use std::thread::Threads;
-
-/// The path of one name.
-fn path_of(alloc: Global, name: &Name) -> Result<Path, AllocError>
-    ensures { IfOk result (λ p. p ≡ name.now ∷ []) }
-{
-    let mut names = Vec::new(alloc);
-    names.push(name.copy(alloc)?)?;
-    Ok(Path::new(names))
-}
-
-/// The count as a value: one past 63 bits counts more than any memory holds.
-fn count(n: usize) -> Result<Value, AllocError>
-    ensures { IfOk result (λ v. v ≡ Value'.Int (pos n)) }
-{
-    match i64::try_from(n) {
-        Ok(n) => Ok(Value::Int(n)),
-        Err(_) => Err(AllocError),
-    }
-}
-
-/// The values of an expression on rows.
-fn values_of(alloc: Global, store: &Data, e: &Expr, rows: &[Row]) -> Result<Vec<Value>, AllocError>
-    requires { IsTrue (all_of store.now rows.now) }
-    ensures { IfOk result (λ vs. vs.items ≡ values store.now (expr_of e.now) rows.now) }
-{
-    let mut found = Vec::with_capacity(alloc, rows.len())?;
-    for row in rows {
-        found.push(eval(store, row, e).own(alloc)?)?;
-    }
-    Ok(found)
-}
 
 /// The custom aggregates are typed over the model, and the type that has one is one of the model.
 fn custom_ready<R: Threads + Sync, G: Gate>(

@@ -1,10 +1,10 @@
 //! The pipelines that are run.
 ghost use Rattle.std.specs.Prelude.{◌≡◌, ◌&&◌, option_map};
 ghost use Rattle.std.specs.List.{list_all};
-ghost use Rattle.apply_ast.specs.Views.{inner_of, key_of, keys_of, pipe_of, step_of};
+ghost use Rattle.apply_ast.specs.Views.{inner_of, join_of, key_of, keys_of, pipe_of, pipes_of, step_of};
 ghost use Rattle.plan_run.specs.Forms as spec;
 
-use apply_ast::{KeyItem, KeyList, Pipe, Step};
+use apply_ast::{JoinStep, KeyItem, KeyList, Pipe, PipeList, Step};
 
 /// Whether the key is no recursive rollup.
 fn is_built_key(key: &KeyItem) -> bool
@@ -24,7 +24,8 @@ fn are_built_keys(keys: &[KeyItem]) -> bool
 }
 
 /// Whether the pipeline is one that `run` runs: its transformations are `identity`, `filter`, `compute`, `orderby`, `skip`,
-/// `top`, `aggregate`, and `groupby` without a recursive rollup and with such a pipeline for the groups.
+/// `top`, `aggregate`, the selections from the top and the bottom, and with such pipelines inside `concat`, `join`, `outerjoin`,
+/// and `groupby` without a recursive rollup.
 #[cycle(forms)]
 pub fn is_built(pipe: &Pipe) -> bool
     ensures { result ≡ spec.is_built (pipe_of pipe.now) }
@@ -37,7 +38,7 @@ pub fn is_built(pipe: &Pipe) -> bool
     true
 }
 
-/// Whether the pipeline for the groups is one of these, where there is one.
+/// Whether an inner pipeline is one of these, where there is one.
 #[cycle(forms)]
 fn is_built_inner(inner: &Option<Pipe>) -> bool
     ensures { result ≡ spec.is_built_inner (inner_of (option_map pipe_of inner.now)) }
@@ -56,6 +57,27 @@ fn is_built_grouping(inner: &Option<Pipe>, keys: &KeyList) -> bool
     are_built_keys(keys.as_slice()) && is_built_inner(inner)
 }
 
+/// Whether each branch is run.
+#[cycle(forms)]
+fn are_built_branches(branches: &PipeList) -> bool
+    ensures { result ≡ spec.are_built_branches (pipes_of branches.now) }
+{
+    for branch in branches.as_slice() {
+        if !is_built(branch) {
+            return false;
+        }
+    }
+    true
+}
+
+/// Whether the join is run.
+#[cycle(forms)]
+fn is_built_join(join: &JoinStep) -> bool
+    ensures { result ≡ spec.is_built_step (join_of join.now) }
+{
+    is_built_inner(&join.inner)
+}
+
 /// Whether the transformation is run.
 #[cycle(forms)]
 fn is_built_step(step: &Step) -> bool
@@ -63,13 +85,16 @@ fn is_built_step(step: &Step) -> bool
 {
     match step {
         Step::GroupBy(keys, inner) => is_built_grouping(inner, keys),
+        Step::Concat(branches) => are_built_branches(branches),
+        Step::Join(join) => is_built_join(join),
         Step::Identity
         | Step::Filter(_)
         | Step::Compute(_)
         | Step::OrderBy(_)
         | Step::Skip(_)
         | Step::Top(_)
-        | Step::Aggregate(_) => true,
+        | Step::Aggregate(_)
+        | Step::TopBy(_) => true,
         _ => false,
     }
 }

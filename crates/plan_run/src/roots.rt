@@ -1,11 +1,11 @@
 //! The entity type at the empty prefix of rows.
 ghost use Rattle.std.specs.Prelude.{IsTrue, option_map};
 ghost use Rattle.apply_ast.specs.Trees as tree;
-ghost use Rattle.apply_ast.specs.Views.{inner_of, keys_of, pipe_of, step_of};
-ghost use Rattle.plan_run.specs.Forms.{is_built, is_built_inner, is_built_step};
-ghost use Rattle.plan_run.specs.Roots.{InnerLeadsTo, LeadsTo, PipeLeadsTo};
+ghost use Rattle.apply_ast.specs.Views.{inner_of, keys_of, pipe_of, pipes_of, step_of};
+ghost use Rattle.plan_run.specs.Forms.{are_built_branches, is_built, is_built_inner, is_built_step};
+ghost use Rattle.plan_run.specs.Roots.{BranchesLeadTo, InnerLeadsTo, LeadsTo, PipeLeadsTo};
 
-use apply_ast::{KeyList, Pipe, Step};
+use apply_ast::{KeyList, Pipe, PipeList, Step};
 use edm_model::TypeId;
 
 /// The inner pipeline of a grouping that is run is run too.
@@ -39,6 +39,20 @@ fn root_inside(inner: &Option<Pipe>, root: Option<TypeId>) -> Option<TypeId>
     }
 }
 
+/// The type at the empty prefix of what the branches of a concatenation give: none where that of a branch has none.
+#[cycle(roots)]
+fn root_of_branches(branches: &PipeList, root: &Option<TypeId>) -> Option<TypeId>
+    requires { IsTrue (are_built_branches (pipes_of branches.now)) }
+    ensures { BranchesLeadTo (pipes_of branches.now) root.now result }
+{
+    let mut first = None;
+    for branch in branches.as_slice() {
+        let behind = root_behind(branch, *root)?;
+        first = first.or(Some(behind));
+    }
+    first
+}
+
 /// The type at the empty prefix after a transformation, where no row lacks it.
 #[cycle(roots)]
 pub(crate) fn root_after(step: &Step, root: Option<TypeId>) -> Option<TypeId>
@@ -57,6 +71,9 @@ pub(crate) fn root_after(step: &Step, root: Option<TypeId>) -> Option<TypeId>
         Step::OrderBy(_) => root,
         Step::Skip(_) => root,
         Step::Top(_) => root,
+        Step::Concat(branches) => root_of_branches(branches, &root),
+        Step::Join(_) => root,
+        Step::TopBy(_) => root,
         _ => unreachable!(),
     }
 }

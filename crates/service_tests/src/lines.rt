@@ -32,7 +32,7 @@ fn each_line_is_answered_by_the_first_reason_that_holds(rt: HostRuntime) -> Resu
             b"400 81\n{\"error\":{\"code\":\"Type\",\"message\":\"the transformation has no type\",\"target\":\"1\"}}\n".as_slice(),
         ),
         (
-            b"Sales?$apply=topcount(1,ID)\n".as_slice(),
+            b"Sales?$apply=traverse($root/Orgs,OrgTree,OrgID,preorder)\n".as_slice(),
             b"501 68\n{\"error\":{\"code\":\"NotBuilt\",\"message\":\"this form is not built yet\"}}\n".as_slice(),
         ),
         (
@@ -68,11 +68,11 @@ fn each_line_is_answered_by_the_first_reason_that_holds(rt: HostRuntime) -> Resu
             b"400 81\n{\"error\":{\"code\":\"Type\",\"message\":\"the transformation has no type\",\"target\":\"2\"}}\n".as_slice(),
         ),
         (
-            b"Sales?$apply=concat(identity,aggregate($count as N))/filter(N eq 6)\n".as_slice(),
+            b"Sales?$apply=concat(identity,descendants($root/Orgs,OrgTree,OrgID,filter(ID eq 1)))\n".as_slice(),
             b"501 68\n{\"error\":{\"code\":\"NotBuilt\",\"message\":\"this form is not built yet\"}}\n".as_slice(),
         ),
         (
-            b"Customers?$apply=join(Sales as S)/aggregate($count as N)\n".as_slice(),
+            b"Customers?$apply=join(Sales as S,traverse($root/Orgs,OrgTree,OrgID,preorder))\n".as_slice(),
             b"501 68\n{\"error\":{\"code\":\"NotBuilt\",\"message\":\"this form is not built yet\"}}\n".as_slice(),
         ),
         (
@@ -331,17 +331,102 @@ const ANSWERS: &[(&str, &str, &str)] = &[
         "{\"error\":{\"code\":\"Range\",\"message\":\"a number is past its range\"}}",
     ),
     (
-        "Sales?$apply=groupby((rolluprecursive($root/Orgs,OrgTree,OrgID)))",
-        "501",
-        "{\"error\":{\"code\":\"NotBuilt\",\"message\":\"this form is not built yet\"}}",
+        "Sales?$apply=topcount(2,Amount)/groupby((ID))",
+        "200",
+        "{\"@context\":\"$metadata#Sales(ID)\",\"value\":[{\"ID\":\"1\"},{\"ID\":\"3\"}]}",
+    ),
+    (
+        "Sales?$apply=toppercent(50,Amount)/groupby((ID))",
+        "200",
+        "{\"@context\":\"$metadata#Sales(ID)\",\"value\":[{\"ID\":\"1\"},{\"ID\":\"3\"}]}",
+    ),
+    (
+        "Sales?$apply=bottomsum(3,Amount)/groupby((ID))",
+        "200",
+        "{\"@context\":\"$metadata#Sales(ID)\",\"value\":[{\"ID\":\"5\"},{\"ID\":\"6\"}]}",
+    ),
+    (
+        "Sales?$apply=bottomcount(2,Amount)/groupby((ID))",
+        "200",
+        "{\"@context\":\"$metadata#Sales(ID)\",\"value\":[{\"ID\":\"5\"},{\"ID\":\"6\"}]}",
+    ),
+    (
+        "Sales?$apply=topsum(15,Amount)/groupby((ID))",
+        "200",
+        "{\"@context\":\"$metadata#Sales(ID)\",\"value\":[{\"ID\":\"1\"},{\"ID\":\"3\"}]}",
+    ),
+    (
+        "Sales?$apply=topsum(100,Amount)/groupby((ID))",
+        "200",
+        "{\"@context\":\"$metadata#Sales(ID)\",\"value\":[{\"ID\":\"1\"},{\"ID\":\"2\"},{\"ID\":\"3\"},{\"ID\":\"4\"},{\"ID\":\"5\"},{\"ID\":\"6\"}]}",
+    ),
+    (
+        "Sales?$apply=bottompercent(10,Amount)/groupby((ID))",
+        "200",
+        "{\"@context\":\"$metadata#Sales(ID)\",\"value\":[{\"ID\":\"5\"},{\"ID\":\"6\"}]}",
+    ),
+    (
+        "Sales?$apply=toppercent(0,Amount)/groupby((ID))",
+        "200",
+        "{\"@context\":\"$metadata#Sales(ID)\",\"value\":[]}",
+    ),
+    (
+        "Sales?$apply=topcount(1,Amount mul 100000000000000000)",
+        "422",
+        "{\"error\":{\"code\":\"Range\",\"message\":\"a number is past its range\"}}",
+    ),
+    (
+        "Customers?$apply=outerjoin(Sales as S,filter(Amount gt 5))",
+        "200",
+        "{\"@context\":\"$metadata#Customers(*,S(*))\",\"value\":[{\"Country\":\"US\",\"ID\":\"C1\",\"Name\":\"Joe\",\"S\":{\"Amount\":\"10.00\",\"CustomerID\":\"C1\",\"ID\":\"1\",\"OrgID\":\"West\"},\"Since\":\"2019-05-01\"},{\"Country\":\"US\",\"ID\":\"C1\",\"Name\":\"Joe\",\"S\":{\"Amount\":\"5.50\",\"CustomerID\":\"C1\",\"ID\":\"2\",\"OrgID\":\"East\"},\"Since\":\"2019-05-01\"},{\"Country\":\"NL\",\"ID\":\"C2\",\"Name\":\"Sue\",\"S\":{\"Amount\":\"7.25\",\"CustomerID\":\"C2\",\"ID\":\"3\",\"OrgID\":\"EMEA\"},\"Since\":\"2020-02-29\"},{\"Country\":\"FR\",\"ID\":\"C3\",\"Name\":\"Luc\",\"S\":null,\"Since\":null},{\"Country\":\"FR\",\"ID\":\"C4\",\"Name\":\"Ann\",\"S\":null,\"Since\":\"2020-12-31\"}]}",
+    ),
+    (
+        "Customers?$apply=join(Sales as S)/groupby((Country),aggregate(S/Amount with sum as T))/orderby(T desc)/top(1)",
+        "200",
+        "{\"@context\":\"$metadata#Customers(Country,T)\",\"value\":[{\"Country\":\"US\",\"T@type\":\"Decimal\",\"T\":\"17.75\"}]}",
+    ),
+    (
+        "Customers?$apply=join(Sales as S,aggregate(Amount with sum as T,$count as N))",
+        "200",
+        "{\"@context\":\"$metadata#Customers(*,S(N,T))\",\"value\":[{\"Country\":\"US\",\"ID\":\"C1\",\"Name\":\"Joe\",\"S\":{\"N@type\":\"Int64\",\"N\":\"3\",\"T@type\":\"Decimal\",\"T\":\"17.75\"},\"Since\":\"2019-05-01\"},{\"Country\":\"NL\",\"ID\":\"C2\",\"Name\":\"Sue\",\"S\":{\"N@type\":\"Int64\",\"N\":\"2\",\"T@type\":\"Decimal\",\"T\":\"8.25\"},\"Since\":\"2020-02-29\"},{\"Country\":\"FR\",\"ID\":\"C3\",\"Name\":\"Luc\",\"S\":{\"N@type\":\"Int64\",\"N\":\"1\",\"T@type\":\"Decimal\",\"T\":null},\"Since\":null},{\"Country\":\"FR\",\"ID\":\"C4\",\"Name\":\"Ann\",\"S\":{\"N@type\":\"Int64\",\"N\":\"0\",\"T@type\":\"Decimal\",\"T\":null},\"Since\":\"2020-12-31\"}]}",
+    ),
+    (
+        "Sales?$apply=concat(filter(ID eq 1),filter(ID eq 1))/groupby((ID),aggregate($count as N))",
+        "200",
+        "{\"@context\":\"$metadata#Sales(ID,N)\",\"value\":[{\"ID\":\"1\",\"N@type\":\"Int64\",\"N\":\"2\"}]}",
+    ),
+    (
+        "Sales?$apply=concat(top(1),aggregate(Amount with sum as T))",
+        "200",
+        "{\"@context\":\"$metadata#Sales(*,T)\",\"value\":[{\"Amount\":\"10.00\",\"CustomerID\":\"C1\",\"ID\":\"1\",\"OrgID\":\"West\"},{\"T@type\":\"Decimal\",\"T\":\"26.00\"}]}",
     ),
     (
         "Sales?$apply=groupby((CustomerID),topcount(1,Amount))",
+        "200",
+        "{\"@context\":\"$metadata#Sales(*,CustomerID)\",\"value\":[{\"Amount\":\"10.00\",\"CustomerID\":\"C1\",\"ID\":\"1\",\"OrgID\":\"West\"},{\"Amount\":\"7.25\",\"CustomerID\":\"C2\",\"ID\":\"3\",\"OrgID\":\"EMEA\"},{\"Amount\":null,\"CustomerID\":\"C3\",\"ID\":\"4\",\"OrgID\":\"West\"}]}",
+    ),
+    (
+        "Sales?$apply=concat(identity,filter(Amount mul 100000000000000000 gt 0))",
+        "422",
+        "{\"error\":{\"code\":\"Range\",\"message\":\"a number is past its range\"}}",
+    ),
+    (
+        "Sales?$apply=concat(identity,traverse($root/Orgs,OrgTree,OrgID,preorder))",
         "501",
         "{\"error\":{\"code\":\"NotBuilt\",\"message\":\"this form is not built yet\"}}",
     ),
     (
-        "Customers?$apply=join(Sales as S)",
+        "Customers?$apply=join(Sales as S,ancestors($root/Orgs,OrgTree,OrgID,identity))",
+        "501",
+        "{\"error\":{\"code\":\"NotBuilt\",\"message\":\"this form is not built yet\"}}",
+    ),
+    (
+        "Orgs?$apply=traverse($root/Orgs,OrgTree,ID,postorder)",
+        "501",
+        "{\"error\":{\"code\":\"NotBuilt\",\"message\":\"this form is not built yet\"}}",
+    ),
+    (
+        "Sales?$apply=groupby((rolluprecursive($root/Orgs,OrgTree,OrgID)))",
         "501",
         "{\"error\":{\"code\":\"NotBuilt\",\"message\":\"this form is not built yet\"}}",
     ),
@@ -352,16 +437,6 @@ const ANSWERS: &[(&str, &str, &str)] = &[
     ),
     (
         "explain Sales?$apply=identity",
-        "501",
-        "{\"error\":{\"code\":\"NotBuilt\",\"message\":\"this form is not built yet\"}}",
-    ),
-    (
-        "Sales?$apply=topcount(1,Amount)",
-        "501",
-        "{\"error\":{\"code\":\"NotBuilt\",\"message\":\"this form is not built yet\"}}",
-    ),
-    (
-        "Sales?$apply=identity/concat(identity,identity)",
         "501",
         "{\"error\":{\"code\":\"NotBuilt\",\"message\":\"this form is not built yet\"}}",
     ),

@@ -1,7 +1,8 @@
 //! Requests over the sample's data and what they give. The expected rows come from the rules and from a program that was
 //! written apart from this one.
 
-/// Requests and their rows, each with the place of its entity, or `-` where it has none, and its columns.
+/// Requests and their rows, each with the place of its entity, or `-` where it has none, its other prefixes with theirs, and its
+/// columns.
 pub(crate) const ROW_WISE: &[(&str, &str)] = &[
     ("Sales?$apply=identity", "0 | 1 | 2 | 3 | 4 | 5"),
     // Filters keep what is true, and neither what is false nor what is unknown.
@@ -252,5 +253,225 @@ pub(crate) const GROUPED: &[(&str, &str)] = &[
     (
         "Orgs?$apply=groupby((ParentID),aggregate($count as N))",
         "-; N: 2; ParentID: null | -; N: 2; ParentID: Corp | -; N: 2; ParentID: US",
+    ),
+];
+
+/// Selections from the top and the bottom.
+pub(crate) const TAKEN: &[(&str, &str)] = &[
+    // The earlier of two that tie comes first, null last in both directions; what is taken stands in its order.
+    ("Sales?$apply=topcount(2,Amount)", "0 | 2"),
+    ("Sales?$apply=bottomcount(2,Amount)", "4 | 5"),
+    ("Sales?$apply=topcount(0,Amount)", ""),
+    ("Sales?$apply=topcount(5,Amount)", "0 | 1 | 2 | 4 | 5"),
+    (
+        "Sales?$apply=topcount(9223372036854775807,Amount)",
+        "0 | 1 | 2 | 3 | 4 | 5",
+    ),
+    ("Sales?$apply=bottomcount(5,Amount)", "0 | 1 | 2 | 4 | 5"),
+    ("Sales?$apply=topcount(1,CustomerID)", "3"),
+    ("Sales?$apply=topcount(3,Customer/Country)", "0 | 1 | 5"),
+    ("Sales?$apply=bottomcount(1,Customer/Country)", "3"),
+    ("Sales?$apply=bottomcount(2,Customer/Since)", "0 | 1"),
+    (
+        "Sales?$apply=topcount(1,Amount mul 100000000000000000)",
+        "Range",
+    ),
+    (
+        "Sales?$apply=filter(ID eq 4)/topcount(1,Amount mul 100000000000000000)",
+        "3",
+    ),
+    ("Sales?$apply=filter(ID eq 99)/topcount(2,Amount)", ""),
+    // The fewest whose sum is enough, or all.
+    ("Sales?$apply=topsum(15,Amount)", "0 | 2"),
+    ("Sales?$apply=topsum(10,Amount)", "0"),
+    ("Sales?$apply=topsum(10.00,Amount)", "0"),
+    ("Sales?$apply=topsum(10.000000001,Amount)", "0 | 2"),
+    ("Sales?$apply=topsum(17.25,Amount)", "0 | 2"),
+    ("Sales?$apply=topsum(0,Amount)", ""),
+    ("Sales?$apply=topsum(100,Amount)", "0 | 1 | 2 | 3 | 4 | 5"),
+    ("Sales?$apply=bottomsum(3,Amount)", "4 | 5"),
+    ("Sales?$apply=bottomsum(1,Amount)", "4"),
+    ("Sales?$apply=bottomsum(1.0000001,Amount)", "4 | 5"),
+    ("Sales?$apply=topsum(11,ID)", "4 | 5"),
+    ("Sales?$apply=topsum(10.5,ID)", "4 | 5"),
+    ("Sales?$apply=bottomsum(6,ID)", "0 | 1 | 2"),
+    (
+        "Sales?$apply=topsum(1,Amount sub 20)",
+        "0 | 1 | 2 | 3 | 4 | 5",
+    ),
+    ("Sales?$apply=bottomsum(0,Amount sub 20)", ""),
+    ("Sales?$apply=filter(ID eq 4)/topsum(1,Amount)", "3"),
+    // A percentage of the exact sum.
+    ("Sales?$apply=toppercent(50,Amount)", "0 | 2"),
+    ("Sales?$apply=bottompercent(10,Amount)", "4 | 5"),
+    ("Sales?$apply=toppercent(0,Amount)", ""),
+    ("Sales?$apply=toppercent(100,Amount)", "0 | 1 | 2 | 4 | 5"),
+    ("Sales?$apply=toppercent(39,Amount)", "0 | 2"),
+    ("Sales?$apply=toppercent(38,Amount)", "0"),
+    ("Sales?$apply=bottompercent(1,ID)", "0"),
+    ("Sales?$apply=bottompercent(5,ID)", "0 | 1"),
+    ("Sales?$apply=toppercent(29,ID)", "4 | 5"),
+    ("Sales?$apply=toppercent(28,ID)", "5"),
+    ("Sales?$apply=toppercent(50,Amount sub 20)", ""),
+    ("Sales?$apply=bottompercent(50,Amount sub 20)", ""),
+    ("Sales?$apply=filter(ID eq 4)/toppercent(100,Amount)", ""),
+    (
+        "Sales?$apply=top(2)/toppercent(65,(ID mul 9223372036854775806) sub (ID mul 9223372036854775805))",
+        "Range",
+    ),
+    (
+        "Sales?$apply=filter(ID le 2)/toppercent(99,ID mul 4611686018427387903)",
+        "0 | 1",
+    ),
+    (
+        "Sales?$apply=filter(ID le 2)/topsum(9223372036854775807,ID mul 4611686018427387903)",
+        "0 | 1",
+    ),
+    (
+        "Sales?$apply=groupby((CustomerID),topcount(1,Amount))",
+        "0; CustomerID: C1 | 2; CustomerID: C2 | 3; CustomerID: C3",
+    ),
+    (
+        "Sales?$apply=groupby((CustomerID),bottomsum(3,Amount)/compute(Amount mul 2 as D))",
+        "1; D: 11.00; CustomerID: C1 | 5; D: 4.50; CustomerID: C1 | 2; D: 14.50; CustomerID: C2 | 4; D: 2.00; CustomerID: C2 | 3; D: null; CustomerID: C3",
+    ),
+];
+
+/// Joins and concatenations.
+pub(crate) const JOINED: &[(&str, &str)] = &[
+    // Each row beside each of its related rows, in both orders; the alias stands before what they have.
+    (
+        "Customers?$apply=join(Sales as S)",
+        "0; S@0 | 0; S@1 | 0; S@5 | 1; S@2 | 1; S@4 | 2; S@3",
+    ),
+    (
+        "Customers?$apply=outerjoin(Sales as S)",
+        "0; S@0 | 0; S@1 | 0; S@5 | 1; S@2 | 1; S@4 | 2; S@3 | 3; S@-",
+    ),
+    (
+        "Customers?$apply=join(Sales as S,filter(Amount gt 5))",
+        "0; S@0 | 0; S@1 | 1; S@2",
+    ),
+    (
+        "Customers?$apply=outerjoin(Sales as S,filter(Amount gt 5))",
+        "0; S@0 | 0; S@1 | 1; S@2 | 2; S@- | 3; S@-",
+    ),
+    ("Customers?$apply=filter(ID eq 'C4')/join(Sales as S)", ""),
+    (
+        "Customers?$apply=filter(ID eq 'C4')/outerjoin(Sales as S)",
+        "3; S@-",
+    ),
+    (
+        "Customers?$apply=join(Sales as S,compute(Amount mul 2 as D)/top(1))",
+        "0; S@0; S/D: 20.00 | 1; S@2; S/D: 14.50 | 2; S@3; S/D: null",
+    ),
+    (
+        "Customers?$apply=outerjoin(Sales as S,aggregate(Amount with sum as T,$count as N))",
+        "0; S/T: 17.75; S/N: 3 | 1; S/T: 8.25; S/N: 2 | 2; S/T: null; S/N: 1 | 3; S/T: null; S/N: 0",
+    ),
+    (
+        "Customers?$apply=join(Sales as S,groupby((OrgID),aggregate($count as N)))",
+        "0; S/N: 1; S/OrgID: West | 0; S/N: 1; S/OrgID: East | 0; S/N: 1; S/OrgID: US | 1; S/N: 1; S/OrgID: EMEA | 1; S/N: 1; S/OrgID: null | 2; S/N: 1; S/OrgID: West",
+    ),
+    (
+        "Customers?$apply=join(Sales as S)/groupby((Country),aggregate(S/Amount with sum as T))/orderby(T desc)/top(1)",
+        "-; T: 17.75; Country: US",
+    ),
+    (
+        "Customers?$apply=join(Sales as S)/filter(S/OrgID eq 'West')",
+        "0; S@0 | 2; S@3",
+    ),
+    (
+        "Customers?$apply=outerjoin(Sales as S)/filter(S/ID eq null)",
+        "3; S@-",
+    ),
+    (
+        "Customers?$apply=join(Sales as S)/outerjoin(Sales as R,top(1))/top(3)",
+        "0; S@0; R@0 | 0; S@1; R@0 | 0; S@5; R@0",
+    ),
+    (
+        "Customers?$apply=join(Sales as S,topcount(1,Amount))/compute(S/Amount add 1 as A)",
+        "0; S@0; A: 11.00 | 1; S@2; A: 8.25 | 2; S@3; A: null",
+    ),
+    (
+        "Customers?$apply=join(Sales as S,filter(Amount mul 100000000000000000 gt 0))",
+        "Range",
+    ),
+    (
+        "Customers?$apply=filter(ID eq 'C3')/join(Sales as S,filter(Amount mul 100000000000000000 gt 0))",
+        "",
+    ),
+    (
+        "Customers?$apply=filter(ID eq 'C9')/join(Sales as S,filter(Amount mul 100000000000000000 gt 0))",
+        "",
+    ),
+    (
+        "Customers?$apply=join(Sales as S,aggregate(Best))",
+        "0; S/Best: 17.75 | 1; S/Best: 8.25 | 2; S/Best: null | 3; S/Best: null",
+    ),
+    (
+        "Customers?$apply=outerjoin(Sales as S)/aggregate(S/Amount with sum as T,$count as N)",
+        "-; T: 26.00; N: 7",
+    ),
+    // Each branch on the same rows, one after the other.
+    (
+        "Sales?$apply=concat(identity,identity)",
+        "0 | 1 | 2 | 3 | 4 | 5 | 0 | 1 | 2 | 3 | 4 | 5",
+    ),
+    (
+        "Sales?$apply=concat(filter(ID eq 1),filter(ID eq 1))/groupby((ID),aggregate($count as N))",
+        "-; N: 2; ID: 1",
+    ),
+    (
+        "Sales?$apply=concat(top(1),aggregate(Amount with sum as T))",
+        "0 | -; T: 26.00",
+    ),
+    (
+        "Sales?$apply=concat(filter(ID eq 2),skip(4),top(1))",
+        "1 | 4 | 5 | 0",
+    ),
+    (
+        "Sales?$apply=concat(compute(1 as A),top(1)/compute(2 as A))",
+        "0; A: 1 | 1; A: 1 | 2; A: 1 | 3; A: 1 | 4; A: 1 | 5; A: 1 | 0; A: 2",
+    ),
+    (
+        "Sales?$apply=concat(aggregate(Best),aggregate(Amount with max as Best))",
+        "-; Best: 17.75 | -; Best: 10.00",
+    ),
+    (
+        "Sales?$apply=concat(groupby((CustomerID),aggregate($count as N)),aggregate($count as N))",
+        "-; N: 3; CustomerID: C1 | -; N: 2; CustomerID: C2 | -; N: 1; CustomerID: C3 | -; N: 6",
+    ),
+    (
+        "Sales?$apply=concat(concat(top(1),skip(5)),filter(ID eq 3))",
+        "0 | 5 | 2",
+    ),
+    (
+        "Sales?$apply=concat(identity,filter(Amount mul 100000000000000000 gt 0))",
+        "Range",
+    ),
+    (
+        "Sales?$apply=concat(filter(Amount mul 100000000000000000 gt 0),identity)",
+        "Range",
+    ),
+    (
+        "Sales?$apply=filter(ID eq 99)/concat(identity,aggregate($count as N))",
+        "-; N: 0",
+    ),
+    (
+        "Sales?$apply=groupby((CustomerID),concat(aggregate($count as N),aggregate(Amount with sum as T)))",
+        "-; N: 3; CustomerID: C1 | -; T: 17.75; CustomerID: C1 | -; N: 2; CustomerID: C2 | -; T: 8.25; CustomerID: C2 | -; N: 1; CustomerID: C3 | -; T: null; CustomerID: C3",
+    ),
+    (
+        "Sales?$apply=concat(top(1),skip(5))/aggregate(Best)",
+        "-; Best: 12.25",
+    ),
+    (
+        "Sales?$apply=concat(identity,top(2))/topcount(3,Amount)",
+        "0 | 2 | 0",
+    ),
+    (
+        "Customers?$apply=concat(join(Sales as S,top(1)),outerjoin(Sales as S,filter(ID eq 3)))",
+        "0; S@0 | 1; S@2 | 2; S@3 | 0; S@- | 1; S@2 | 2; S@- | 3; S@-",
     ),
 ];

@@ -5,11 +5,12 @@ ghost use Rattle.context_typing.specs.Readings.{readings, AreTypedOver};
 ghost use Rattle.context_typing.specs.Typing.{customs_typed};
 
 use crate::rows::{shown, world};
-use crate::run_rows::{GROUPED, ROW_WISE};
+use crate::run_rows::{GROUPED, JOINED, ROW_WISE, TAKEN};
 use apply_grammar::read_request;
 use apply_meaning::{Row, RunRefused, Steps, is_plain, run_plain};
 use context_typing::{Customs, customs_are_typed, type_customs, type_pipe};
-use edm_data::Data;
+use custom_readings::read_customs;
+use edm_data::{Data, EntityRef};
 use edm_model::Model;
 use optimiser::Plan;
 use par_stages::NoGate;
@@ -20,16 +21,26 @@ use std::process::Abort;
 use std::sync::ledger::{Blank, Ledger};
 use std::test::Fail;
 use std::thread::Threads;
-use test_support::readings::read_customs;
 use test_support::samples::SALES_DATA;
 use test_support::texts::push_path;
 
-/// The place of the row's entity, and its columns.
+/// The place of an entity, or a dash.
+fn entity_text(alloc: Global, entity: Option<EntityRef>) -> Result<String, Fail> {
+    match entity {
+        Some(entity) => Ok(format!(in alloc; "{}", entity.at)?),
+        None => Ok(String::from_str(alloc, "-")?),
+    }
+}
+
+/// The place of the row's entity, those at its other prefixes, and its columns.
 fn row_text(alloc: Global, row: &Row) -> Result<String, Fail> {
-    let mut text = match row.root() {
-        Some(entity) => format!(in alloc; "{}", entity.at)?,
-        None => String::from_str(alloc, "-")?,
-    };
+    let mut text = entity_text(alloc, row.root())?;
+    for (path, entity) in row.prefixes() {
+        text.push_str("; ")?;
+        push_path(&mut text, path)?;
+        text.push_str("@")?;
+        text.push_str(entity_text(alloc, *entity)?.as_str())?;
+    }
     for (path, value) in row.columns() {
         text.push_str("; ")?;
         push_path(&mut text, path)?;
@@ -142,6 +153,16 @@ fn groupings_and_custom_aggregates_give_their_rows(rt: HostRuntime) -> Result<()
     expect_runs::<_, Brand>(&rt, rt.alloc(), GROUPED, Blank::new(1))
 }
 
+#[test]
+fn selections_give_their_rows(rt: HostRuntime) -> Result<(), Fail> {
+    expect_runs::<_, Brand>(&rt, rt.alloc(), TAKEN, Blank::new(1))
+}
+
+#[test]
+fn joins_and_concatenations_give_their_rows(rt: HostRuntime) -> Result<(), Fail> {
+    expect_runs::<_, Brand>(&rt, rt.alloc(), JOINED, Blank::new(1))
+}
+
 /// The forms that are plain, and those that are not built.
 const FORMS: &[(&str, bool, bool)] = &[
     ("Sales?$apply=identity/skip(1)/top(1)", true, true),
@@ -156,10 +177,26 @@ const FORMS: &[(&str, bool, bool)] = &[
         false,
         true,
     ),
-    ("Sales?$apply=topcount(1,Amount)", false, false),
-    ("Sales?$apply=concat(identity,identity)", false, false),
+    ("Sales?$apply=topcount(1,Amount)", false, true),
+    ("Sales?$apply=concat(identity,identity)", false, true),
+    ("Customers?$apply=join(Sales as S)", false, true),
+    (
+        "Customers?$apply=outerjoin(Sales as S,topsum(1,Amount))",
+        false,
+        true,
+    ),
     (
         "Sales?$apply=groupby((ID),groupby((OrgID),topcount(1,Amount)))",
+        false,
+        true,
+    ),
+    (
+        "Sales?$apply=concat(identity,traverse($root/Orgs,OrgTree,OrgID,preorder))",
+        false,
+        false,
+    ),
+    (
+        "Customers?$apply=join(Sales as S,ancestors($root/Orgs,OrgTree,OrgID,identity))",
         false,
         false,
     ),

@@ -1,5 +1,5 @@
 -- Names that texts are.
-use Rattle.std.proofs.Common.{◌≡◌, ℕ, ap, Bool, true, false, List, Option, Some, None}
+use Rattle.std.proofs.Common.{◌≡◌, ℕ, ap, Bool, true, false, List, Some, None}
 use Rattle.std.specs.Prelude.{if◌then◌else◌, unwrap_or}
 
 -- the name that a text is has the text's bytes

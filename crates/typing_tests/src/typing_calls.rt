@@ -2,9 +2,9 @@
 use crate::typing_table::own_shape;
 use apply_grammar::read_expr;
 use context_typing::{is_sure, type_customs};
+use custom_readings::read_customs;
 use edm_model::read_model;
 use std::test::Fail;
-use test_support::readings::read_customs;
 use test_support::samples::SAMPLE;
 
 #[test]

@@ -4,10 +4,10 @@
 use crate::typing_customs_rows::{DEFINITION, DEFINITIONS};
 use crate::typing_table::set_of;
 use context_typing::{CustomRefused, type_customs};
+use custom_readings::read_customs;
 use edm_model::{CustomId, Model, ModelRefused, read_model};
 use std::alloc::{AllocError, Global};
 use std::test::Fail;
-use test_support::readings::read_customs;
 use test_support::samples::{SAMPLE, STOCK};
 
 /// The place of the custom aggregate of this id.

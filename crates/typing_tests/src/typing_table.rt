@@ -15,12 +15,12 @@ use context_typing::{
     ColumnList, ColumnShape, Customs, PrefixList, RootShape, Shape, TypeRefused, Typed, is_quiet,
     type_customs, type_pipe,
 };
+use custom_readings::read_customs;
 use edm_model::{Model, SetId, TypeId, read_model};
 use edm_values::EdmType;
 use std::alloc::{AllocError, Global};
 use std::process::Abort;
 use std::test::Fail;
-use test_support::readings::read_customs;
 use test_support::samples::{SAMPLE, STOCK, WORDS};
 use test_support::texts::push_path;
 

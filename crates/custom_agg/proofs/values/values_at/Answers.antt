@@ -3,7 +3,7 @@ use Rattle.edm_values.specs.Lists.{at_places}
 use Rattle.apply_ast.specs.Views.{expr_of}
 use Rattle.apply_meaning.specs.Instances.{val}
 use Rattle.apply_meaning.specs.Meaning.{values}
-use Rattle.custom_agg.proofs.GroupResults.{next-place}
+use Rattle.apply_meaning.proofs.PlacedRows.{next-place}
 use Rattle.custom_agg.proofs.values.values_at.Goals as goal
 
 pub loop-at-preserved : goal.loop-at-preserved

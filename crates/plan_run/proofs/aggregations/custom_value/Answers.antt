@@ -1,6 +1,5 @@
-use Rattle.std.proofs.Common.{◌≡◌, ◌∙◌, ap, sym, subst, Some, IsTrue}
+use Rattle.std.proofs.Common.{◌≡◌, ◌∙◌, ap, sym, subst, Some}
 use Rattle.std.specs.Prelude.{IfOk, is_some}
-use Rattle.edm_values.specs.declared.Value.{Value}
 use Rattle.edm_data.specs.Worlds.{World}
 use Rattle.context_typing.specs.Readings.{typed_at}
 use Rattle.custom_agg.specs.CustomValues.{value_by_id}

@@ -1,4 +1,4 @@
-use Rattle.std.proofs.Common.{rules, ◌<◌, true, ◌≡◌, ◌+◌, ◌≤◌, ◌∙◌, ap, sym, subst, refl, map, drop, length, Some, None, Err, IsTrue, arith, List, ◌∷◌}
+use Rattle.std.proofs.Common.{rules, ◌<◌, true, false, [], ◌≡◌, ◌+◌, ◌≤◌, ◌∙◌, ap, sym, subst, refl, map, drop, length, Some, None, Err, IsTrue, arith, List, ◌∷◌}
 use Rattle.std.specs.Prelude.{filter, flat_map, option_and_then, option_map, sum}
 use Rattle.std.proofs.lemmas.Bool.{and_parts}
 use Rattle.std.proofs.lemmas.Option.{get_or_from_slice_get, slice_get_within}
@@ -6,7 +6,7 @@ use Rattle.edm_values.proofs.OptionFacts.{some_value}
 use Rattle.group_rollup.proofs.GroupLemmas.{group-at_places, group-places_within}
 use Rattle.std.proofs.lemmas.Result.{err_from_is_err_and}
 use Rattle.std.proofs.Math.ListN.{drop_of_length-le}
-use Rattle.std.specs.Prelude.{slice_get, nat_lt, ◌++◌}
+use Rattle.std.specs.Prelude.{slice_get, nat_lt, ◌++◌, if◌then◌else◌}
 use Rattle.std.specs.List.{list_all}
 use Rattle.edm_values.specs.Lists.{at_places, sorted}
 use Rattle.edm_values.specs.Values.{is_value}
@@ -30,7 +30,27 @@ use Rattle.plan_run.proofs.RunLemmas.{turn-cost, turn-least, compute-cost, aggre
 use Rattle.plan_run.specs.Levels.{Level, level_rows, levels_of}
 use Rattle.plan_run.proofs.GroupLemmas.{next-sum}
 use Rattle.plan_run.proofs.LevelLemmas.{keys-cost, levels-cost, levels-keys, levels-mean, levels-run}
-use Rattle.plan_run.proofs.RunLevels.{all-differ, group-at, group-runs, grouped-levels, joined-levels, key-at, keys-long, last-joined, level-at, level-is, levels-err, next-joined, next-refused, next-total, paths-of_levels, places-at, slice-at, total-charge}
+use Rattle.plan_run.proofs.RunLevels.{all-differ, group-at, group-run, group-runs, grouped-levels, joined-levels, key-at, keys-long, last-joined, level-costs, level-is, levels-err, next-group, next-joined, next-level, next-refused, paths-of_levels, places-at, total-charge}
+use Rattle.std.specs.Global.{Vec}
+use Rattle.std.proofs.lemmas.List.{length-map, map-append}
+use Rattle.std.proofs.lemmas.List.Folds.{flat_map-map}
+use Rattle.edm_values.specs.Lists.{all_some}
+use Rattle.edm_model.specs.LookUps.{IsNavigation, navigation_on}
+use Rattle.edm_model.specs.Models.{Navigation}
+use Rattle.apply_ast.specs.Views.{pipes_in, pipes_of, top_of}
+use Rattle.apply_ast.proofs.ViewEquations.{join_of-is, pipes_of-is, step_of-Concat, step_of-Join, step_of-TopBy}
+use Rattle.apply_ast.specs.Trees.{Pipe}
+use Rattle.context_typing.specs.Shapes.{set_shape}
+use Rattle.apply_meaning.specs.Meaning.{inner_mean, related_rows, selected}
+use Rattle.apply_meaning.proofs.MeaningEquations.{inner_mean-NoPipe, inner_mean-SomePipe, step_mean-TopBy}
+use Rattle.join_concat.specs.Joins.{bound_rows}
+use Rattle.plan_run.specs.Conditions.{BranchesReady, BranchesRun, InnerRuns, LimitReady, ReadyFrom}
+use Rattle.plan_run.specs.Costs.{inner_cost}
+use Rattle.plan_run.specs.Forms.{are_built_branches, is_built}
+use Rattle.plan_run.proofs.ConcatLemmas.{all-built, branch-turn, built-at, concat-run}
+use Rattle.plan_run.proofs.ListsInTurn.{gives-all_err, joined-err, last-list, next-list, next-list_refused}
+use Rattle.plan_run.proofs.RelatedLemmas.{join-run, lists-made, made-mean, related-least, related-long, related-same, related-turn, related_charge, related_mean, target-is}
+use Rattle.plan_run.proofs.RunLemmas.{cost-same, gives-same, ready-same, runs-same}
 use Rattle.plan_run.proofs.pipes.+run.Goals as goal
 
 pub run_pipe-step_ready-requires-clause-ready : goal.run_pipe-step_ready-requires-clause-ready
@@ -268,29 +288,16 @@ run_group-returns-in_err-copies-clause-steps g t c = λ S G key R at.
     let ks = c.args.level.now.0 in
     let T = pipe_of c.args.pipe.now in
     let l = c.args.rows.now in
-    let d = group-at x.world ks l c.args.level.now.1 c.args.k c.requires.level c.requires.within in
-    let one : d.key ≡ key = some_value (sym d.at ∙ at) in
-    let places = places-at x.world ks l c.groups-groups.result.now c.args.level.now.1 c.args.k d c.groups-groups.ensures c.places-places.result.now c.places-places.ensures in
-    let whole : at_places l c.places-places.result.now ≡ group x.world ks key l = ap (at_places l) places ∙ group-at_places x.world ks d.key l ∙ ap (λ k. group x.world ks k l) one in
-    let few = ap length whole in
+    let few = (group-run R c.requires.level c.requires.within c.groups-groups.ensures c.places-places.ensures at refl).few in
     let copied = c.members.ensures.steps in
     let charged : charge_of x S ks T l key ≡ length (group x.world ks key l) + cost x.world (readings x.customs) S T (group x.world ks key l) + result_length (mean x.world (readings x.customs) S T (group x.world ks key l)) = refl in
     omega (arith, few, copied, charged)
 
 pub run_group-returns-in_err-results-clause-mean : goal.run_group-returns-in_err-results-clause-mean
 run_group-returns-in_err-results-clause-mean g t c = λ S G key R at.
-    let x = c.args.context.now in
-    let ks = c.args.level.now.0 in
-    let T = pipe_of c.args.pipe.now in
-    let l = c.args.rows.now in
-    let d = group-at x.world ks l c.args.level.now.1 c.args.k c.requires.level c.requires.within in
-    let one : d.key ≡ key = some_value (sym d.at ∙ at) in
-    let places = places-at x.world ks l c.groups-groups.result.now c.args.level.now.1 c.args.k d c.groups-groups.ensures c.places-places.result.now c.places-places.ensures in
-    let same : c.in_ok-copies.copies.items ≡ group x.world ks key l = c.in_ok-copies.ensures.rows ∙ ap (at_places l) places ∙ group-at_places x.world ks d.key l ∙ ap (λ k. group x.world ks k l) one in
-    let runs = group-runs x c.args.root.now S G ks T l key c.in_ok-copies.copies.items same R in
+    let u = group-run R c.requires.level c.requires.within c.groups-groups.ensures c.places-places.ensures at c.in_ok-copies.ensures.rows in
     let p = err_from_is_err_and c.from_residual-in_err-results.result c.from_residual-in_err-results.ensures.1 in
-    rw (p.1, p.2) (gives-err c.in_err-results.field-0.0 (mean x.world (readings x.customs) S T c.in_ok-copies.copies.items) _ (c.in_err-results.ensures.mean S G runs)
-    (λ n. ap (option_map (map (λ r. extended r (keyed ks key)))) (ap (mean x.world (readings x.customs) S T) (sym same) ∙ n)))
+    rw (p.1, p.2) (gives-err c.in_err-results.field-0.0 _ _ (c.in_err-results.ensures.mean S G u.runs) (λ n. ap (option_map (map (λ r. extended r (keyed c.args.level.now.0 key)))) (u.means ∙ n)))
 
 pub run_group-returns-in_err-results-clause-steps : goal.run_group-returns-in_err-results-clause-steps
 run_group-returns-in_err-results-clause-steps g t c = λ S G key R at.
@@ -298,14 +305,10 @@ run_group-returns-in_err-results-clause-steps g t c = λ S G key R at.
     let ks = c.args.level.now.0 in
     let T = pipe_of c.args.pipe.now in
     let l = c.args.rows.now in
-    let d = group-at x.world ks l c.args.level.now.1 c.args.k c.requires.level c.requires.within in
-    let one : d.key ≡ key = some_value (sym d.at ∙ at) in
-    let places = places-at x.world ks l c.groups-groups.result.now c.args.level.now.1 c.args.k d c.groups-groups.ensures c.places-places.result.now c.places-places.ensures in
-    let whole : at_places l c.places-places.result.now ≡ group x.world ks key l = ap (at_places l) places ∙ group-at_places x.world ks d.key l ∙ ap (λ k. group x.world ks k l) one in
-    let same : c.in_ok-copies.copies.items ≡ group x.world ks key l = c.in_ok-copies.ensures.rows ∙ whole in
-    let ran = c.run_pipe.ensures.steps S G (group-runs x c.args.root.now S G ks T l key c.in_ok-copies.copies.items same R) in
-    let costs = ap (cost x.world (readings x.customs) S T) same in
-    let few = ap length whole in
+    let u = group-run R c.requires.level c.requires.within c.groups-groups.ensures c.places-places.ensures at c.in_ok-copies.ensures.rows in
+    let ran = c.run_pipe.ensures.steps S G u.runs in
+    let costs = u.costs in
+    let few = u.few in
     let copied = c.members.ensures.steps in
     let charged : charge_of x S ks T l key ≡ length (group x.world ks key l) + cost x.world (readings x.customs) S T (group x.world ks key l) + result_length (mean x.world (readings x.customs) S T (group x.world ks key l)) = refl in
     omega (arith, few, copied, charged, ran, costs)
@@ -334,17 +337,12 @@ run_group-returns-in_err-with_keys-clause-steps g t c = λ S G key R at.
     let ks = c.args.level.now.0 in
     let T = pipe_of c.args.pipe.now in
     let l = c.args.rows.now in
-    let d = group-at x.world ks l c.args.level.now.1 c.args.k c.requires.level c.requires.within in
-    let one : d.key ≡ key = some_value (sym d.at ∙ at) in
-    let places = places-at x.world ks l c.groups-groups.result.now c.args.level.now.1 c.args.k d c.groups-groups.ensures c.places-places.result.now c.places-places.ensures in
-    let whole : at_places l c.places-places.result.now ≡ group x.world ks key l = ap (at_places l) places ∙ group-at_places x.world ks d.key l ∙ ap (λ k. group x.world ks k l) one in
-    let same : c.in_ok-copies.copies.items ≡ group x.world ks key l = c.in_ok-copies.ensures.rows ∙ whole in
-    let runs = group-runs x c.args.root.now S G ks T l key c.in_ok-copies.copies.items same R in
-    let ran = c.run_pipe.ensures.steps S G runs in
-    let costs = ap (cost x.world (readings x.customs) S T) same in
-    let few = ap length whole in
+    let u = group-run R c.requires.level c.requires.within c.groups-groups.ensures c.places-places.ensures at c.in_ok-copies.ensures.rows in
+    let ran = c.run_pipe.ensures.steps S G u.runs in
+    let costs = u.costs in
+    let few = u.few in
     let copied = c.members.ensures.steps in
-    let made = ap result_length (ap (mean x.world (readings x.customs) S T) (sym same) ∙ c.in_ok-results.ensures.mean S G runs) in
+    let made = ap result_length (u.means ∙ c.in_ok-results.ensures.mean S G u.runs) in
     let spent = c.with_keys.ensures.steps in
     let charged : charge_of x S ks T l key ≡ length (group x.world ks key l) + cost x.world (readings x.customs) S T (group x.world ks key l) + result_length (mean x.world (readings x.customs) S T (group x.world ks key l)) = refl in
     omega (arith, few, copied, charged, ran, costs, made, spent)
@@ -355,17 +353,12 @@ run_group-returns-clause-steps g t c = λ S G key R at.
     let ks = c.args.level.now.0 in
     let T = pipe_of c.args.pipe.now in
     let l = c.args.rows.now in
-    let d = group-at x.world ks l c.args.level.now.1 c.args.k c.requires.level c.requires.within in
-    let one : d.key ≡ key = some_value (sym d.at ∙ at) in
-    let places = places-at x.world ks l c.groups-groups.result.now c.args.level.now.1 c.args.k d c.groups-groups.ensures c.places-places.result.now c.places-places.ensures in
-    let whole : at_places l c.places-places.result.now ≡ group x.world ks key l = ap (at_places l) places ∙ group-at_places x.world ks d.key l ∙ ap (λ k. group x.world ks k l) one in
-    let same : c.in_ok-copies.copies.items ≡ group x.world ks key l = c.in_ok-copies.ensures.rows ∙ whole in
-    let runs = group-runs x c.args.root.now S G ks T l key c.in_ok-copies.copies.items same R in
-    let ran = c.run_pipe.ensures.steps S G runs in
-    let costs = ap (cost x.world (readings x.customs) S T) same in
-    let few = ap length whole in
+    let u = group-run R c.requires.level c.requires.within c.groups-groups.ensures c.places-places.ensures at c.in_ok-copies.ensures.rows in
+    let ran = c.run_pipe.ensures.steps S G u.runs in
+    let costs = u.costs in
+    let few = u.few in
     let copied = c.members.ensures.steps in
-    let made = ap result_length (ap (mean x.world (readings x.customs) S T) (sym same) ∙ c.in_ok-results.ensures.mean S G runs) in
+    let made = ap result_length (u.means ∙ c.in_ok-results.ensures.mean S G u.runs) in
     let spent = c.with_keys.ensures.steps in
     let charged : charge_of x S ks T l key ≡ length (group x.world ks key l) + cost x.world (readings x.customs) S T (group x.world ks key l) + result_length (mean x.world (readings x.customs) S T (group x.world ks key l)) = refl in
     omega (arith, few, copied, charged, ran, costs, made, spent)
@@ -374,15 +367,11 @@ pub run_group-returns-clause-mean : goal.run_group-returns-clause-mean
 run_group-returns-clause-mean g t c = λ S G key R at.
     let x = c.args.context.now in
     let ks = c.args.level.now.0 in
-    let T = pipe_of c.args.pipe.now in
     let l = c.args.rows.now in
+    let u = group-run R c.requires.level c.requires.within c.groups-groups.ensures c.places-places.ensures at c.in_ok-copies.ensures.rows in
     let d = group-at x.world ks l c.args.level.now.1 c.args.k c.requires.level c.requires.within in
-    let one : d.key ≡ key = some_value (sym d.at ∙ at) in
-    let places = places-at x.world ks l c.groups-groups.result.now c.args.level.now.1 c.args.k d c.groups-groups.ensures c.places-places.result.now c.places-places.ensures in
-    let same : c.in_ok-copies.copies.items ≡ group x.world ks key l = c.in_ok-copies.ensures.rows ∙ ap (at_places l) places ∙ group-at_places x.world ks d.key l ∙ ap (λ k. group x.world ks k l) one in
-    let runs = group-runs x c.args.root.now S G ks T l key c.in_ok-copies.copies.items same R in
-    let own = key-at x.world ks l c.groups-groups.result.now c.args.level.now.1 c.args.k d c.groups-groups.ensures c.key.result.now c.key.ensures ∙ one in
-    ap (option_map (map (λ r. extended r (keyed ks key)))) (ap (mean x.world (readings x.customs) S T) (sym same) ∙ c.in_ok-results.ensures.mean S G runs)
+    let own = key-at x.world ks l c.groups-groups.result.now c.args.level.now.1 c.args.k d c.groups-groups.ensures c.key.result.now c.key.ensures ∙ some_value (sym d.at ∙ at) in
+    ap (option_map (map (λ r. extended r (keyed ks key)))) (u.means ∙ c.in_ok-results.ensures.mean S G u.runs)
     ∙ ap Some ((λ i. map (λ r. extended r (keyed (sym c.paths.ensures i) (sym own i))) c.in_ok-results.results.items) ∙ sym c.in_ok-with_keys.ensures.rows)
 
 -- ---- the groups of a level
@@ -393,21 +382,9 @@ run_groups-returns-in_err-made-clause-mean g t c = λ S G R.
     let ks = c.args.level.now.0 in
     let T = pipe_of c.args.pipe.now in
     let l = c.args.rows.now in
-    let all = keys x.world ks l in
-    let k = c.loop-k.k in
-    let counted = c.len-k-end.ensures in
-    let found = ap length c.groups.ensures in
-    let h : k < length c.args.level.now.1 = omega (arith, c.loop-k-test.true, counted, found) in
-    let d = group-at x.world ks l c.args.level.now.1 k c.requires.level h in
-    let within = slice_get_within all k d.key d.at in
-    let e = sym (get_or_from_slice_get all k d.key d.key d.at) in
-    let inv = c.loop-k.invariant S G R in
-    let left = inv.1 in
-    let next = next-sum (charge_of x S ks T l) all k d.key within e in
-    let total = total-charge x S ks T l in
-    let spent = c.run_group.ensures.steps S G d.key R d.at in
+    let u = next-group x S ks T l c.loop-k.k _ c.groups.result.now c.args.level.now.1 c.requires.level c.loop-k-test.true c.len-k-end.ensures c.groups.ensures in
     let p = err_from_is_err_and c.from_residual.result c.from_residual.ensures.1 in
-    rw (p.1, p.2) (gives-err c.in_err-made.field-0.0 (made_of x S ks T l d.key) _ (c.in_err-made.ensures.mean S G d.key R d.at) (next-refused (made_of x S ks T l) all k d.key c.loop-k.all.items _ within e inv.0))
+    rw (p.1, p.2) (gives-err c.in_err-made.field-0.0 _ _ (c.in_err-made.ensures.mean S G u.key R u.at) (next-refused (made_of x S ks T l) (keys x.world ks l) c.loop-k.k u.key c.loop-k.all.items _ u.within u.here (c.loop-k.invariant S G R).0))
 
 pub run_groups-returns-in_err-made-clause-steps : goal.run_groups-returns-in_err-made-clause-steps
 run_groups-returns-in_err-made-clause-steps g t c = λ S G R.
@@ -415,19 +392,11 @@ run_groups-returns-in_err-made-clause-steps g t c = λ S G R.
     let ks = c.args.level.now.0 in
     let T = pipe_of c.args.pipe.now in
     let l = c.args.rows.now in
-    let all = keys x.world ks l in
-    let k = c.loop-k.k in
-    let counted = c.len-k-end.ensures in
-    let found = ap length c.groups.ensures in
-    let h : k < length c.args.level.now.1 = omega (arith, c.loop-k-test.true, counted, found) in
-    let d = group-at x.world ks l c.args.level.now.1 k c.requires.level h in
-    let within = slice_get_within all k d.key d.at in
-    let e = sym (get_or_from_slice_get all k d.key d.key d.at) in
-    let inv = c.loop-k.invariant S G R in
-    let left = inv.1 in
-    let next = next-sum (charge_of x S ks T l) all k d.key within e in
+    let u = next-group x S ks T l c.loop-k.k _ c.groups.result.now c.args.level.now.1 c.requires.level c.loop-k-test.true c.len-k-end.ensures c.groups.ensures in
+    let left = (c.loop-k.invariant S G R).1 in
+    let next = u.costs in
     let total = total-charge x S ks T l in
-    let spent = c.run_group.ensures.steps S G d.key R d.at in
+    let spent = c.run_group.ensures.steps S G u.key R u.at in
     omega (arith, left, next, total, spent)
 
 pub run_groups-returns-in_err-append-clause-steps : goal.run_groups-returns-in_err-append-clause-steps
@@ -436,19 +405,11 @@ run_groups-returns-in_err-append-clause-steps g t c = λ S G R.
     let ks = c.args.level.now.0 in
     let T = pipe_of c.args.pipe.now in
     let l = c.args.rows.now in
-    let all = keys x.world ks l in
-    let k = c.loop-k.k in
-    let counted = c.len-k-end.ensures in
-    let found = ap length c.groups.ensures in
-    let h : k < length c.args.level.now.1 = omega (arith, c.loop-k-test.true, counted, found) in
-    let d = group-at x.world ks l c.args.level.now.1 k c.requires.level h in
-    let within = slice_get_within all k d.key d.at in
-    let e = sym (get_or_from_slice_get all k d.key d.key d.at) in
-    let inv = c.loop-k.invariant S G R in
-    let left = inv.1 in
-    let next = next-sum (charge_of x S ks T l) all k d.key within e in
+    let u = next-group x S ks T l c.loop-k.k _ c.groups.result.now c.args.level.now.1 c.requires.level c.loop-k-test.true c.len-k-end.ensures c.groups.ensures in
+    let left = (c.loop-k.invariant S G R).1 in
+    let next = u.costs in
     let total = total-charge x S ks T l in
-    let spent = c.run_group.ensures.steps S G d.key R d.at in
+    let spent = c.run_group.ensures.steps S G u.key R u.at in
     omega (arith, left, next, total, spent)
 
 pub run_groups-loop-k-preserved : goal.run_groups-loop-k-preserved
@@ -457,22 +418,15 @@ run_groups-loop-k-preserved g t c = λ S G R.
     let ks = c.args.level.now.0 in
     let T = pipe_of c.args.pipe.now in
     let l = c.args.rows.now in
+    let u = next-group x S ks T l c.loop-k.k _ c.groups.result.now c.args.level.now.1 c.requires.level c.loop-k-test.true c.len-k-end.ensures c.groups.ensures in
     let all = keys x.world ks l in
-    let k = c.loop-k.k in
-    let counted = c.len-k-end.ensures in
-    let found = ap length c.groups.ensures in
-    let h : k < length c.args.level.now.1 = omega (arith, c.loop-k-test.true, counted, found) in
-    let d = group-at x.world ks l c.args.level.now.1 k c.requires.level h in
-    let within = slice_get_within all k d.key d.at in
-    let e = sym (get_or_from_slice_get all k d.key d.key d.at) in
     let inv = c.loop-k.invariant S G R in
     let left = inv.1 in
-    let next = next-sum (charge_of x S ks T l) all k d.key within e in
-    let total = total-charge x S ks T l in
-    let spent = c.run_group.ensures.steps S G d.key R d.at in
+    let next = u.costs in
+    let spent = c.run_group.ensures.steps S G u.key R u.at in
     let appended : c.append.new.self.items ≡ c.loop-k.all.items ++ c.in_ok-made.made.items = search rules in (
-      next-joined (made_of x S ks T l) all k d.key c.loop-k.all.items _ c.in_ok-made.made.items within e inv.0 (c.in_ok-made.ensures.mean S G d.key R d.at)
-          ∙ ap (λ xs. option_map (λ rest. xs ++ rest) (joined (map (made_of x S ks T l) (drop (k + 1) all)))) (sym appended),
+      next-joined (made_of x S ks T l) all c.loop-k.k u.key c.loop-k.all.items _ c.in_ok-made.made.items u.within u.here inv.0 (c.in_ok-made.ensures.mean S G u.key R u.at)
+          ∙ ap (λ xs. option_map (λ rest. xs ++ rest) (joined (map (made_of x S ks T l) (drop (c.loop-k.k + 1) all)))) (sym appended),
       omega (arith, left, next, spent),
     )
 
@@ -501,17 +455,12 @@ run_levels-returns-in_err-made-clause-mean g t c = λ S G R.
     let T = pipe_of c.args.pipe.now in
     let l = c.args.rows.now in
     let levels = c.args.levels.now in
-    let F = mean x.world (readings x.customs) S T in
-    let f : Level → Outcome = λ level. grouped x.world level.0 F l in
     let i = c.loop-i.i in
     let d = c.index-levels-i.result in
-    let own = R.free i d.0 (level-at levels i d (slice-at levels i d c.loop-i-test.true c.index-levels-i.is)) in
-    let inv = c.loop-i.invariant S G R in
-    let left = inv.1 in
-    let next = next-total (application (cost x.world (readings x.customs) S T) F) (λ (level : Level). groups x.world level.0 l) levels i d c.loop-i-test.true c.index-levels-i.is in
-    let spent = c.run_groups.ensures.steps S G own in
+    let own = next-level levels i d R c.loop-i-test.true c.index-levels-i.is in
+    let f : Level → Outcome = λ level. grouped x.world level.0 (mean x.world (readings x.customs) S T) l in
     let p = err_from_is_err_and c.from_residual.result c.from_residual.ensures.1 in
-    rw (p.1, p.2) (gives-err c.in_err-made.field-0.0 (f d) _ (c.in_err-made.ensures.mean S G own) (next-refused f levels i d c.loop-i.all.items _ c.loop-i-test.true c.index-levels-i.is inv.0))
+    rw (p.1, p.2) (gives-err c.in_err-made.field-0.0 (f d) _ (c.in_err-made.ensures.mean S G own) (next-refused f levels i d c.loop-i.all.items _ c.loop-i-test.true c.index-levels-i.is (c.loop-i.invariant S G R).0))
 
 pub run_levels-returns-in_err-made-clause-steps : goal.run_levels-returns-in_err-made-clause-steps
 run_levels-returns-in_err-made-clause-steps g t c = λ S G R.
@@ -519,14 +468,11 @@ run_levels-returns-in_err-made-clause-steps g t c = λ S G R.
     let T = pipe_of c.args.pipe.now in
     let l = c.args.rows.now in
     let levels = c.args.levels.now in
-    let F = mean x.world (readings x.customs) S T in
-    let f : Level → Outcome = λ level. grouped x.world level.0 F l in
     let i = c.loop-i.i in
     let d = c.index-levels-i.result in
-    let own = R.free i d.0 (level-at levels i d (slice-at levels i d c.loop-i-test.true c.index-levels-i.is)) in
-    let inv = c.loop-i.invariant S G R in
-    let left = inv.1 in
-    let next = next-total (application (cost x.world (readings x.customs) S T) F) (λ (level : Level). groups x.world level.0 l) levels i d c.loop-i-test.true c.index-levels-i.is in
+    let own = next-level levels i d R c.loop-i-test.true c.index-levels-i.is in
+    let left = (c.loop-i.invariant S G R).1 in
+    let next = level-costs x S T l levels i d c.loop-i-test.true c.index-levels-i.is in
     let spent = c.run_groups.ensures.steps S G own in
     omega (arith, left, next, spent)
 
@@ -536,14 +482,11 @@ run_levels-returns-in_err-append-clause-steps g t c = λ S G R.
     let T = pipe_of c.args.pipe.now in
     let l = c.args.rows.now in
     let levels = c.args.levels.now in
-    let F = mean x.world (readings x.customs) S T in
-    let f : Level → Outcome = λ level. grouped x.world level.0 F l in
     let i = c.loop-i.i in
     let d = c.index-levels-i.result in
-    let own = R.free i d.0 (level-at levels i d (slice-at levels i d c.loop-i-test.true c.index-levels-i.is)) in
-    let inv = c.loop-i.invariant S G R in
-    let left = inv.1 in
-    let next = next-total (application (cost x.world (readings x.customs) S T) F) (λ (level : Level). groups x.world level.0 l) levels i d c.loop-i-test.true c.index-levels-i.is in
+    let own = next-level levels i d R c.loop-i-test.true c.index-levels-i.is in
+    let left = (c.loop-i.invariant S G R).1 in
+    let next = level-costs x S T l levels i d c.loop-i-test.true c.index-levels-i.is in
     let spent = c.run_groups.ensures.steps S G own in
     omega (arith, left, next, spent)
 
@@ -553,17 +496,15 @@ run_levels-loop-i-preserved g t c = λ S G R.
     let T = pipe_of c.args.pipe.now in
     let l = c.args.rows.now in
     let levels = c.args.levels.now in
-    let F = mean x.world (readings x.customs) S T in
-    let f : Level → Outcome = λ level. grouped x.world level.0 F l in
     let i = c.loop-i.i in
     let d = c.index-levels-i.result in
-    let own = R.free i d.0 (level-at levels i d (slice-at levels i d c.loop-i-test.true c.index-levels-i.is)) in
-    let inv = c.loop-i.invariant S G R in
-    let left = inv.1 in
-    let next = next-total (application (cost x.world (readings x.customs) S T) F) (λ (level : Level). groups x.world level.0 l) levels i d c.loop-i-test.true c.index-levels-i.is in
+    let own = next-level levels i d R c.loop-i-test.true c.index-levels-i.is in
+    let f : Level → Outcome = λ level. grouped x.world level.0 (mean x.world (readings x.customs) S T) l in
+    let left = (c.loop-i.invariant S G R).1 in
+    let next = level-costs x S T l levels i d c.loop-i-test.true c.index-levels-i.is in
     let spent = c.run_groups.ensures.steps S G own in
     let appended : c.append.new.self.items ≡ c.loop-i.all.items ++ c.in_ok-made.made.items = search rules in (
-      next-joined f levels i d c.loop-i.all.items _ c.in_ok-made.made.items c.loop-i-test.true c.index-levels-i.is inv.0 (c.in_ok-made.ensures.mean S G own)
+      next-joined f levels i d c.loop-i.all.items _ c.in_ok-made.made.items c.loop-i-test.true c.index-levels-i.is (c.loop-i.invariant S G R).0 (c.in_ok-made.ensures.mean S G own)
           ∙ ap (λ xs. option_map (λ rest. xs ++ rest) (joined (map f (drop (i + 1) levels)))) (sym appended),
       omega (arith, left, next, spent),
     )
@@ -672,3 +613,391 @@ run_grouping-returns-clause-steps g t c = λ S S' R.
     let least = keys-cost x.world (readings x.customs) S ks l c.requires.keys c.in_ok-found.ensures.1 in
     let whole = ap (λ s. step_cost x.world (readings x.customs) S s l) e in
     omega (arith, spent, same, least, whole)
+
+-- ---- a selection
+
+pub run_step-select_rows-requires-clause-of : goal.run_step-select_rows-requires-clause-of
+run_step-select_rows-requires-clause-of g t c = subst (λ w. IsTrue (all_of w c.args.rows.items)) (sym c.store-store.ensures) c.selection_ready.ensures.of
+
+pub run_step-select_rows-requires-clause-limit : goal.run_step-select_rows-requires-clause-limit
+run_step-select_rows-requires-clause-limit g t c =
+    let t = top_of c.in-TopBy.top in
+    subst (λ (w : World). LimitReady t.limit (values w t.expr c.args.rows.items)) (sym c.store-store.ensures) c.selection_ready.ensures.limit
+
+pub run_step-returns-in-TopBy-clause-mean : goal.run_step-returns-in-TopBy-clause-mean
+run_step-returns-in-TopBy-clause-mean g t c = λ S S' R.
+    let x = c.args.context.now in
+    let l = c.args.rows.items in
+    let s = top_of c.in-TopBy.top in
+    subst (Gives c.select_rows.result) (sym (ap (λ s. step_mean x.world (readings x.customs) S s l) (ap step_of c.in-TopBy.is ∙ step_of-TopBy c.in-TopBy.top) ∙ step_mean-TopBy x.world (readings x.customs) S s l))
+    (subst (λ (w : World). Gives c.select_rows.result (selected w s l)) c.store-store.ensures c.select_rows.ensures)
+
+-- ---- a concatenation
+
+pub run_step-returns-in-Concat-clause-mean : goal.run_step-returns-in-Concat-clause-mean
+run_step-returns-in-Concat-clause-mean g t c = λ S S' R.
+    let e = ap step_of c.in-Concat.is ∙ step_of-Concat c.in-Concat.branches in
+    gives-same c.run_concat.result e (sym c.as_slice-in-Concat.ensures.value) R (c.run_concat.ensures.mean S S')
+
+pub run_step-returns-in-Concat-clause-steps : goal.run_step-returns-in-Concat-clause-steps
+run_step-returns-in-Concat-clause-steps g t c = λ S S' R.
+    let x = c.args.context.now in
+    let e = ap step_of c.in-Concat.is ∙ step_of-Concat c.in-Concat.branches in
+    let rows : c.args.rows.items ≡ c.as_slice-in-Concat.result.now = sym c.as_slice-in-Concat.ensures.value in
+    let spent = c.run_concat.ensures.steps S S' (runs-same x c.args.root.now S S' _ _ _ _ e rows R) in
+    let whole = cost-same x S _ _ _ _ e rows in
+    omega (arith, spent, whole)
+
+pub run_concat-run_branches-requires-clause-ready : goal.run_concat-run_branches-requires-clause-ready
+run_concat-run_branches-requires-clause-ready g t c κs within =
+    subst (λ bs. BranchesReady c.args.context.now c.args.root.now (map pipe_of bs) c.args.rows.now) (sym c.as_slice.ensures) c.branches_ready.ensures
+
+pub run_concat-run_branches-requires-clause-built : goal.run_concat-run_branches-requires-clause-built
+run_concat-run_branches-requires-clause-built g t c κs within =
+    ap (λ bs. list_all is_built (map pipe_of bs)) c.as_slice.ensures
+    ∙ sym (all-built (map pipe_of (pipes_in c.args.branches.now))) ∙ ap are_built_branches (sym (pipes_of-is c.args.branches.now)) ∙ c.requires.built
+
+pub run_concat-returns-in_err-parts-clause-mean : goal.run_concat-returns-in_err-parts-clause-mean
+run_concat-returns-in_err-parts-clause-mean g t c = λ S S' R.
+    let u = concat-run c.args.branches.now c.as_slice.result.now c.as_slice.ensures R in
+    let p = err_from_is_err_and c.from_residual.result c.from_residual.ensures.1 in
+    rw (p.1, p.2) (joined-err c.in_err-parts.field-0.0 _ (flat_map (λ part. part)) _ u.means (c.in_err-parts.ensures.mean S u.runs))
+
+pub run_concat-returns-in_err-parts-clause-steps : goal.run_concat-returns-in_err-parts-clause-steps
+run_concat-returns-in_err-parts-clause-steps g t c = λ S S' R.
+    let u = concat-run c.args.branches.now c.as_slice.result.now c.as_slice.ensures R in
+    let spent = c.run_branches.ensures.steps S u.runs in
+    let least = u.costs in
+    omega (arith, spent, least)
+
+pub run_concat-returns-in_err-concat-clause-steps : goal.run_concat-returns-in_err-concat-clause-steps
+run_concat-returns-in_err-concat-clause-steps g t c = λ S S' R.
+    let u = concat-run c.args.branches.now c.as_slice.result.now c.as_slice.ensures R in
+    let spent = c.run_branches.ensures.steps S u.runs in
+    let least = u.costs in
+    omega (arith, spent, least)
+
+pub run_concat-returns-clause-steps : goal.run_concat-returns-clause-steps
+run_concat-returns-clause-steps g t c = λ S S' R.
+    let u = concat-run c.args.branches.now c.as_slice.result.now c.as_slice.ensures R in
+    let spent = c.run_branches.ensures.steps S u.runs in
+    let least = u.costs in
+    omega (arith, spent, least)
+
+pub run_concat-returns-clause-mean : goal.run_concat-returns-clause-mean
+run_concat-returns-clause-mean g t c = λ S S' R.
+    let u = concat-run c.args.branches.now c.as_slice.result.now c.as_slice.ensures R in
+    u.means ∙ ap (option_map (flat_map (λ part. part))) (c.in_ok-parts.ensures.mean S u.runs)
+    ∙ ap Some (flat_map-map (λ part. part) (λ (part : Vec Instance). part.items) c.in_ok-parts.parts.items ∙ sym c.in_ok-concat.ensures)
+
+-- ---- the branches
+
+pub run_branches-run_pipe-requires-clause-ready : goal.run_branches-run_pipe-requires-clause-ready
+run_branches-run_pipe-requires-clause-ready g t c κs within =
+    subst (λ l. ReadyFrom c.args.context.now c.args.root.now (pipe_of c.index-branches-k.result) l) (sym c.in_ok-copies.ensures.rows) c.branch_ready.ensures
+
+pub run_branches-run_pipe-requires-clause-built : goal.run_branches-run_pipe-requires-clause-built
+run_branches-run_pipe-requires-clause-built g t c κs within = built-at c.args.branches.now c.loop-k.k c.index-branches-k.result c.requires.built c.loop-k-test.true c.index-branches-k.is
+
+pub run_branches-returns-in_err-copies-clause-steps : goal.run_branches-returns-in_err-copies-clause-steps
+run_branches-returns-in_err-copies-clause-steps g t c = λ S R.
+    let u = branch-turn c.args.context.now c.args.root.now S c.args.branches.now c.args.rows.now c.args.rows.now c.loop-k.k c.index-branches-k.result R c.loop-k-test.true c.index-branches-k.is refl in
+    let left = (c.loop-k.invariant S R).1 in
+    let next = u.costs in
+    let copied = c.copy_rows.ensures.steps in
+    omega (arith, left, next, copied)
+
+pub run_branches-returns-in_err-run_pipe-clause-mean : goal.run_branches-returns-in_err-run_pipe-clause-mean
+run_branches-returns-in_err-run_pipe-clause-mean g t c = λ S R.
+    let x = c.args.context.now in
+    let u = branch-turn c.args.context.now c.args.root.now S c.args.branches.now c.args.rows.now c.in_ok-copies.copies.items c.loop-k.k c.index-branches-k.result R c.loop-k-test.true c.index-branches-k.is c.in_ok-copies.ensures.rows in
+    let p = err_from_is_err_and c.from_residual-in_err-run_pipe.result c.from_residual-in_err-run_pipe.ensures.1 in
+    rw (p.1, p.2) (gives-all_err c.in_err-run_pipe.field-0.0 _ _ (c.in_err-run_pipe.ensures.mean S u.shape u.runs)
+    (λ n. next-list_refused (λ p. mean x.world (readings x.customs) S p c.args.rows.now) _ c.loop-k.k (pipe_of c.index-branches-k.result) _ _ u.within u.here (c.loop-k.invariant S R).0 (u.means ∙ n)))
+
+pub run_branches-returns-in_err-run_pipe-clause-steps : goal.run_branches-returns-in_err-run_pipe-clause-steps
+run_branches-returns-in_err-run_pipe-clause-steps g t c = λ S R.
+    let u = branch-turn c.args.context.now c.args.root.now S c.args.branches.now c.args.rows.now c.in_ok-copies.copies.items c.loop-k.k c.index-branches-k.result R c.loop-k-test.true c.index-branches-k.is c.in_ok-copies.ensures.rows in
+    let ran = c.run_pipe.ensures.steps S u.shape u.runs in
+    let left = (c.loop-k.invariant S R).1 in
+    let next = u.costs in
+    let copied = c.copy_rows.ensures.steps in
+    omega (arith, left, next, copied, ran)
+
+pub run_branches-returns-in_err-push-clause-steps : goal.run_branches-returns-in_err-push-clause-steps
+run_branches-returns-in_err-push-clause-steps g t c = λ S R.
+    let u = branch-turn c.args.context.now c.args.root.now S c.args.branches.now c.args.rows.now c.in_ok-copies.copies.items c.loop-k.k c.index-branches-k.result R c.loop-k-test.true c.index-branches-k.is c.in_ok-copies.ensures.rows in
+    let ran = c.run_pipe.ensures.steps S u.shape u.runs in
+    let left = (c.loop-k.invariant S R).1 in
+    let next = u.costs in
+    let copied = c.copy_rows.ensures.steps in
+    omega (arith, left, next, copied, ran)
+
+pub run_branches-loop-k-preserved : goal.run_branches-loop-k-preserved
+run_branches-loop-k-preserved g t c = λ S R.
+    let x = c.args.context.now in
+    let made : Vec Instance → List Instance = λ part. part.items in
+    let f : Pipe → Outcome = λ p. mean x.world (readings x.customs) S p c.args.rows.now in
+    let u = branch-turn c.args.context.now c.args.root.now S c.args.branches.now c.args.rows.now c.in_ok-copies.copies.items c.loop-k.k c.index-branches-k.result R c.loop-k-test.true c.index-branches-k.is c.in_ok-copies.ensures.rows in
+    let pushed = ap (map made) c.in_ok-push.ensures.items ∙ map-append made c.loop-k.parts.items (c.in_ok-run_pipe.field-0 ∷ []) in
+    let inv = c.loop-k.invariant S R in
+    let ran = c.run_pipe.ensures.steps S u.shape u.runs in
+    let left = inv.1 in
+    let next = u.costs in
+    let copied = c.copy_rows.ensures.steps in (
+      next-list f _ c.loop-k.k (pipe_of c.index-branches-k.result) _ _ c.in_ok-run_pipe.field-0.items u.within u.here inv.0 (u.means ∙ c.in_ok-run_pipe.ensures.mean S u.shape u.runs)
+          ∙ ap (λ a. option_map (λ rest. a ++ rest) (all_some (map f (drop (c.loop-k.k + 1) (map pipe_of c.args.branches.now))))) (sym pushed),
+      omega (arith, left, next, copied, ran),
+    )
+
+pub run_branches-returns-clause-mean : goal.run_branches-returns-clause-mean
+run_branches-returns-clause-mean g t c = λ S R.
+    let x = c.args.context.now in
+    let long = length-map c.args.branches.now pipe_of in
+    last-list (λ p. mean x.world (readings x.customs) S p c.args.rows.now) _ c.loop-k.k _ _ (omega (arith, long, c.loop-k-test.false)) (c.loop-k.invariant S R).0
+
+pub run_branches-returns-clause-steps : goal.run_branches-returns-clause-steps
+run_branches-returns-clause-steps g t c = λ S R.
+    let left = (c.loop-k.invariant S R).1 in
+    omega (arith, left)
+
+-- ---- a join
+
+pub run_step-returns-in-Join-clause-mean : goal.run_step-returns-in-Join-clause-mean
+run_step-returns-in-Join-clause-mean g t c = λ S S' R.
+    let e = ap step_of c.in-Join.is ∙ step_of-Join c.in-Join.join in
+    gives-same c.run_join.result e (sym c.as_slice-in-Join.ensures.value) R (c.run_join.ensures.mean S S')
+
+pub run_step-returns-in-Join-clause-steps : goal.run_step-returns-in-Join-clause-steps
+run_step-returns-in-Join-clause-steps g t c = λ S S' R.
+    let x = c.args.context.now in
+    let e = ap step_of c.in-Join.is ∙ step_of-Join c.in-Join.join in
+    let rows : c.args.rows.items ≡ c.as_slice-in-Join.result.now = sym c.as_slice-in-Join.ensures.value in
+    let spent = c.run_join.ensures.steps S S' (runs-same x c.args.root.now S S' _ _ _ _ e rows R) in
+    let whole = cost-same x S _ _ _ _ e rows in
+    omega (arith, spent, whole)
+
+pub run_join-run_joined-requires-clause-ready : goal.run_join-run_joined-requires-clause-ready
+run_join-run_joined-requires-clause-ready g t c κs within = ready-same c.args.context.now c.args.root.now _ _ c.args.rows.now c.args.rows.now (join_of-is c.args.join.now) refl c.requires.ready
+
+pub run_join-run_joined-requires-clause-built : goal.run_join-run_joined-requires-clause-built
+run_join-run_joined-requires-clause-built g t c κs within = sym (ap is_built_step (join_of-is c.args.join.now)) ∙ c.requires.built
+
+pub run_join-returns-clause-mean : goal.run_join-returns-clause-mean
+run_join-returns-clause-mean g t c = λ S S' R. gives-same c.run_joined.result (join_of-is c.args.join.now) refl R (c.run_joined.ensures.mean S S')
+
+pub run_join-returns-clause-steps : goal.run_join-returns-clause-steps
+run_join-returns-clause-steps g t c = λ S S' R.
+    let x = c.args.context.now in
+    let l = c.args.rows.now in
+    let e = join_of-is c.args.join.now in
+    let spent = c.run_joined.ensures.steps S S' (runs-same x c.args.root.now S S' _ _ l l e refl R) in
+    let whole = cost-same x S _ _ l l e refl in
+    omega (arith, spent, whole)
+
+-- ---- a join of parts
+
+pub run_joined-run_related-requires-clause-many : goal.run_joined-run_related-requires-clause-many
+run_joined-run_related-requires-clause-many g t c κs within = λ v h.
+    let u = join-run c.join_navigation-found.result c.requires.ready.2 c.join_navigation-found.ensures.value c.related_ready.ensures in
+    ap (λ (v : Navigation). v.many) (some_value (sym h ∙ u.at)) ∙ u.many
+
+pub run_joined-returns-in_err-results-clause-mean : goal.run_joined-returns-in_err-results-clause-mean
+run_joined-returns-in_err-results-clause-mean g t c = λ S S' R.
+    let u = join-run c.join_navigation-found.result R c.join_navigation-found.ensures.value c.related_ready.ensures in
+    let p = err_from_is_err_and c.from_residual.result c.from_residual.ensures.1 in
+    rw (p.1, p.2) (joined-err c.in_err-results.field-0.0 _ (bound_rows c.args.outer c.args.alias.now c.args.rows.now) _ u.means (c.in_err-results.ensures.mean u.navigation u.shape u.at u.runs))
+
+pub run_joined-returns-in_err-results-clause-steps : goal.run_joined-returns-in_err-results-clause-steps
+run_joined-returns-in_err-results-clause-steps g t c = λ S S' R.
+    let u = join-run c.join_navigation-found.result R c.join_navigation-found.ensures.value c.related_ready.ensures in
+    let ran = c.run_related.ensures.steps u.navigation u.shape u.at u.runs in
+    let whole = u.costs in
+    omega (arith, ran, whole)
+
+pub run_joined-outerjoin-requires-clause-lists : goal.run_joined-outerjoin-requires-clause-lists
+run_joined-outerjoin-requires-clause-lists g t c =
+    let u = join-run c.join_navigation-found.result c.requires.ready.2 c.join_navigation-found.ensures.value c.related_ready.ensures in
+    (lists-made {parts = c.as_slice.result.now} c.in_ok-results.results.items c.as_slice.ensures.value (c.in_ok-results.ensures.mean u.navigation u.shape u.at u.runs)).long
+
+pub run_joined-returns-then-outer-clause-mean : goal.run_joined-returns-then-outer-clause-mean
+run_joined-returns-then-outer-clause-mean g t c = λ S S' R.
+    let u = join-run c.join_navigation-found.result R c.join_navigation-found.ensures.value c.related_ready.ensures in
+    let made = lists-made c.in_ok-results.results.items c.as_slice.ensures.value (c.in_ok-results.ensures.mean u.navigation u.shape u.at u.runs) in
+    made-mean true u c.if-outer.true made _ c.in_ok-outerjoin.ensures.rows
+
+pub run_joined-returns-in_err-outerjoin-clause-steps : goal.run_joined-returns-in_err-outerjoin-clause-steps
+run_joined-returns-in_err-outerjoin-clause-steps g t c = λ S S' R.
+    let u = join-run c.join_navigation-found.result R c.join_navigation-found.ensures.value c.related_ready.ensures in
+    let made = lists-made c.in_ok-results.results.items c.as_slice.ensures.value (c.in_ok-results.ensures.mean u.navigation u.shape u.at u.runs) in
+    let ran = c.run_related.ensures.steps u.navigation u.shape u.at u.runs in
+    let spent = c.outerjoin.ensures.steps in
+    let rows = ap result_length (made-mean true u c.if-outer.true made _ refl) in
+    let whole = u.costs in
+    omega (arith, ran, spent, rows, whole)
+
+pub run_joined-returns-then-outer-clause-steps : goal.run_joined-returns-then-outer-clause-steps
+run_joined-returns-then-outer-clause-steps g t c = λ S S' R.
+    let u = join-run c.join_navigation-found.result R c.join_navigation-found.ensures.value c.related_ready.ensures in
+    let made = lists-made c.in_ok-results.results.items c.as_slice.ensures.value (c.in_ok-results.ensures.mean u.navigation u.shape u.at u.runs) in
+    let ran = c.run_related.ensures.steps u.navigation u.shape u.at u.runs in
+    let spent = c.outerjoin.ensures.steps in
+    let rows = ap result_length (made-mean true u c.if-outer.true made _ refl) in
+    let whole = u.costs in
+    omega (arith, ran, spent, rows, whole)
+
+pub run_joined-join-requires-clause-lists : goal.run_joined-join-requires-clause-lists
+run_joined-join-requires-clause-lists g t c =
+    let u = join-run c.join_navigation-found.result c.requires.ready.2 c.join_navigation-found.ensures.value c.related_ready.ensures in
+    (lists-made {parts = c.as_slice-else-outer.result.now} c.in_ok-results.results.items c.as_slice-else-outer.ensures.value (c.in_ok-results.ensures.mean u.navigation u.shape u.at u.runs)).long
+
+pub run_joined-returns-clause-mean : goal.run_joined-returns-clause-mean
+run_joined-returns-clause-mean g t c = λ S S' R.
+    let u = join-run c.join_navigation-found.result R c.join_navigation-found.ensures.value c.related_ready.ensures in
+    let made = lists-made c.in_ok-results.results.items c.as_slice-else-outer.ensures.value (c.in_ok-results.ensures.mean u.navigation u.shape u.at u.runs) in
+    made-mean false u c.if-outer.false made _ c.in_ok-join.ensures.rows
+
+pub run_joined-returns-in_err-join-clause-steps : goal.run_joined-returns-in_err-join-clause-steps
+run_joined-returns-in_err-join-clause-steps g t c = λ S S' R.
+    let u = join-run c.join_navigation-found.result R c.join_navigation-found.ensures.value c.related_ready.ensures in
+    let made = lists-made c.in_ok-results.results.items c.as_slice-else-outer.ensures.value (c.in_ok-results.ensures.mean u.navigation u.shape u.at u.runs) in
+    let ran = c.run_related.ensures.steps u.navigation u.shape u.at u.runs in
+    let spent = c.join.ensures.steps in
+    let rows = ap result_length (made-mean false u c.if-outer.false made _ refl) in
+    let whole = u.costs in
+    omega (arith, ran, spent, rows, whole)
+
+pub run_joined-returns-clause-steps : goal.run_joined-returns-clause-steps
+run_joined-returns-clause-steps g t c = λ S S' R.
+    let u = join-run c.join_navigation-found.result R c.join_navigation-found.ensures.value c.related_ready.ensures in
+    let made = lists-made c.in_ok-results.results.items c.as_slice-else-outer.ensures.value (c.in_ok-results.ensures.mean u.navigation u.shape u.at u.runs) in
+    let ran = c.run_related.ensures.steps u.navigation u.shape u.at u.runs in
+    let spent = c.join.ensures.steps in
+    let rows = ap result_length (made-mean false u c.if-outer.false made _ refl) in
+    let whole = u.costs in
+    omega (arith, ran, spent, rows, whole)
+
+-- ---- what is related to each row
+
+pub run_related-related_rows-requires-clause-there : goal.run_related-related_rows-requires-clause-there
+run_related-related_rows-requires-clause-there g t c = subst (λ (w : World). IsNavigation w.model c.args.nav) (sym c.store-in-loop-i.ensures) c.requires.there
+
+pub run_related-returns-in_err-related-clause-steps : goal.run_related-returns-in_err-related-clause-steps
+run_related-returns-in_err-related-clause-steps g t c = λ v T' h R.
+    let x = c.args.context.now in
+    let T = inner_of (option_map pipe_of c.args.inner.now) in
+    let l = c.args.rows.now in
+    let at = subst (λ (w : World). navigation_on w.model c.args.nav ≡ Some v) (sym c.store-in-loop-i.ensures) h in
+    let left = (c.loop-i.invariant v T' h R).1 in
+    let next = next-sum (related_charge x.world (readings x.customs) v T) l c.loop-i.i c.index-rows-i.result c.loop-i-test.true c.index-rows-i.is in
+    let total = related-least x.world (readings x.customs) v T l in
+    let found = c.related_rows.ensures.steps v at in
+    let all = related-long x.world _ v c.index-rows-i.result c.store-in-loop-i.ensures (c.requires.many v h) in
+    omega (arith, left, next, total, found, all)
+
+pub run_related-returns-in_err-run_inner-clause-mean : goal.run_related-returns-in_err-run_inner-clause-mean
+run_related-returns-in_err-run_inner-clause-mean g t c = λ v T' h R.
+    let x = c.args.context.now in
+    let T = inner_of (option_map pipe_of c.args.inner.now) in
+    let row = c.index-rows-i.result in
+    let at = subst (λ (w : World). navigation_on w.model c.args.nav ≡ Some v) (sym c.store-in-loop-i.ensures) h in
+    let same = related-same x.world _ v row _ c.store-in-loop-i.ensures (c.requires.many v h) (c.in_ok-related.ensures.rows v at) in
+    let target = target-is x.world.model _ c.args.nav v _ (c.model.ensures.value ∙ ap (λ (w : World). w.model) c.store.ensures) h c.nav_target-target.ensures.value in
+    let u = related-turn x v T' T c.args.rows.now c.loop-i.i row c.in_ok-related.related.items _ R c.loop-i-test.true c.index-rows-i.is same target in
+    let p = err_from_is_err_and c.from_residual-in_err-run_inner.result c.from_residual-in_err-run_inner.ensures.1 in
+    rw (p.1, p.2) (gives-all_err c.in_err-run_inner.field-0.0 _ _ (c.in_err-run_inner.ensures.mean (set_shape v.target) T' u.runs)
+    (λ n. next-list_refused (related_mean x.world (readings x.customs) v T) c.args.rows.now c.loop-i.i row _ _ c.loop-i-test.true c.index-rows-i.is (c.loop-i.invariant v T' h R).0 (u.means ∙ n)))
+
+pub run_related-returns-in_err-run_inner-clause-steps : goal.run_related-returns-in_err-run_inner-clause-steps
+run_related-returns-in_err-run_inner-clause-steps g t c = λ v T' h R.
+    let x = c.args.context.now in
+    let T = inner_of (option_map pipe_of c.args.inner.now) in
+    let row = c.index-rows-i.result in
+    let at = subst (λ (w : World). navigation_on w.model c.args.nav ≡ Some v) (sym c.store-in-loop-i.ensures) h in
+    let same = related-same x.world _ v row _ c.store-in-loop-i.ensures (c.requires.many v h) (c.in_ok-related.ensures.rows v at) in
+    let target = target-is x.world.model _ c.args.nav v _ (c.model.ensures.value ∙ ap (λ (w : World). w.model) c.store.ensures) h c.nav_target-target.ensures.value in
+    let u = related-turn x v T' T c.args.rows.now c.loop-i.i row c.in_ok-related.related.items _ R c.loop-i-test.true c.index-rows-i.is same target in
+    let ran = c.run_inner.ensures.steps (set_shape v.target) T' u.runs in
+    let left = (c.loop-i.invariant v T' h R).1 in
+    let next = u.costs in
+    let found = c.related_rows.ensures.steps v at in
+    let all = related-long x.world _ v row c.store-in-loop-i.ensures (c.requires.many v h) in
+    let total = related-least x.world (readings x.customs) v T c.args.rows.now in
+    omega (arith, left, next, total, found, all, ran)
+
+pub run_related-returns-in_err-push-clause-steps : goal.run_related-returns-in_err-push-clause-steps
+run_related-returns-in_err-push-clause-steps g t c = λ v T' h R.
+    let x = c.args.context.now in
+    let T = inner_of (option_map pipe_of c.args.inner.now) in
+    let row = c.index-rows-i.result in
+    let at = subst (λ (w : World). navigation_on w.model c.args.nav ≡ Some v) (sym c.store-in-loop-i.ensures) h in
+    let same = related-same x.world _ v row _ c.store-in-loop-i.ensures (c.requires.many v h) (c.in_ok-related.ensures.rows v at) in
+    let target = target-is x.world.model _ c.args.nav v _ (c.model.ensures.value ∙ ap (λ (w : World). w.model) c.store.ensures) h c.nav_target-target.ensures.value in
+    let u = related-turn x v T' T c.args.rows.now c.loop-i.i row c.in_ok-related.related.items _ R c.loop-i-test.true c.index-rows-i.is same target in
+    let ran = c.run_inner.ensures.steps (set_shape v.target) T' u.runs in
+    let left = (c.loop-i.invariant v T' h R).1 in
+    let next = u.costs in
+    let found = c.related_rows.ensures.steps v at in
+    let all = related-long x.world _ v row c.store-in-loop-i.ensures (c.requires.many v h) in
+    let total = related-least x.world (readings x.customs) v T c.args.rows.now in
+    omega (arith, left, next, total, found, all, ran)
+
+pub run_related-loop-i-preserved : goal.run_related-loop-i-preserved
+run_related-loop-i-preserved g t c = λ v T' h R.
+    let x = c.args.context.now in
+    let T = inner_of (option_map pipe_of c.args.inner.now) in
+    let row = c.index-rows-i.result in
+    let at = subst (λ (w : World). navigation_on w.model c.args.nav ≡ Some v) (sym c.store-in-loop-i.ensures) h in
+    let same = related-same x.world _ v row _ c.store-in-loop-i.ensures (c.requires.many v h) (c.in_ok-related.ensures.rows v at) in
+    let target = target-is x.world.model _ c.args.nav v _ (c.model.ensures.value ∙ ap (λ (w : World). w.model) c.store.ensures) h c.nav_target-target.ensures.value in
+    let u = related-turn x v T' T c.args.rows.now c.loop-i.i row c.in_ok-related.related.items _ R c.loop-i-test.true c.index-rows-i.is same target in
+    let f = related_mean x.world (readings x.customs) v T in
+    let made : Vec Instance → List Instance = λ part. part.items in
+    let pushed = ap (map made) c.in_ok-push.ensures.items ∙ map-append made c.loop-i.all.items (c.in_ok-run_inner.field-0 ∷ []) in
+    let ran = c.run_inner.ensures.steps (set_shape v.target) T' u.runs in
+    let left = (c.loop-i.invariant v T' h R).1 in
+    let next = u.costs in
+    let found = c.related_rows.ensures.steps v at in
+    let all = related-long x.world _ v row c.store-in-loop-i.ensures (c.requires.many v h) in (
+      next-list f c.args.rows.now c.loop-i.i row _ _ c.in_ok-run_inner.field-0.items c.loop-i-test.true c.index-rows-i.is (c.loop-i.invariant v T' h R).0 (u.means ∙ c.in_ok-run_inner.ensures.mean (set_shape v.target) T' u.runs)
+          ∙ ap (λ a. option_map (λ rest. a ++ rest) (all_some (map f (drop (c.loop-i.i + 1) c.args.rows.now)))) (sym pushed),
+      omega (arith, left, next, found, all, ran),
+    )
+
+pub run_related-returns-clause-mean : goal.run_related-returns-clause-mean
+run_related-returns-clause-mean g t c = λ v T' h R.
+    let x = c.args.context.now in
+    let T = inner_of (option_map pipe_of c.args.inner.now) in
+    last-list (related_mean x.world (readings x.customs) v T) c.args.rows.now c.loop-i.i _ _ (omega (arith, c.loop-i-test.false)) (c.loop-i.invariant v T' h R).0
+
+pub run_related-returns-clause-steps : goal.run_related-returns-clause-steps
+run_related-returns-clause-steps g t c = λ v T' h R.
+    let x = c.args.context.now in
+    let left = (c.loop-i.invariant v T' h R).1 in
+    let total = related-least x.world (readings x.customs) v (inner_of (option_map pipe_of c.args.inner.now)) c.args.rows.now in
+    omega (arith, left, total)
+
+-- ---- an inner pipeline
+
+pub run_inner-returns-in-Some-clause-mean : goal.run_inner-returns-in-Some-clause-mean
+run_inner-returns-in-Some-clause-mean g t c = λ S S' R.
+    let x = c.args.context.now in
+    let l = c.args.rows.items in
+    let e = ap (λ o. inner_of (option_map pipe_of o)) c.in-Some.is in
+    subst (Gives c.run_pipe.result) (sym (inner_mean-SomePipe x.world (readings x.customs) S (λ r. Some r) (pipe_of c.in-Some.pipe) l) ∙ ap (λ T. inner_mean x.world (readings x.customs) S (λ r. Some r) T l) (sym e))
+    (c.run_pipe.ensures.mean S S' (subst (λ T. InnerRuns x c.args.root.now S S' T l) e R))
+
+pub run_inner-returns-in-Some-clause-steps : goal.run_inner-returns-in-Some-clause-steps
+run_inner-returns-in-Some-clause-steps g t c = λ S S' R.
+    let x = c.args.context.now in
+    let l = c.args.rows.items in
+    let e = ap (λ o. inner_of (option_map pipe_of o)) c.in-Some.is in
+    let spent = c.run_pipe.ensures.steps S S' (subst (λ T. InnerRuns x c.args.root.now S S' T l) e R) in
+    let whole = ap (λ T. inner_cost x.world (readings x.customs) S T l) e in
+    omega (arith, spent, whole)
+
+pub run_inner-returns-in-None-clause-mean : goal.run_inner-returns-in-None-clause-mean
+run_inner-returns-in-None-clause-mean g t c = λ S S' R.
+    let x = c.args.context.now in
+    let l = c.args.rows.items in
+    ap (λ o. inner_mean x.world (readings x.customs) S (λ r. Some r) (inner_of (option_map pipe_of o)) l) c.in-None.is ∙ inner_mean-NoPipe x.world (readings x.customs) S (λ r. Some r) l

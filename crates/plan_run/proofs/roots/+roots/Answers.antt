@@ -1,13 +1,14 @@
-use Rattle.std.proofs.Common.{◌+◌, ◌∙◌, ap, sym, subst, map, drop, option_map, None, arith}
+use Rattle.std.proofs.Common.{rules, ◌≡◌, ◌+◌, ◌∙◌, ap, sym, subst, map, drop, option_map, None, arith}
 use Rattle.std.proofs.Math.ListN.{drop_of_length-le}
 use Rattle.apply_ast.specs.Trees.{pipe}
-use Rattle.apply_ast.specs.Views.{inner_of, keys_of, pipe_of, step_of}
-use Rattle.apply_ast.proofs.ViewEquations.{step_of-Aggregate, step_of-Compute, step_of-Filter, step_of-GroupBy, step_of-Identity, step_of-OrderBy, step_of-Skip, step_of-Top}
+use Rattle.apply_ast.specs.Views.{inner_of, keys_of, pipe_of, pipes_from, pipes_of, step_of}
+use Rattle.apply_ast.proofs.ViewEquations.{join_of-is, step_of-Aggregate, step_of-Compute, step_of-Concat, step_of-Filter, step_of-GroupBy, step_of-Identity, step_of-Join, step_of-OrderBy, step_of-Skip, step_of-Top, step_of-TopBy}
 use Rattle.apply_meaning.proofs.RunLemmas.{next-step}
 use Rattle.plan_run.specs.Forms.{is_built_step}
-use Rattle.plan_run.specs.Roots.{InnerLeadsTo, LeadsTo}
-use Rattle.plan_run.proofs.FormLemmas.{built-here, built-next}
-use Rattle.plan_run.proofs.RootLemmas.{last-root, next-root, root-Aggregate, root-Compute, root-Filter, root-GroupBy, root-Identity, root-OrderBy, root-Skip, root-Top, root-inner, root-none}
+use Rattle.plan_run.specs.Roots.{InnerLeadsTo, LeadsTo, PipeLeadsTo}
+use Rattle.plan_run.proofs.BranchRoots.{branches-typed, passed-all, passed-next, passed-none}
+use Rattle.plan_run.proofs.FormLemmas.{branch-next, built-next, next-branch}
+use Rattle.plan_run.proofs.RootLemmas.{last-root, next-root, root-Aggregate, root-Compute, root-Concat, root-Filter, root-GroupBy, root-Identity, root-Join, root-OrderBy, root-Skip, root-Top, root-TopBy, root-inner, root-none}
 use Rattle.plan_run.proofs.roots.+roots.Goals as goal
 
 pub root_after-returns-in-GroupBy : goal.root_after-returns-in-GroupBy
@@ -64,3 +65,47 @@ root_after-returns-in-Top t c = subst (λ s. LeadsTo s c.args.root c.args.root) 
 
 pub root_after-inner_built-requires : goal.root_after-inner_built-requires
 root_after-inner_built-requires t c = ap is_built_step (sym (ap step_of c.in-GroupBy.is ∙ step_of-GroupBy c.in-GroupBy.keys c.in-GroupBy.inner)) ∙ c.requires
+
+pub root_after-returns-in-Concat : goal.root_after-returns-in-Concat
+root_after-returns-in-Concat t c =
+    let e = ap step_of c.in-Concat.is ∙ step_of-Concat c.in-Concat.branches in
+    subst (λ s. LeadsTo s c.args.root c.root_of_branches.result) (sym e) (root-Concat (pipes_of c.in-Concat.branches) c.args.root c.root_of_branches.result c.root_of_branches.ensures)
+
+pub root_after-returns-in-Join : goal.root_after-returns-in-Join
+root_after-returns-in-Join t c =
+    subst (λ s. LeadsTo s c.args.root c.args.root) (sym (ap step_of c.in-Join.is ∙ step_of-Join c.in-Join.field-0 ∙ join_of-is c.in-Join.field-0)) (root-Join _ _ _ _ c.args.root)
+
+pub root_after-returns-in-TopBy : goal.root_after-returns-in-TopBy
+root_after-returns-in-TopBy t c = subst (λ s. LeadsTo s c.args.root c.args.root) (sym (ap step_of c.in-TopBy.is ∙ step_of-TopBy c.in-TopBy.field-0)) (root-TopBy _ c.args.root)
+
+pub root_of_branches-returns-in_err-behind : goal.root_of_branches-returns-in_err-behind
+root_of_branches-returns-in_err-behind t c =
+    let ps = c.as_slice-branch-items.result.now in
+    let d = c.branch-item.result in
+    let k = c.loop-branch.branch-index in
+    let leads = subst (PipeLeadsTo (pipe_of d) c.args.root.now) c.in_err-behind.was c.root_behind.ensures in
+    let none : c.from_residual.result ≡ None = search rules in
+    λ m c' S S' h r.
+    let b = branches-typed m c' S S' (pipes_of c.args.branches.now) h in
+    passed-none m c' S S' b.0 _ (pipe_of d) (pipes_from (map pipe_of (drop (k + 1) ps))) c.args.root.now c.loop-branch.first
+    (next-branch ps k d c.loop-branch-test.true c.branch-item.is) leads r (c.loop-branch.invariant.1 m c' S b.0 b.1 r) b.2
+    ∙ sym none
+
+pub root_of_branches-loop-branch-preserved : goal.root_of_branches-loop-branch-preserved
+root_of_branches-loop-branch-preserved t c =
+    let ps = c.as_slice-branch-items.result.now in
+    let d = c.branch-item.result in
+    let k = c.loop-branch.branch-index in
+    let leads = subst (PipeLeadsTo (pipe_of d) c.args.root.now) c.in_ok-behind.was c.root_behind.ensures in (
+      branch-next ps k d c.loop-branch-test.true c.branch-item.is c.loop-branch.invariant.0,
+      λ m c' S Ss h r.
+          rw (c.or-first.ensures)
+          (passed-next m c' S Ss _ (pipe_of d) (pipes_from (map pipe_of (drop (k + 1) ps))) c.args.root.now c.loop-branch.first c.in_ok-behind.behind
+          (next-branch ps k d c.loop-branch-test.true c.branch-item.is) leads r (c.loop-branch.invariant.1 m c' S Ss h r)),
+    )
+
+pub root_of_branches-returns : goal.root_of_branches-returns
+root_of_branches-returns t c = λ m c' S S' h r.
+    let b = branches-typed m c' S S' (pipes_of c.args.branches.now) h in
+    passed-all m c' S S' b.0 _ c.loop-branch.first (ap (λ ps. pipes_from (map pipe_of ps)) (drop_of_length-le c.as_slice-branch-items.result.now (omega (arith, c.loop-branch-test.false))))
+    (c.loop-branch.invariant.1 m c' S b.0 b.1 r) b.2

@@ -1,7 +1,6 @@
 use Rattle.std.proofs.Common.{sym, ◌∙◌}
-use Rattle.edm_values.specs.Names.{is_name}
 use Rattle.test_support.proofs.NameFacts.{named-text}
 use Rattle.test_support.proofs.names.name.Goals as goal
 
 pub returns-in-Some : goal.returns-in-Some
-returns-in-Some c = named-text (is_name c.args.text.now) c.args.text.now c.in-Some.name (sym c.in-Some.is ∙ c.in_ok-name.ensures)
+returns-in-Some c = named-text _ c.args.text.now c.in-Some.name (sym c.in-Some.is ∙ c.in_ok-name.ensures)

@@ -1,6 +1,0 @@
-use Rattle.std.proofs.Common.{◌≡◌, take}
-use Rattle.aggregate_ops.proofs.groups.copies.Given as goal
-
--- the values so far
-abbrev pub invariant-loop-value : goal.invariant-loop-value
-invariant-loop-value l = l.copied.items ≡ take l.value-index l.values

@@ -1,0 +1,21 @@
+//! Selections from the top and the bottom of a list of values.
+//!
+//! `top_count`, `top_sum` and `top_percent` take the greatest values, `bottom_count`, `bottom_sum` and `bottom_percent` the
+//! least: as many as a count says, or the fewest whose sum reaches a bound or a percentage of the sum of all. Each answers the
+//! places of the values that it takes, in ascending order. `rankings` has the places by rank, which one stable sort gives, and
+//! puts those that are taken in order; `thresholds` turns a bound into one number that a sum of mantissas is compared with;
+//! `selections` walks along the ranking once.
+//!
+//! The crate stands on `edm_values` for values, their order and the definition of what is taken.
+//!
+//! It promises that the places are those of the definition: null ranks last in both directions, the earlier of two that tie
+//! comes first, and all are taken where no part of the ranking is enough. `Range` comes exactly where a value is past its range.
+#![tactic(auto)]
+
+mod rankings;
+mod refusals;
+mod selections;
+mod thresholds;
+
+pub use refusals::TopRefused;
+pub use selections::{bottom_count, bottom_percent, bottom_sum, top_count, top_percent, top_sum};

@@ -1,0 +1,122 @@
+//! The six selections.
+ghost use Rattle.std.specs.Prelude.{◌≡◌, ◌≤◌, Some, true, false, min};
+ghost use Rattle.edm_values.specs.Literals.{AreNumbers};
+ghost use Rattle.edm_values.specs.Values.{Number, number_of, reaches_count, reaches_percent, reaches_sum, seen_value, top_places};
+ghost use Rattle.top_family.specs.Selections.{Takes, seen_values};
+
+use crate::rankings::{ascending, ranking};
+use crate::refusals::TopRefused;
+use crate::thresholds::{front_reaching, least_of_bound, least_of_percent};
+use edm_values::Seen;
+use std::alloc::Global;
+
+/// The places of the `n` greatest values, ascending.
+pub fn top_count(alloc: Global, values: &[Seen<'_>], n: u64) -> Result<Vec<usize>, TopRefused>
+    ensures { Takes (top_places (reaches_count n) false (seen_values values.now)) result }
+{
+    by_count(alloc, values, n, false)
+}
+
+/// The places of the `n` least values, ascending.
+pub fn bottom_count(alloc: Global, values: &[Seen<'_>], n: u64) -> Result<Vec<usize>, TopRefused>
+    ensures { Takes (top_places (reaches_count n) true (seen_values values.now)) result }
+{
+    by_count(alloc, values, n, true)
+}
+
+/// The places of the fewest of the greatest values whose sum is at least a number, ascending.
+pub fn top_sum(
+    alloc: Global,
+    values: &[Seen<'_>],
+    bound: Seen<'_>,
+) -> Result<Vec<usize>, TopRefused>
+    requires numbers { AreNumbers (seen_values values.now) }
+    ensures { (v : Number) → number_of (seen_value bound.entry) ≡ Some v → Takes (top_places (reaches_sum v) false (seen_values values.now)) result }
+{
+    by_sum(alloc, values, bound, false)
+}
+
+/// The places of the fewest of the least values whose sum is at least a number, ascending.
+pub fn bottom_sum(
+    alloc: Global,
+    values: &[Seen<'_>],
+    bound: Seen<'_>,
+) -> Result<Vec<usize>, TopRefused>
+    requires numbers { AreNumbers (seen_values values.now) }
+    ensures { (v : Number) → number_of (seen_value bound.entry) ≡ Some v → Takes (top_places (reaches_sum v) true (seen_values values.now)) result }
+{
+    by_sum(alloc, values, bound, true)
+}
+
+/// The places of the fewest of the greatest values whose sum is at least `p` percent of the sum of all, ascending.
+pub fn top_percent(alloc: Global, values: &[Seen<'_>], p: u32) -> Result<Vec<usize>, TopRefused>
+    requires numbers { AreNumbers (seen_values values.now) }
+    requires percent { p ≤ 100 }
+    ensures { let vs = seen_values values.now in Takes (top_places (reaches_percent p vs) false vs) result }
+{
+    by_percent(alloc, values, p, false)
+}
+
+/// The places of the fewest of the least values whose sum is at least `p` percent of the sum of all, ascending.
+pub fn bottom_percent(alloc: Global, values: &[Seen<'_>], p: u32) -> Result<Vec<usize>, TopRefused>
+    requires numbers { AreNumbers (seen_values values.now) }
+    requires percent { p ≤ 100 }
+    ensures { let vs = seen_values values.now in Takes (top_places (reaches_percent p vs) true vs) result }
+{
+    by_percent(alloc, values, p, true)
+}
+
+/// The places of the first `n` values of the ranking, ascending.
+fn by_count(
+    alloc: Global,
+    values: &[Seen<'_>],
+    n: u64,
+    bottom: bool,
+) -> Result<Vec<usize>, TopRefused>
+    ensures { Takes (top_places (reaches_count n) bottom (seen_values values.now)) result }
+{
+    let ranking = ranking(alloc, values, bottom)?;
+    let n = at_most(n, ranking.len());
+    Ok(ascending(alloc, values.len(), &ranking[..n])?)
+}
+
+/// A count, or a limit where the count is above it.
+fn at_most(n: u64, limit: usize) -> usize
+    ensures { result ≡ min n limit }
+{
+    match usize::try_from(n) {
+        Ok(n) => n.min(limit),
+        Err(_) => limit,
+    }
+}
+
+/// The places of the shortest front of the ranking whose sum is at least a number, ascending.
+fn by_sum(
+    alloc: Global,
+    values: &[Seen<'_>],
+    bound: Seen<'_>,
+    bottom: bool,
+) -> Result<Vec<usize>, TopRefused>
+    requires numbers { AreNumbers (seen_values values.now) }
+    ensures { (v : Number) → number_of (seen_value bound.entry) ≡ Some v → Takes (top_places (reaches_sum v) bottom (seen_values values.now)) result }
+{
+    let ranking = ranking(alloc, values, bottom)?;
+    let n = front_reaching(values, ranking.as_slice(), least_of_bound(values, bound));
+    Ok(ascending(alloc, values.len(), &ranking[..n])?)
+}
+
+/// The places of the shortest front of the ranking whose sum is at least `p` percent of the sum of all, ascending.
+fn by_percent(
+    alloc: Global,
+    values: &[Seen<'_>],
+    p: u32,
+    bottom: bool,
+) -> Result<Vec<usize>, TopRefused>
+    requires numbers { AreNumbers (seen_values values.now) }
+    requires percent { p ≤ 100 }
+    ensures { let vs = seen_values values.now in Takes (top_places (reaches_percent p vs) bottom vs) result }
+{
+    let ranking = ranking(alloc, values, bottom)?;
+    let n = front_reaching(values, ranking.as_slice(), least_of_percent(values, p));
+    Ok(ascending(alloc, values.len(), &ranking[..n])?)
+}
