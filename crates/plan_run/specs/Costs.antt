@@ -37,7 +37,7 @@ unfoldable mutual
   cost w c S (Pipe.Then s p) l =
       result_length (step_mean w c S s l) + inner_costs w c S s l + elim (step_mean w c S s l) [ None ↦ 0 | Some r ↦ cost w c (after w.model c S s) p r ]
 
-  -- what the applications of an inner pipeline to these lists count, where none stands for identity, and where none counts nothing
+  -- what the applications of an inner pipeline to these lists count; where there is no pipeline, what those of identity would
   pub applications : World → Customs → Shape → OptPipe → List (List Instance) → ℕ
   applications w c S OptPipe.NoPipe ls = sum (map (application length (λ l. Some l)) ls)
   applications w c S (OptPipe.SomePipe p) ls = sum (map (application (cost w c S p) (mean w c S p)) ls)
@@ -72,7 +72,7 @@ unfoldable mutual
   inner_costs w c S (Step.Traverse t) l = if is_nonempty t.items then elim (hierarchy_at w.model t.hier) [ None ↦ 0 | Some f ↦ count w f.set ] else 0
   inner_costs w c S s l = 0
 
--- the cost of an inner pipeline, where there is one
+-- the cost of an inner pipeline, where there is one: the lists beside it are counted by the applications
 abbrev pub inner_cost : World → Customs → Shape → OptPipe → List Instance → ℕ
 inner_cost w c S OptPipe.NoPipe l = 0
 inner_cost w c S (OptPipe.SomePipe p) l = cost w c S p l

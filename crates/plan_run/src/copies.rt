@@ -1,7 +1,5 @@
 //! Copies of rows.
-ghost use Rattle.std.specs.Prelude.{◌≡◌, ◌+◌, ◌≤◌, IfOk, IsTrue, length, nat_lt};
-ghost use Rattle.std.specs.List.{list_all};
-ghost use Rattle.edm_values.specs.Lists.{at_places};
+ghost use Rattle.std.specs.Prelude.{◌≡◌, ◌+◌, ◌≤◌, IfOk, length};
 
 use apply_meaning::{Row, Steps};
 use std::alloc::{AllocError, Global};

@@ -1,5 +1,5 @@
 //! What a join takes.
-ghost use Rattle.std.specs.Prelude.{◌≡◌, IsTrue, Some, map, option_map};
+ghost use Rattle.std.specs.Prelude.{◌≡◌, IsTrue, Some, option_map};
 ghost use Rattle.std.specs.List.{list_all};
 ghost use Rattle.edm_model.specs.LookUps.{IsNavigation, navigation_on};
 ghost use Rattle.apply_ast.specs.Trees as tree;

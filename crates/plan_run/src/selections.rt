@@ -1,7 +1,7 @@
 //! Selections from the top and the bottom: rows taken by the values of an expression. No row is made.
 ghost use Rattle.std.specs.Prelude.{◌≡◌, ℕ, Bool, List, Option, Some, IfOk, IsTrue, filter, length, map};
 ghost use Rattle.edm_values.specs.Lists.{at_places, places as all_places};
-ghost use Rattle.edm_values.specs.Values.{number_of, seen_value, top_places};
+ghost use Rattle.edm_values.specs.Values.{number_part, seen_value, top_places};
 ghost use Rattle.apply_ast.specs.Views.{limit_of, number_literal_of, top_of};
 ghost use Rattle.apply_meaning.specs.Meaning.{reaches, selected, values};
 ghost use Rattle.apply_meaning.specs.Running.{Gives, all_of};
@@ -20,7 +20,7 @@ use top_family::{
 
 /// The number of a literal, as a value.
 fn number_value(number: &Number) -> Seen<'_>
-    ensures { number_of (seen_value result) ≡ Some (literal_number (number_literal_of number.now)) }
+    ensures { number_part (seen_value result) ≡ literal_number (number_literal_of number.now) }
 {
     match number {
         Number::Int(n) => Seen::Int(*n),

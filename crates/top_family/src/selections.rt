@@ -1,7 +1,7 @@
 //! The six selections.
-ghost use Rattle.std.specs.Prelude.{◌≡◌, ◌≤◌, Some, true, false, min};
+ghost use Rattle.std.specs.Prelude.{◌≡◌, ◌≤◌, true, false, min};
 ghost use Rattle.edm_values.specs.Literals.{AreNumbers};
-ghost use Rattle.edm_values.specs.Values.{Number, number_of, reaches_count, reaches_percent, reaches_sum, seen_value, top_places};
+ghost use Rattle.edm_values.specs.Values.{number_part, reaches_count, reaches_percent, reaches_sum, seen_value, top_places};
 ghost use Rattle.top_family.specs.Selections.{Takes, seen_values};
 
 use crate::rankings::{ascending, ranking};
@@ -24,26 +24,28 @@ pub fn bottom_count(alloc: Global, values: &[Seen<'_>], n: u64) -> Result<Vec<us
     by_count(alloc, values, n, true)
 }
 
-/// The places of the fewest of the greatest values whose sum is at least a number, ascending.
+/// The places of the fewest of the greatest values whose sum is at least a number, ascending; a
+/// value that is no number counts as 0.
 pub fn top_sum(
     alloc: Global,
     values: &[Seen<'_>],
     bound: Seen<'_>,
 ) -> Result<Vec<usize>, TopRefused>
     requires numbers { AreNumbers (seen_values values.now) }
-    ensures { (v : Number) → number_of (seen_value bound.entry) ≡ Some v → Takes (top_places (reaches_sum v) false (seen_values values.now)) result }
+    ensures { Takes (top_places (reaches_sum (number_part (seen_value bound.entry))) false (seen_values values.now)) result }
 {
     by_sum(alloc, values, bound, false)
 }
 
-/// The places of the fewest of the least values whose sum is at least a number, ascending.
+/// The places of the fewest of the least values whose sum is at least a number, ascending; a
+/// value that is no number counts as 0.
 pub fn bottom_sum(
     alloc: Global,
     values: &[Seen<'_>],
     bound: Seen<'_>,
 ) -> Result<Vec<usize>, TopRefused>
     requires numbers { AreNumbers (seen_values values.now) }
-    ensures { (v : Number) → number_of (seen_value bound.entry) ≡ Some v → Takes (top_places (reaches_sum v) true (seen_values values.now)) result }
+    ensures { Takes (top_places (reaches_sum (number_part (seen_value bound.entry))) true (seen_values values.now)) result }
 {
     by_sum(alloc, values, bound, true)
 }
@@ -90,7 +92,8 @@ fn at_most(n: u64, limit: usize) -> usize
     }
 }
 
-/// The places of the shortest front of the ranking whose sum is at least a number, ascending.
+/// The places of the shortest front of the ranking whose sum is at least a number, ascending; a
+/// value that is no number counts as 0.
 fn by_sum(
     alloc: Global,
     values: &[Seen<'_>],
@@ -98,7 +101,7 @@ fn by_sum(
     bottom: bool,
 ) -> Result<Vec<usize>, TopRefused>
     requires numbers { AreNumbers (seen_values values.now) }
-    ensures { (v : Number) → number_of (seen_value bound.entry) ≡ Some v → Takes (top_places (reaches_sum v) bottom (seen_values values.now)) result }
+    ensures { Takes (top_places (reaches_sum (number_part (seen_value bound.entry))) bottom (seen_values values.now)) result }
 {
     let ranking = ranking(alloc, values, bottom)?;
     let n = front_reaching(values, ranking.as_slice(), least_of_bound(values, bound));

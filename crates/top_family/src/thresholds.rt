@@ -3,12 +3,12 @@
 //! The values are numbers of one type, so their sum is compared by the sum of their mantissas. There are fewer than 2^63 of
 //! them, each of a size of at most 2^63, so the sum fits 128 bits. A bound becomes the least mantissa at the values' scale that
 //! is no less than it: a bound of 64 bits times 10^9 fits too. A percentage of the sum is made from its quotient and remainder
-//! by 100, so that no product is larger than the sum.
-ghost use Rattle.std.specs.Prelude.{◌≡◌, ◌≤◌, ◌<ℤ◌, ◌*ℤ◌, ◌^◌, ℤ, Some, find, int_le, length, nat_abs, pos, take};
+//! by 100, so that every product fits too.
+ghost use Rattle.std.specs.Prelude.{◌≡◌, ◌≤◌, ◌<ℤ◌, ◌*ℤ◌, ◌^◌, ℤ, find, int_le, length, nat_abs, pos, take};
 ghost use Rattle.edm_values.specs.Lists.{at_places, shortest_prefix};
 ghost use Rattle.edm_values.specs.Literals.{AreNumbers};
 ghost use Rattle.edm_values.specs.Parts.{scale_max};
-ghost use Rattle.edm_values.specs.Values.{Number, is_number, number_of, reaches_percent, reaches_sum, seen_value};
+ghost use Rattle.edm_values.specs.Values.{is_number, number_part, reaches_percent, reaches_sum, seen_value};
 ghost use Rattle.top_family.specs.Selections.{seen_values};
 ghost use Rattle.top_family.specs.Thresholds.{IsLeast, is_reached, mantissas, scale_in};
 
@@ -33,7 +33,7 @@ pub(crate) fn front_reaching(values: &[Seen<'_>], ranking: &[usize], least: i128
 /// The least sum of mantissas at the values' scale that is no less than the bound.
 pub(crate) fn least_of_bound(values: &[Seen<'_>], bound: Seen<'_>) -> i128
     requires numbers { AreNumbers (seen_values values.now) }
-    ensures { (v : Number) → number_of (seen_value bound.entry) ≡ Some v → IsLeast (reaches_sum v) (seen_values values.now) result }
+    ensures { IsLeast (reaches_sum (number_part (seen_value bound.entry))) (seen_values values.now) result }
 {
     let raised = raised(bound.mantissa(), scale_of(values));
     quotient_up(raised, power_of_ten(bound.scale()))
