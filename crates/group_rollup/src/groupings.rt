@@ -6,7 +6,7 @@ ghost use Rattle.group_rollup.specs.Groupings as spec;
 ghost use Rattle.group_rollup.specs.Groupings.{front_groups, groups, key_groups, GivesFor};
 
 use crate::GroupRefused;
-use crate::key_lists::{fronts, key_lists};
+use crate::row_keys::{fronts, key_lists};
 use aggregate_ops::{Groups, KeyTable};
 use apply_ast::Path;
 use apply_meaning::Row;

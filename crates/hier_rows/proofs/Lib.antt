@@ -1,0 +1,4 @@
+pub mod ClimbLaws
+pub mod NodeLaws
+pub mod ShownLaws
+pub mod TraversalLaws

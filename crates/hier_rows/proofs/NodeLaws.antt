@@ -1,0 +1,97 @@
+-- The nodes of instances are entities of the set, and what calls over them return.
+use Rattle.std.proofs.Common.{◌≡◌, ℕ, suc, ◌+◌, ◌<◌, ◌≤◌, refl, sym, ◌∙◌, ap, ◌||◌, true, false, not, List, [], ◌∷◌, ◌++◌, length, drop, map, get_or, drop-cons, add-one, append_assoc, Option, Some, None, IfSome, arith}
+use Rattle.std.specs.Prelude.{option_map, position}
+use Rattle.std.specs.Bool.{then_some}
+use Rattle.std.specs.List.{list_any}
+use Rattle.std.specs.declared.result.Result.TheVariants.{Err}
+use Rattle.std.proofs.Math.ListN.{drop_of_length-le}
+use Rattle.std.proofs.lemmas.List.{append-nil, length-map}
+use Rattle.std.proofs.lemmas.List.Elements.{All-map}
+use Rattle.std.proofs.lemmas.List.Quantifiers.{position-Some}
+use Rattle.edm_values.specs.declared.Value.{Value}
+use Rattle.edm_values.specs.Lists.{places}
+use Rattle.edm_values.specs.Names.{Path}
+use Rattle.edm_values.specs.Values.{is_beyond, same_value, value_in}
+use Rattle.edm_values.proofs.TopPlaces.{length-places}
+use Rattle.edm_model.specs.LookUps.{HierarchyPlace, IsSet, key_at, set_type}
+use Rattle.edm_data.specs.References.{count, entities_in, entities_of, follow, keys_of}
+use Rattle.edm_data.specs.Worlds.{World, entity_at}
+use Rattle.context_typing.specs.Shapes.{set_shape}
+use Rattle.apply_meaning.proofs.LoadedWorlds.{set-here}
+use Rattle.apply_meaning.proofs.NodeLemmas.{rows_fit}
+use Rattle.apply_meaning.proofs.RunLemmas.{all-fit-of}
+use Rattle.apply_meaning.specs.Instances.{Instance, entity_instance, lookup, rows}
+use Rattle.apply_meaning.specs.Meaning.{node, refused_at_beyond}
+use Rattle.apply_meaning.specs.declared.refusals.RunRefused.{RunRefused}
+use Rattle.apply_meaning.specs.declared.refusals.RunRefused.TheVariants.{Range, Memory}
+use Rattle.apply_meaning.specs.Running.{all_of}
+use Rattle.hier_rows.specs.HierRows.{AreOptionsBelow, GivesFor, IsNodesOf, node_in, path_values}
+use Rattle.row_orders.specs.Ranks.{GivesNumbers}
+
+-- ---- nodes
+
+-- the node of an instance is an entity of the set
+pub node-within : (w : World) (s : ℕ) (p : Path) (i : Instance) → IfSome (node_in w s p i) (λ x. x < count w s)
+node-within w s p i = go (position (same_value (lookup w i p)) (keys_of w s)) refl
+  where
+    go : (o : Option ℕ) → position (same_value (lookup w i p)) (keys_of w s) ≡ o → IfSome (option_map (λ e. e.at) (option_map (entity_at s) o)) (λ x. x < count w s)
+    go None e = tt
+    go (Some k) e =
+        let r = position-Some (same_value (lookup w i p)) (keys_of w s) k Value.Null e in
+        let below = r.0 in
+        omega (arith, below, length-map (entities_of w s) (λ vs. value_in vs (key_at w.model s)))
+
+-- and so are those of all instances
+pub nodes-within : (w : World) (s : ℕ) (p : Path) (l : List Instance) → AreOptionsBelow (count w s) (map (node_in w s p) l)
+nodes-within w s p l = All-map (λ n. IfSome n (λ x. x < count w s)) (node_in w s p) l (λ k d h. node-within w s p (get_or l k d))
+
+-- the node of the next instance of a list
+module _ (w : World) (s : ℕ) (p : Path) (l : List Instance) where
+  abbrev pub AreLeft : List (Option ℕ) → ℕ → Type 0
+  AreLeft got i = (map (node_in w s p) l ≡ got ++ map (node_in w s p) (drop i l)) × (list_any is_beyond (path_values w p l) ≡ list_any is_beyond (path_values w p (drop i l)))
+
+  pub next-node : (got : List (Option ℕ)) (i : ℕ) (d : Instance) (n : Option ℕ) → i < length l → d ≡ get_or l i d → n ≡ node_in w s p d → is_beyond (lookup w d p) ≡ false → AreLeft got i → AreLeft (got ++ n ∷ []) (i + 1)
+  next-node got i d n h e is quiet L =
+      let step : drop i l ≡ d ∷ drop (i + 1) l = drop-cons l i d h ∙ ap (λ x. x ∷ drop (suc i) l) (sym e) ∙ ap (λ k. d ∷ drop k l) (sym (add-one i)) in (
+        L.0 ∙ ap (λ xs. got ++ map (node_in w s p) xs) step ∙ ap (λ x. got ++ x ∷ map (node_in w s p) (drop (i + 1) l)) (sym is) ∙ sym (append_assoc got (n ∷ []) (map (node_in w s p) (drop (i + 1) l))),
+        L.1 ∙ ap (λ xs. list_any is_beyond (path_values w p xs)) step ∙ ap (λ b. b || list_any is_beyond (path_values w p (drop (i + 1) l))) quiet,
+      )
+
+  -- no instance is left
+  pub none-left : (got : List (Option ℕ)) (i : ℕ) → length l ≤ i → AreLeft got i → got ≡ map (node_in w s p) l
+  none-left got i h L = sym (L.0 ∙ ap (λ xs. got ++ map (node_in w s p) xs) (drop_of_length-le l h) ∙ append-nil got)
+
+-- the nodes are as many as the entities of the set
+pub nodes-count : (w : World) (f : HierarchyPlace) (s : ℕ) (parents : List (Option ℕ)) → IsNodesOf w f s parents → length parents ≡ count w s
+nodes-count w f s parents N =
+    ap length N.1
+    ∙ length-map (entities_in w f.set) (λ e. option_map (λ p. p.at) (follow w e f.hierarchy.parent)) ∙ length-map (places (count w f.set)) (entity_at f.set) ∙ length-places (count w f.set)
+    ∙ ap (count w) (sym N.0)
+
+-- the instances of a set are as many as its entities
+pub rows-count : (w : World) (s : ℕ) → length (rows w s) ≡ count w s
+rows-count w s = length-map (entities_in w s) entity_instance ∙ length-map (places (count w s)) (entity_at s) ∙ length-places (count w s)
+
+-- the instances of a set are of the world
+pub rows-of : (w : World) (s : ℕ) → IsSet w.model s → all_of w (rows w s) ≡ true
+rows-of w s h = all-fit-of w (set_shape (set_type w.model s)) (rows w s) (rows_fit w s (set_type w.model s) (set-here w.model s h))
+
+-- the nodes among the entities of a hierarchy's set are those of the hierarchy
+pub nodes-are : (w : World) (f : HierarchyPlace) (s : ℕ) (p : Path) (l : List Instance) → s ≡ f.set → map (node_in w s p) l ≡ map (node w f p) l
+nodes-are w f s p l e = ap (λ s. map (node_in w s p) l) e
+
+-- ---- refusals
+
+-- where no value is Beyond nothing is refused
+pub not-refused : {A : Type 0} (vs : List Value) (x : A) → list_any is_beyond vs ≡ false → refused_at_beyond vs x ≡ Some x
+not-refused vs x h = ap (λ b. then_some (not b) x) h
+
+-- where one is
+pub is-refused : {A : Type 0} (vs : List Value) (x : A) → list_any is_beyond vs ≡ true → refused_at_beyond vs x ≡ None
+is-refused vs x h = ap (λ b. then_some (not b) x) h
+
+-- a refusal at some of the values is one at all of them
+pub refused-by : {T : Type 0} (IsRight : T → Type 0) (e : RunRefused) (us vs : List Value) (ks : List ℕ) → GivesFor IsRight us (Err e) → (list_any is_beyond us ≡ true → list_any is_beyond vs ≡ true)
+    → GivesNumbers (Err e) (refused_at_beyond vs ks)
+refused-by IsRight Range us vs ks h more = is-refused vs ks (more h)
+refused-by IsRight Memory us vs ks h more = tt

@@ -1,0 +1,12 @@
+pub use Rattle.edm_values.specs.Lists
+pub use Rattle.edm_values.specs.Values
+pub use Rattle.edm_model.specs.LookUps
+pub use Rattle.edm_data.specs.Hierarchies
+pub use Rattle.edm_data.specs.Nodes
+pub use Rattle.edm_data.specs.References
+pub use Rattle.apply_ast.specs.Views
+pub use Rattle.apply_meaning.specs.Instances
+pub use Rattle.apply_meaning.specs.Meaning
+pub use Rattle.apply_meaning.specs.Running
+pub use Rattle.row_orders.specs.Ranks
+pub mod HierRows

@@ -1,0 +1,4 @@
+pub mod CycleFacts
+pub mod NamedFacts
+pub mod PartPlaces
+pub mod StateFacts

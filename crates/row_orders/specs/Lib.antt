@@ -1,0 +1,6 @@
+pub use Rattle.edm_values.specs.Lists
+pub use Rattle.apply_ast.specs.Views
+pub use Rattle.apply_meaning.specs.Meaning
+pub use Rattle.apply_meaning.specs.Running
+pub mod Orders
+pub mod Ranks
