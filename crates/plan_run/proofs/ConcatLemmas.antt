@@ -26,7 +26,6 @@ use Rattle.plan_run.proofs.GroupLemmas.{next-sum, sum-cons}
 use Rattle.plan_run.specs.Conditions.{BranchesRun, RunsFrom, StepRunsFrom}
 use Rattle.plan_run.specs.Contexts.{Context}
 use Rattle.plan_run.specs.Costs.{application, branch_costs, cost, step_cost}
-use Rattle.plan_run.specs.Forms.{are_built_branches, is_built}
 use Rattle.plan_run.proofs.RunLevels.{slice-at}
 
 -- ---- the meaning
@@ -59,15 +58,6 @@ concat-least w c S ps l =
     omega (arith, inner)
 
 -- ---- branches of the program
-
--- all are built
-pub all-built : (ps : List Pipe) → are_built_branches (pipes_from ps) ≡ list_all is_built ps
-all-built [] = refl
-all-built (p ∷ ps) = ap (λ b. is_built p && b) (all-built ps)
-
--- and so is each
-pub built-at : (bs : List of_pipe.Pipe) (k : ℕ) (d : of_pipe.Pipe) → list_all is_built (map pipe_of bs) ≡ true → k < length bs → d ≡ get_or bs k d → is_built (pipe_of d) ≡ true
-built-at bs k d h within e = ap (λ b. is_built (pipe_of b)) e ∙ all-place (λ b. is_built (pipe_of b)) bs k d (all-of_mapped pipe_of is_built bs h) within
 
 -- the one at a place
 pub branch-at : (bs : List of_pipe.Pipe) (k : ℕ) (d : of_pipe.Pipe) → k < length bs → d ≡ get_or bs k d → slice_get (map pipe_of bs) k ≡ Some (pipe_of d)

@@ -5,15 +5,15 @@ use Rattle.std.specs.Bool.{then_some}
 use Rattle.std.specs.List.{list_all}
 use Rattle.edm_model.specs.Models.{Model}
 use Rattle.edm_values.proofs.OptionFacts.{chained, if_else-parts, some_value, then_some-parts}
-use Rattle.edm_values.specs.Lists.{all_some, is_nonempty}
+use Rattle.edm_values.specs.Lists.{all_some, is_nonempty, is_some_and}
 use Rattle.edm_values.specs.Values.{integer_max}
 use Rattle.edm_values.specs.Literals.{is_boolean_kind}
 use Rattle.std.specs.Prelude.{nat_le}
-use Rattle.edm_values.specs.Names.{Name}
-use Rattle.apply_ast.specs.Trees.{AggItem, Expr, Keys, Named, OptPipe, OrderItem, Pipe, Pipes, Step, TopStep, is_long}
+use Rattle.edm_values.specs.Names.{Name, Path}
+use Rattle.apply_ast.specs.Trees.{AggItem, Expr, HierName, Keys, Named, OptPipe, OrderItem, Pipe, Pipes, Step, TopStep, TraverseStep, is_distance, is_long}
 use Rattle.context_typing.specs.Shapes.{Shape, set_shape}
-use Rattle.context_typing.specs.Typing.{Customs, columns_differ, expr_kind, group_keys, grouped_shape, has_kind, inner_shape, is_free, is_sure, is_typed, item_column, join_navigation, joined_shape, keys_typed, new_column, no_shape, root_type, step_shape, steps_shape, top_typed}
-use Rattle.context_typing.proofs.TypingEquations.{inner_shape-NoPipe, inner_shape-SomePipe, step_shape-Aggregate, step_shape-Compute, step_shape-Concat, step_shape-Filter, step_shape-GroupBy, step_shape-Identity, step_shape-Join, step_shape-OrderBy, step_shape-Skip, step_shape-Top, step_shape-TopBy, steps_shape-End, steps_shape-Then}
+use Rattle.context_typing.specs.Typing.{Customs, columns_differ, expr_kind, group_keys, grouped_shape, has_kind, hierarchy_at, inner_shape, is_free, is_node_path, is_sure, is_typed, item_column, join_navigation, joined_shape, keys_typed, new_column, no_shape, root_type, step_shape, steps_shape, top_typed}
+use Rattle.context_typing.proofs.TypingEquations.{inner_shape-NoPipe, inner_shape-SomePipe, step_shape-Aggregate, step_shape-Climb, step_shape-Compute, step_shape-Concat, step_shape-Filter, step_shape-GroupBy, step_shape-Identity, step_shape-Join, step_shape-OrderBy, step_shape-Skip, step_shape-Top, step_shape-TopBy, step_shape-Traverse, steps_shape-End, steps_shape-Then}
 use Rattle.plan_run.specs.Roots.{BranchesLeadTo, InnerLeadsTo, LeadsTo, PipeLeadsTo}
 
 -- ---- one transformation
@@ -64,6 +64,14 @@ root-Join outer n a T root m c S S' t r =
 
 pub root-TopBy : (x : TopStep) (root : Option ℕ) → LeadsTo (Step.TopBy x) root root
 root-TopBy x root m c S S' t r = same-root S S' root (then_some-parts (top_typed m S x.limit x.expr) S S' (sym (step_shape-TopBy m c S x) ∙ t)).1 r
+
+pub root-Climb : (up : Bool) (h : HierName) (p : Path) (T : Pipe) (d : Option ℕ) (keep : Bool) (root : Option ℕ) → LeadsTo (Step.Climb up h p T d keep) root root
+root-Climb up h p T d keep root m c S S' t r =
+    same-root S S' root (then_some-parts (is_node_path m S h p && is_distance d && is_long T && is_some_and (λ R. is_node_path m R h p) (steps_shape m c S T)) S S' (sym (step_shape-Climb m c S up h p T d keep) ∙ t)).1 r
+
+pub root-Traverse : (x : TraverseStep) (root : Option ℕ) → LeadsTo (Step.Traverse x) root root
+root-Traverse x root m c S S' t r =
+    same-root S S' root (then_some-parts (is_node_path m S x.hier x.path && is_some_and (λ f. list_all (λ y. is_typed m (set_shape f.type) y.expr) x.items) (hierarchy_at m x.hier)) S S' (sym (step_shape-Traverse m c S x) ∙ t)).1 r
 
 -- ---- pipelines
 

@@ -1,29 +1,31 @@
 -- When a pipeline may be run, where the type at the empty prefix is known, and what runs of its parts need.
-use Rattle.std.specs.Prelude.{◌≡◌, ℕ, ◌≤◌, IsTrue, List, Option, Some, None, map, slice_get, is_some, option_and_then, option_map}
+use Rattle.std.specs.Prelude.{◌≡◌, ℕ, ◌≤◌, All, IsTrue, List, Option, Some, None, length, map, nat_lt, slice_get, is_some, option_and_then}
 use Rattle.std.specs.List.{list_all}
 use Rattle.std.specs.declared.result.Result as result
 use Rattle.std.specs.declared.result.Result.TheVariants.{Ok, Err}
 use Rattle.std.specs.Global.{Vec}
 use Rattle.edm_values.specs.declared.Value.{Value}
-use Rattle.edm_values.specs.Lists.{all_some}
+use Rattle.edm_values.specs.Lists.{all_some, at_places}
 use Rattle.edm_values.specs.Literals.{AreNumbers}
 use Rattle.edm_values.specs.Names.{Name, Path}
-use Rattle.edm_model.specs.LookUps.{navigation_on}
+use Rattle.edm_model.specs.LookUps.{HierarchyPlace, navigation_on}
 use Rattle.edm_model.specs.Models.{Custom, Navigation, Part}
 use Rattle.edm_data.specs.Worlds.{World}
-use Rattle.apply_ast.specs.Trees.{AggItem, Limit, OptPipe, Pipe, Step}
+use Rattle.apply_ast.specs.Trees.{AggItem, HierName, Keys, Limit, OptPipe, Pipe, Step}
 use Rattle.context_typing.specs.Readings.{readings}
 use Rattle.context_typing.specs.Shapes.{Shape, set_shape}
-use Rattle.context_typing.specs.Typing.{Reading, custom_at, item_column, root_type}
-use Rattle.apply_meaning.specs.Instances.{Instance, extended}
-use Rattle.apply_meaning.specs.Meaning.{Outcome, custom_value, group, item_value, keyed, mean, related_rows}
+use Rattle.context_typing.specs.Typing.{Reading, custom_at, customs_typed, hierarchy_at, inner_shape, item_column, keys_typed, rollup_parts, root_type}
+use Rattle.apply_meaning.specs.Instances.{Instance, extended, rows}
+use Rattle.apply_meaning.specs.Meaning.{Outcome, custom_value, item_value, keyed, mean, related_rows}
 use Rattle.apply_meaning.specs.MeaningLaws.{AllFit}
 use Rattle.apply_meaning.specs.RowViews.{columns_differ}
 use Rattle.apply_meaning.specs.Running.{Runs, StepRuns}
 use Rattle.apply_meaning.specs.declared.refusals.RunRefused.{RunRefused}
 use Rattle.apply_meaning.specs.declared.refusals.RunRefused.TheVariants.{Range, Memory}
+use Rattle.hier_states.specs.States.{IsReadyAt}
 use Rattle.plan_run.specs.Contexts.{Context}
 use Rattle.plan_run.specs.Costs.{application, cost}
+use Rattle.plan_run.specs.Levels.{Level}
 
 -- ---- pipelines
 
@@ -44,6 +46,17 @@ ReadyFrom x root p l = (S : Shape) × (S' : Shape) × RunsFrom x root S S' p l
 -- the same of one transformation
 abbrev pub StepReadyFrom : Context → Option ℕ → Step → List Instance → Type 0
 StepReadyFrom x root s l = (S : Shape) × (S' : Shape) × StepRunsFrom x root S S' s l
+
+-- ---- inner pipelines
+
+-- an inner pipeline, where there is one, is typed on a shape that the instances fit
+abbrev pub InnerRuns : Context → Option ℕ → Shape → Shape → OptPipe → List Instance → Type 0
+InnerRuns x root S G OptPipe.NoPipe l = Unit {0}
+InnerRuns x root S G (OptPipe.SomePipe p) l = RunsFrom x root S G p l
+
+-- the inner pipeline is so typed on some shape
+abbrev pub InnerReady : Context → Option ℕ → OptPipe → List Instance → Type 0
+InnerReady x root T l = (S : Shape) × (G : Shape) × InnerRuns x root S G T l
 
 -- ---- aggregations
 
@@ -80,32 +93,52 @@ ItemReady x root item l = (S : Shape) × ItemRuns x root S item l
 abbrev pub ItemsReady : Context → Option ℕ → List AggItem → List Instance → Type 0
 ItemsReady x root items l = (S : Shape) × ItemsRun x root S items l
 
+-- ---- hierarchies
+
+-- the states of these hierarchies are indexes of the parents of their nodes
+abbrev pub AreReady : Context → List HierName → Type 0
+AreReady x hs = All (IsReadyAt x.world x.hiers) hs
+
+-- a pipeline, where there is one, is typed on the shape of a hierarchy's nodes, and leads to instances of nodes
+pub record ShownRuns (x : Context) (f : HierarchyPlace) (N : Shape) (T : OptPipe) : Type 0 where
+  pub typed : inner_shape x.world.model (readings x.customs) (set_shape f.type) (set_shape f.type) T ≡ Some N
+  pub inner : InnerRuns x (Some f.type) (set_shape f.type) N T (rows x.world f.set)
+  pub nodes : root_type N ≡ Some f.type
+
+-- the pipeline is so typed for the hierarchy of this name
+abbrev pub ShownReady : Context → HierName → OptPipe → Type 0
+ShownReady x h T = (f : HierarchyPlace) → hierarchy_at x.world.model h ≡ Some f → (N : Shape) × ShownRuns x f N T
+
+-- the keys of a grouping are typed on some shape, and at most one is not plain
+pub record KeysReady (x : Context) (ks : Keys) : Type 0 where
+  pub shape : Shape
+  pub customs : IsTrue (customs_typed x.world.model (readings x.customs))
+  pub typed : IsTrue (keys_typed x.world.model (readings x.customs) shape ks)
+  pub few : length (rollup_parts ks) ≤ 1
+
 -- ---- groupings
 
--- what an inner pipeline makes of the group of a key list, each result with the key's columns
-abbrev pub made_of : Context → Shape → List Path → Pipe → List Instance → List Value → Outcome
-made_of x S ks p l k = option_map (map (λ r. extended r (keyed ks k))) (mean x.world (readings x.customs) S p (group x.world ks k l))
+-- what an application of an inner pipeline to a group counts
+abbrev pub charge_of : Context → Shape → Pipe → List Instance → List Value × List ℕ → ℕ
+charge_of x S p l g = application (cost x.world (readings x.customs) S p) (mean x.world (readings x.customs) S p) (at_places l g.1)
 
--- what its application to that group counts
-abbrev pub charge_of : Context → Shape → List Path → Pipe → List Instance → List Value → ℕ
-charge_of x S ks p l k = application (cost x.world (readings x.customs) S p) (mean x.world (readings x.customs) S p) (group x.world ks k l)
-
--- an inner pipeline is typed on a shape that the instances fit, and what it makes of a group by these paths has no column of a key
-pub record GroupRuns (x : Context) (root : Option ℕ) (S G : Shape) (level : List Path) (p : Pipe) (l : List Instance) : Type 0 where
+-- an inner pipeline is typed on a shape that the instances fit, the groups of a level are of these instances, and what it makes of one has no column of its key
+pub record GroupRuns (x : Context) (root : Option ℕ) (S G : Shape) (level : Level) (p : Pipe) (l : List Instance) : Type 0 where
   pub inner : RunsFrom x root S G p l
-  pub free : (k : List Value) (r : List Instance) → mean x.world (readings x.customs) S p (group x.world level k l) ≡ Some r → IsTrue (list_all (λ i. columns_differ (extended i (keyed level k)).columns) r)
+  pub within : (n : ℕ) (g : List Value × List ℕ) → slice_get level.1 n ≡ Some g → IsTrue (list_all (λ k. nat_lt k (length l)) g.1)
+  pub free : (n : ℕ) (g : List Value × List ℕ) (r : List Instance) → slice_get level.1 n ≡ Some g → mean x.world (readings x.customs) S p (at_places l g.1) ≡ Some r
+      → IsTrue (list_all (λ i. columns_differ (extended i (keyed level.0 g.0)).columns) r)
 
--- the same for the paths of each level
-pub record LevelsRun (x : Context) (root : Option ℕ) (S G : Shape) (levels : List (List Path)) (p : Pipe) (l : List Instance) : Type 0 where
-  pub inner : RunsFrom x root S G p l
-  pub free : (n : ℕ) (level : List Path) → slice_get levels n ≡ Some level → GroupRuns x root S G level p l
+-- the same for each level
+abbrev pub LevelsRun : Context → Option ℕ → Shape → Shape → List Level → Pipe → List Instance → Type 0
+LevelsRun x root S G levels p l = (n : ℕ) (level : Level) → slice_get levels n ≡ Some level → GroupRuns x root S G level p l
 
 -- the inner pipeline is so typed on some shape
-abbrev pub GroupReady : Context → Option ℕ → List Path → Pipe → List Instance → Type 0
+abbrev pub GroupReady : Context → Option ℕ → Level → Pipe → List Instance → Type 0
 GroupReady x root level p l = (S : Shape) × (G : Shape) × GroupRuns x root S G level p l
 
--- the same for the paths of each level
-abbrev pub LevelsReady : Context → Option ℕ → List (List Path) → Pipe → List Instance → Type 0
+-- the same for each level
+abbrev pub LevelsReady : Context → Option ℕ → List Level → Pipe → List Instance → Type 0
 LevelsReady x root levels p l = (S : Shape) × (G : Shape) × LevelsRun x root S G levels p l
 
 -- ---- several runs
@@ -127,15 +160,6 @@ abbrev pub BranchesReady : Context → Option ℕ → List Pipe → List Instanc
 BranchesReady x root ps l = (S : Shape) × BranchesRun x root S ps l
 
 -- ---- joins
-
--- an inner pipeline, where there is one, is typed on a shape that the instances fit
-abbrev pub InnerRuns : Context → Option ℕ → Shape → Shape → OptPipe → List Instance → Type 0
-InnerRuns x root S G OptPipe.NoPipe l = Unit {0}
-InnerRuns x root S G (OptPipe.SomePipe p) l = RunsFrom x root S G p l
-
--- the inner pipeline is so typed on some shape
-abbrev pub InnerReady : Context → Option ℕ → OptPipe → List Instance → Type 0
-InnerReady x root T l = (S : Shape) × (G : Shape) × InnerRuns x root S G T l
 
 -- an inner pipeline, where there is one, is typed on the shape of a navigation's target, and takes what is related to each instance
 abbrev pub RelatedRun : Context → Navigation → Shape → OptPipe → List Instance → Type 0

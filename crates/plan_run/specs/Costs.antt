@@ -3,7 +3,7 @@ use Rattle.std.specs.Prelude.{ℕ, ◌+◌, List, [], ◌∷◌, length, sum, So
 use Rattle.edm_data.specs.Worlds.{World}
 use Rattle.edm_values.specs.Lists.{is_nonempty}
 use Rattle.edm_values.specs.Names.{Path}
-use Rattle.apply_ast.specs.Trees.{Pipe, Step, OptPipe, Pipes, Key, Keys}
+use Rattle.apply_ast.specs.Trees.{Pipe, Step, OptPipe, Pipes, Key, Keys, TraverseStep}
 use Rattle.context_typing.specs.Typing.{hierarchy_at, Customs, RollupPart, GroupKeys, group_keys, rollup_part, join_navigation, after, shape_of_set}
 use Rattle.edm_data.specs.References.{count}
 use Rattle.context_typing.specs.Shapes.{Shape, set_shape}
@@ -29,6 +29,10 @@ group_lists w g shown l = elim (rollup_part g) [
 -- what one application of an inner pipeline counts: the list, the cost on it, and the result
 abbrev pub application : (List Instance → ℕ) → (List Instance → Outcome) → List Instance → ℕ
 application cost mean l = length l + cost l + result_length (mean l)
+
+-- what a walk counts beside its result: with an order, the nodes
+abbrev pub walk_cost : World → TraverseStep → ℕ
+walk_cost w t = if is_nonempty t.items then elim (hierarchy_at w.model t.hier) [ None ↦ 0 | Some f ↦ count w f.set ] else 0
 
 unfoldable mutual
   -- the cost of a pipeline on a list: that of its transformations, up to and with the first that is refused
@@ -62,14 +66,14 @@ unfoldable mutual
   keys_cost w c Keys.NoKeys = 0
   keys_cost w c (Keys.MoreKeys k ks) = key_cost w c k + keys_cost w c ks
 
-  -- what a transformation counts beside its result: its inner pipelines, and for a walk with an order the nodes
+  -- what a transformation counts beside its result: its inner pipelines, and what a walk counts
   pub inner_costs : World → Customs → Shape → Step → List Instance → ℕ
   inner_costs w c S (Step.GroupBy ks T) l =
       keys_cost w c ks + elim (keys_shown w c ks) [ None ↦ 0 | Some shown ↦ given_applications w c S T (group_lists w (group_keys ks) shown l) ]
   inner_costs w c S (Step.Concat ps) l = branch_costs w c S ps l
   inner_costs w c S (Step.Join outer n a T) l = elim (join_navigation w.model S n) [ None ↦ 0 | Some v ↦ applications w c (set_shape v.target) T (map (related_rows w v) l) ]
   inner_costs w c S (Step.Climb up h p T d keep) l = application (cost w c S T) (mean w c S T) l
-  inner_costs w c S (Step.Traverse t) l = if is_nonempty t.items then elim (hierarchy_at w.model t.hier) [ None ↦ 0 | Some f ↦ count w f.set ] else 0
+  inner_costs w c S (Step.Traverse t) l = walk_cost w t
   inner_costs w c S s l = 0
 
 -- the cost of an inner pipeline, where there is one: the lists beside it are counted by the applications

@@ -10,11 +10,14 @@ pub use Rattle.apply_meaning.specs.RowViews
 pub use Rattle.apply_meaning.specs.Running
 pub use Rattle.apply_meaning.specs.Aggregates
 pub use Rattle.group_rollup.specs.Groupings
+pub use Rattle.hier_states.specs.NamedHierarchies
+pub use Rattle.hier_states.specs.States
+pub use Rattle.rollup_rec.specs.Rollups
 pub mod Conditions
 pub mod Contexts
 pub mod Costs
-pub mod Forms
+pub mod Hierarchies
 pub mod Levels
-pub mod Orders
+pub mod RecursiveKeys
 pub mod Roots
 pub mod Selections

@@ -1,35 +1,45 @@
 //! What a run works with.
-ghost use Rattle.std.specs.Prelude.{◌≡◌, ◌++◌, ◌<◌, ◌≤◌, Some, IfOk, IsTrue, is_some};
-ghost use Rattle.edm_model.specs.LookUps.{IsCustom};
+ghost use Rattle.std.specs.Prelude.{◌≡◌, ◌++◌, ◌<◌, ◌≤◌, All, Some, IfOk, IfSome, IsTrue, is_some, length, map};
+ghost use Rattle.edm_model.specs.LookUps.{HierarchyPlace, IsCustom, IsSet};
+ghost use Rattle.edm_data.specs.Nodes.{parents_of};
+ghost use Rattle.apply_ast.specs.Views.{hier_of};
 ghost use Rattle.context_typing.specs.Readings.{AreTypedOver, readings, typed_at};
-ghost use Rattle.context_typing.specs.Typing.{customs_typed};
+ghost use Rattle.context_typing.specs.Typing.{customs_typed, hierarchy_at};
 ghost use Rattle.apply_meaning.specs.Aggregates as aggregates;
+ghost use Rattle.apply_meaning.specs.Meaning.{key_list};
 ghost use Rattle.apply_meaning.specs.Running.{all_of};
+ghost use Rattle.aggregate_ops.specs.KeyTables.{HasWidth};
 ghost use Rattle.aggregate_ops.specs.Partials.{AreFoldable};
 ghost use Rattle.custom_agg.specs.CustomValues.{value_by_id, HaveRoot};
 ghost use Rattle.group_rollup.specs.Groupings.{groups, level_groups};
+ghost use Rattle.hier_states.specs.States.{IsReadyAt};
+ghost use Rattle.rollup_rec.specs.Rollups.{rolled, width_of};
 ghost use Rattle.plan_run.specs.Levels.{GivesFor};
 
 use aggregate_ops::{Groups, aggregate_values};
-use apply_ast::Path;
+use apply_ast::{HierName, Path};
 use apply_meaning::{Row, RunRefused};
 use context_typing::Customs;
 use custom_agg::custom;
 use edm_data::Data;
 use edm_model::CustomId;
 use edm_values::{Method, Value};
-use group_rollup::{GroupRefused, group, rollup};
+use group_rollup::{GroupRefused, group, key_lists, rollup};
+use hier_index::Index;
+use hier_states::{HierState, Nodes, nodes_at};
 use par_stages::Gate;
+use rollup_rec::roll;
 use std::alloc::{AllocError, Global};
 use std::marker::Model;
 use std::thread::Threads;
 
-/// The data with the custom aggregates of its model, and the threads that fold lists of it.
+/// The data with the custom aggregates of its model and the states of its hierarchies, and the threads that fold lists of it.
 #[derive(Drop)]
 pub(crate) struct Context<'a, R: Threads + Sync, G: Gate> {
     rt: &'a R,
     store: &'a Data,
     customs: &'a Customs,
+    hiers: &'a [HierState],
     workers: u32,
     gate: &'a G,
 }
@@ -46,18 +56,20 @@ impl<'a, R: Threads + Sync, G: Gate> Model for Context<'a, R, G> {
 
     ghost coded = { Prim.hlevel (codes, of_expr.the_row.coded) };
 
-    ghost view = { λ s. record { world = s.store.now; customs = s.customs.now } };
+    ghost view = { λ s. record { world = s.store.now; customs = s.customs.now; hiers = s.hiers.now } };
 
     ghost invariant = { λ s. AreTypedOver s.store.now.model s.customs.now × IsTrue (customs_typed s.store.now.model (readings s.customs.now))
         × (0 < s.workers) × (s.workers ≤ 64) };
 }
 
 impl<'a, R: Threads + Sync, G: Gate> Context<'a, R, G> {
-    /// The data with the custom aggregates of its model, whose lists are folded in at most so many pieces.
+    /// The data with the custom aggregates of its model and the states of its hierarchies, whose lists are folded in at most
+    /// so many pieces.
     pub(crate) fn new(
         rt: &'a R,
         store: &'a Data,
         customs: &'a Customs,
+        hiers: &'a [HierState],
         workers: u32,
         gate: &'a G,
     ) -> Context<'a, R, G>
@@ -65,12 +77,13 @@ impl<'a, R: Threads + Sync, G: Gate> Context<'a, R, G> {
         requires few { workers ≤ 64 }
         requires typed { AreTypedOver store.now.model customs.now }
         requires whole { IsTrue (customs_typed store.now.model (readings customs.now)) }
-        ensures { result ≡ record { world = store.now; customs = customs.now } }
+        ensures { result ≡ record { world = store.now; customs = customs.now; hiers = hiers.now } }
     {
         Context {
             rt,
             store,
             customs,
+            hiers,
             workers,
             gate,
         }
@@ -181,5 +194,60 @@ impl<'a, R: Threads + Sync, G: Gate> Context<'a, R, G> {
             Err(GroupRefused::Range) => Err(RunRefused::Range),
             Err(GroupRefused::Memory) => Err(RunRefused::Memory),
         }
+    }
+
+    /// The key list of each row by the paths.
+    pub(crate) fn key_lists(
+        &self,
+        alloc: Global,
+        keys: &[Path],
+        rows: &[Row],
+    ) -> Result<Vec<Vec<Value>>, RunRefused>
+        requires { IsTrue (all_of self.now.world rows.now) }
+        ensures { GivesFor (λ lists. map (λ k. k.items) lists.items ≡ map (key_list self.now.world keys.now) rows.now) self.now.world keys.now rows.now result }
+    {
+        match key_lists(alloc, self.store, keys, rows) {
+            Ok(lists) => Ok(lists),
+            Err(GroupRefused::Range) => Err(RunRefused::Range),
+            Err(GroupRefused::Memory) => Err(RunRefused::Memory),
+        }
+    }
+
+    /// What a pipeline takes of a hierarchy that it names.
+    pub(crate) fn nodes(&self, name: &HierName) -> Nodes<'_>
+        requires there { IsTrue (is_some (hierarchy_at self.now.world.model (hier_of name.now))) }
+        requires ready { IsReadyAt self.now.world self.now.hiers (hier_of name.now) }
+        ensures set { (f : HierarchyPlace) → hierarchy_at self.now.world.model (hier_of name.now) ≡ Some f → result.set ≡ f.set }
+        ensures index { (f : HierarchyPlace) → hierarchy_at self.now.world.model (hier_of name.now) ≡ Some f → result.index.now ≡ parents_of self.now.world f }
+        ensures is_set { IsSet self.now.world.model result.set }
+    {
+        nodes_at(self.store, self.hiers, name)
+    }
+
+    /// For each node that is shown and has rows, the groups of the rows at it or below it by their key lists.
+    pub(crate) fn roll(
+        &self,
+        alloc: Global,
+        index: &Index,
+        nodes: &[Option<u32>],
+        shown: &[u32],
+        keys: &[Vec<Value>],
+    ) -> Result<Vec<(u32, Groups)>, AllocError>
+        requires rows { length keys.now ≡ length nodes.now }
+        requires nodes { All (λ n. IfSome n (λ y. y < length index.now)) nodes.now }
+        requires shown { All (λ y. y < length index.now) shown.now }
+        requires width { All (HasWidth (width_of keys.now)) keys.now }
+        ensures { IfOk result (λ v. v.items ≡ rolled index.now nodes.now (map (λ k. k.items) keys.now) shown.now) }
+    {
+        roll(
+            self.rt,
+            alloc,
+            index,
+            nodes,
+            shown,
+            keys,
+            self.workers,
+            self.gate,
+        )
     }
 }

@@ -79,9 +79,9 @@ fn add_keys<L: Ledger>(
     ensures steps { steps.new ≤ steps.old + length level.now.1 }
 {
     let mut all = all;
-    let groups = level.groups();
-    for k in 0..groups.len() {
-        let columns = key_columns(alloc, level.paths(), groups.key(k))?;
+    for k in 0..level.len() {
+        let key = level.key(alloc, k)?;
+        let columns = key_columns(alloc, level.paths(), key.as_slice())?;
         all.push(Row::make(alloc, Vec::new(alloc), None, columns, steps)?)?;
     }
     Ok(all)

@@ -5,13 +5,14 @@ ghost use Rattle.context_typing.specs.Typing.{group_keys, plain_paths, rollup_pa
 ghost use Rattle.apply_meaning.specs.Meaning.{level_paths};
 ghost use Rattle.apply_meaning.specs.Running.{all_of};
 ghost use Rattle.group_rollup.specs.Groupings.{groups};
-ghost use Rattle.plan_run.specs.Forms.{are_built_keys};
-ghost use Rattle.plan_run.specs.Levels.{AreKeys, GivesFor, GivesLevels, part_of};
+ghost use Rattle.plan_run.specs.RecursiveKeys.{are_flat_keys};
+ghost use Rattle.plan_run.specs.Levels.{AreKeys, GivesFor, GivesFlatLevels, part_of, with_node};
 
 use crate::contexts::Context;
-use aggregate_ops::Groups;
+use aggregate_ops::{Groups, copies};
 use apply_ast::{KeyItem, KeyList, Path};
 use apply_meaning::{Row, RunRefused};
+use edm_values::Value;
 use par_stages::Gate;
 use std::alloc::{AllocError, Global};
 use std::marker::Model;
@@ -41,7 +42,7 @@ impl<'a> Model for LevelKeys<'a> {
 }
 
 /// The plain keys.
-fn plain_keys(alloc: Global, keys: &[KeyItem]) -> Result<Vec<Path>, AllocError>
+pub(crate) fn plain_keys(alloc: Global, keys: &[KeyItem]) -> Result<Vec<Path>, AllocError>
     ensures { IfOk result (λ paths. paths.items ≡ plain_paths (keys_from (map key_of keys.now))) }
 {
     let mut paths = Vec::new(alloc);
@@ -55,7 +56,7 @@ fn plain_keys(alloc: Global, keys: &[KeyItem]) -> Result<Vec<Path>, AllocError>
 
 /// The first rollup among the keys.
 fn first_rollup(keys: &[KeyItem]) -> Option<Rollup<'_>>
-    requires { IsTrue (are_built_keys (keys_from (map key_of keys.now))) }
+    requires { IsTrue (are_flat_keys (keys_from (map key_of keys.now))) }
     ensures { part_of (option_map (λ r. (r.with_all, r.paths.now)) result) ≡ rollup_part (group_keys (keys_from (map key_of keys.now))) }
 {
     for key in keys {
@@ -71,7 +72,7 @@ fn first_rollup(keys: &[KeyItem]) -> Option<Rollup<'_>>
 
 /// The keys of a grouping, taken apart.
 fn taken_apart(alloc: Global, keys: &KeyList) -> Result<LevelKeys<'_>, AllocError>
-    requires { IsTrue (are_built_keys (keys_of keys.now)) }
+    requires { IsTrue (are_flat_keys (keys_of keys.now)) }
     ensures { IfOk result (AreKeys (keys_of keys.now)) }
 {
     Ok(LevelKeys {
@@ -133,22 +134,36 @@ fn paths_at(alloc: Global, keys: &LevelKeys<'_>, k: usize) -> Result<Vec<Path>, 
     }
 }
 
-/// A level of a grouping: its paths, and the groups by them.
+/// A level of a grouping: its paths, and the groups by them. The key of each group of a recursive rollup ends with the
+/// identifier of the node.
 #[derive(Drop)]
 pub(crate) struct Level {
     paths: Vec<Path>,
     groups: Groups,
+    node: Option<Value>,
 }
 
 impl Model for Level {
     ghost use Rattle.plan_run.specs.Levels as seen;
+    ghost use Rattle.plan_run.specs.Levels.{with_node};
 
     ghost Value = { seen.Level };
 
-    ghost view = { λ l. (l.paths.items, l.groups) };
+    ghost view = { λ l. (l.paths.items, with_node l.node l.groups) };
 }
 
 impl Level {
+    /// The level of a recursive rollup that has the groups of the rows at a node or below it.
+    pub(crate) fn of_node(paths: Vec<Path>, groups: Groups, node: Value) -> Level
+        ensures { result ≡ (paths.items, with_node (Some node) groups) }
+    {
+        Level {
+            paths,
+            groups,
+            node: Some(node),
+        }
+    }
+
     /// The paths.
     pub(crate) fn paths(&self) -> &[Path]
         ensures { result.now ≡ self.now.0 }
@@ -156,11 +171,31 @@ impl Level {
         self.paths.as_slice()
     }
 
-    /// The groups.
-    pub(crate) fn groups(&self) -> &Groups
-        ensures { result.now ≡ self.now.1 }
+    /// How many groups there are.
+    pub(crate) fn len(&self) -> usize
+        ensures { result ≡ length self.now.1 }
     {
-        &self.groups
+        self.groups.len()
+    }
+
+    /// The key of group k, counted from 0.
+    pub(crate) fn key(&self, alloc: Global, k: usize) -> Result<Vec<Value>, AllocError>
+        requires { k < length self.now.1 }
+        ensures { IfOk result (λ key. Some key.items ≡ option_map (λ g. g.0) (slice_get self.now.1 k)) }
+    {
+        let mut key = copies(alloc, self.groups.key(k))?;
+        if let Some(node) = &self.node {
+            key.push(node.seen().own(alloc)?)?;
+        }
+        Ok(key)
+    }
+
+    /// The places of group k, counted from 0.
+    pub(crate) fn places(&self, k: usize) -> &[usize]
+        requires { k < length self.now.1 }
+        ensures { Some result.now ≡ option_map (λ g. g.1) (slice_get self.now.1 k) }
+    {
+        self.groups.places(k)
     }
 }
 
@@ -176,21 +211,25 @@ fn with_paths(
     let mut levels = Vec::with_capacity(alloc, found.len())?;
     for groups in found {
         let paths = paths_at(alloc, keys, levels.len())?;
-        levels.push(Level { paths, groups })?;
+        levels.push(Level {
+            paths,
+            groups,
+            node: None,
+        })?;
     }
     Ok(levels)
 }
 
-/// The levels of a grouping on rows, the finest first, each with its groups.
+/// The levels of a grouping without a recursive rollup on rows, the finest first, each with its groups.
 pub(crate) fn levels_of<R: Threads + Sync, G: Gate>(
     alloc: Global,
     context: &Context<'_, R, G>,
     keys: &KeyList,
     rows: &[Row],
 ) -> Result<Vec<Level>, RunRefused>
-    requires built { IsTrue (are_built_keys (keys_of keys.now)) }
+    requires flat { IsTrue (are_flat_keys (keys_of keys.now)) }
     requires of { IsTrue (all_of context.now.world rows.now) }
-    ensures { GivesLevels result context.now.world (keys_of keys.now) rows.now }
+    ensures { GivesFlatLevels result context.now.world (keys_of keys.now) rows.now }
 {
     let keys = taken_apart(alloc, keys)?;
     let found = level_groups(alloc, context, &keys, rows)?;

@@ -1,42 +1,52 @@
 //! Pipelines over lists of rows.
-ghost use Rattle.std.specs.Prelude.{◌≡◌, ◌+◌, ◌≤◌, ◌<◌, List, Some, IsTrue, length, drop, flat_map, get_or, map, option_map, slice_get, sum};
+ghost use Rattle.std.specs.Prelude.{◌≡◌, ℕ, ◌+◌, ◌≤◌, ◌<◌, ◌∷◌, [], All, List, Option, Some, IfOk, IsTrue, is_some, length, drop, flat_map, get_or, map, option_map, slice_get, sum};
 ghost use Rattle.std.specs.List.{list_all};
 ghost use Rattle.edm_values.specs.declared.Value.{Value as Value'};
 ghost use Rattle.edm_values.specs.Lists.{at_places};
-ghost use Rattle.edm_model.specs.LookUps.{IsNavigation, navigation_on};
+ghost use Rattle.edm_model.specs.LookUps.{HierarchyPlace, IsNavigation, navigation_on};
 ghost use Rattle.edm_model.specs.Models.{Navigation};
+ghost use Rattle.edm_data.specs.References.{count};
 ghost use Rattle.apply_ast.specs.Trees as tree;
 ghost use Rattle.apply_ast.specs.Trees.{pipe};
-ghost use Rattle.apply_ast.specs.Views.{inner_of, join_of, keys_of, pipe_of, pipes_in, pipes_of, step_of, top_of};
+ghost use Rattle.apply_ast.specs.Views.{climb_of, hier_of, inner_of, join_of, keys_of, pipe_of, pipes_in, pipes_of, step_of, top_of};
 ghost use Rattle.context_typing.specs.Readings.{readings};
 ghost use Rattle.context_typing.specs.Shapes.{Shape, set_shape};
 ghost use Rattle.context_typing.specs.Typing as typing;
-ghost use Rattle.context_typing.specs.Typing.{root_type};
+ghost use Rattle.context_typing.specs.Typing.{hierarchy_at, root_type};
 ghost use Rattle.apply_meaning.specs.Meaning as meaning;
-ghost use Rattle.apply_meaning.specs.Meaning.{grouped, inner_mean, joined, keys, mean, step_mean, values};
+ghost use Rattle.apply_meaning.specs.Instances as instances;
+ghost use Rattle.apply_meaning.specs.Meaning.{inner_mean, joined, mean, shown_of, step_mean, values};
 ghost use Rattle.apply_meaning.specs.Running.{Gives, all_of};
 ghost use Rattle.join_concat.specs.Joins.{has_root_of};
-ghost use Rattle.plan_run.specs.Conditions.{BranchesReady, BranchesRun, GivesAll, GroupReady, GroupRuns, InnerReady, InnerRuns, LevelsReady, LevelsRun, LimitReady, ReadyFrom, RelatedReady, RelatedRun, RunsFrom, StepReadyFrom, StepRunsFrom, charge_of, made_of};
-ghost use Rattle.plan_run.specs.Costs.{application, applications, cost, groups, inner_cost, step_cost};
-ghost use Rattle.plan_run.specs.Forms.{are_built_branches, are_built_keys, is_built, is_built_inner, is_built_step};
-ghost use Rattle.plan_run.specs.Levels.{AreLevels, IsLevel, KeysDiffer};
+ghost use Rattle.row_orders.specs.Ranks.{GivesNumbers};
+ghost use Rattle.hier_states.specs.NamedHierarchies.{branch_hierarchies, hierarchies, inner_hierarchies, keys_hierarchies, step_hierarchies};
+ghost use Rattle.hier_states.specs.States.{IsReadyAt};
+ghost use Rattle.plan_run.specs.Conditions.{AreReady, BranchesReady, BranchesRun, GivesAll, GroupReady, GroupRuns, InnerReady, InnerRuns, KeysReady, LevelsReady, LevelsRun, LimitReady, ReadyFrom, RelatedReady, RelatedRun, RunsFrom, ShownReady, ShownRuns, StepReadyFrom, StepRunsFrom, charge_of};
+ghost use Rattle.plan_run.specs.Costs.{application, applications, cost, given_applications, inner_cost, keys_cost, step_cost};
+ghost use Rattle.plan_run.specs.Levels.{GivesLevels, group_made, level_lists, level_made};
 
 use crate::aggregations::aggregated;
 use crate::contexts::Context;
 use crate::copies::copy_rows;
 use crate::groups::{key_rows, members, with_keys};
+use crate::hierarchies::{climb_rows, traverse_rows};
 use crate::joins::{alias_ready, join_navigation};
 use crate::levels::{Level, levels_of};
-use crate::orders::order_rows;
+use crate::recursive::node_levels;
 use crate::roots::root_after;
 use crate::selections::select_rows;
-use apply_ast::{JoinStep, KeyList, Name, Pipe, PipeList, Step, TopStep};
+use apply_ast::{
+    ClimbStep, HierName, JoinStep, KeyItem, KeyList, Name, Pipe, PipeList, Step, TopStep,
+};
 use apply_meaning::{
-    Row, RunRefused, Steps, compute_rows, data_is_loaded, filter_rows, skip_rows, top_rows,
+    Row, RunRefused, Steps, compute_rows, data_is_loaded, filter_rows, set_rows, skip_rows,
+    top_rows,
 };
 use edm_model::{NavId, TypeId};
+use hier_rows::{all_nodes, shown_nodes};
 use join_concat::{concat, join, outerjoin, related_rows};
 use par_stages::Gate;
+use row_orders::order_rows;
 use std::alloc::Global;
 use std::sync::ledger::Ledger;
 use std::thread::Threads;
@@ -56,40 +66,6 @@ fn step_ready<R: Threads + Sync, G: Gate>(
     ensures { StepReadyFrom context.now root.now (step_of step.now) rows.now.items }
 {}
 
-/// The key columns of a typed grouping differ.
-fn keys_ready<R: Threads + Sync, G: Gate>(
-    context: &Context<'_, R, G>,
-    root: &Option<TypeId>,
-    inner: &Option<Pipe>,
-    keys: &KeyList,
-    rows: &[Row],
-)
-    requires built { IsTrue (are_built_keys (keys_of keys.now)) }
-    requires ready { StepReadyFrom context.now root.now (tree.Step.GroupBy (keys_of keys.now) (inner_of (option_map pipe_of inner.now))) rows.now }
-    ensures { KeysDiffer (keys_of keys.now) }
-{
-    data_is_loaded(context.store());
-}
-
-/// The inner pipeline of a grouping may be run on the groups of each level.
-fn levels_ready<R: Threads + Sync, G: Gate>(
-    context: &Context<'_, R, G>,
-    root: &Option<TypeId>,
-    inner: &Option<Pipe>,
-    pipe: &Pipe,
-    keys: &KeyList,
-    levels: &[Level],
-    rows: &[Row],
-)
-    requires inner { inner.now ≡ Some pipe.now }
-    requires built { IsTrue (are_built_keys (keys_of keys.now)) }
-    requires levels { AreLevels context.now.world (keys_of keys.now) rows.now levels.now }
-    requires ready { StepReadyFrom context.now root.now (tree.Step.GroupBy (keys_of keys.now) (inner_of (option_map pipe_of inner.now))) rows.now }
-    ensures { LevelsReady context.now root.now (map (λ level. level.0) levels.now) (pipe_of pipe.now) rows.now }
-{
-    data_is_loaded(context.store());
-}
-
 /// The inner pipeline of a grouping may be run on the groups of one level.
 fn level_ready<R: Threads + Sync, G: Gate>(
     context: &Context<'_, R, G>,
@@ -102,8 +78,8 @@ fn level_ready<R: Threads + Sync, G: Gate>(
 )
     requires within { i < length levels.now }
     requires level { level.now ≡ get_or levels.now i level.now }
-    requires ready { LevelsReady context.now root.now (map (λ level. level.0) levels.now) (pipe_of pipe.now) rows.now }
-    ensures { GroupReady context.now root.now level.now.0 (pipe_of pipe.now) rows.now }
+    requires ready { LevelsReady context.now root.now levels.now (pipe_of pipe.now) rows.now }
+    ensures { GroupReady context.now root.now level.now (pipe_of pipe.now) rows.now }
 {}
 
 /// The inner pipeline of a grouping may be run on some of the rows.
@@ -115,7 +91,7 @@ fn group_ready<R: Threads + Sync, G: Gate>(
     rows: &[Row],
     places: &[usize],
 )
-    requires ready { GroupReady context.now root.now level.now.0 (pipe_of pipe.now) rows.now }
+    requires ready { GroupReady context.now root.now level.now (pipe_of pipe.now) rows.now }
     ensures { ReadyFrom context.now root.now (pipe_of pipe.now) (at_places rows.now places.now) }
 {}
 
@@ -207,7 +183,7 @@ pub(crate) fn run_pipe<R: Threads + Sync, G: Gate, L: Ledger>(
     steps: &mut Steps<L>,
 ) -> Result<Vec<Row>, RunRefused>
     requires ready { ReadyFrom context.now root.now (pipe_of pipe.now) rows.items }
-    requires built { IsTrue (is_built (pipe_of pipe.now)) }
+    requires named { AreReady context.now (hierarchies (pipe_of pipe.now)) }
     ensures mean { (S S' : Shape) → RunsFrom context.now root.now S S' (pipe_of pipe.now) rows.items
         → Gives result (mean context.now.world (readings context.now.customs) S (pipe_of pipe.now) rows.items) }
     ensures steps { (S S' : Shape) → RunsFrom context.now root.now S S' (pipe_of pipe.now) rows.items
@@ -236,7 +212,7 @@ fn run_step<R: Threads + Sync, G: Gate, L: Ledger>(
     steps: &mut Steps<L>,
 ) -> Result<Vec<Row>, RunRefused>
     requires ready { StepReadyFrom context.now root.now (step_of step.now) rows.items }
-    requires built { IsTrue (is_built_step (step_of step.now)) }
+    requires named { AreReady context.now (step_hierarchies (step_of step.now)) }
     ensures mean { (S S' : Shape) → StepRunsFrom context.now root.now S S' (step_of step.now) rows.items
         → Gives result (step_mean context.now.world (readings context.now.customs) S (step_of step.now) rows.items) }
     ensures steps { (S S' : Shape) → StepRunsFrom context.now root.now S S' (step_of step.now) rows.items
@@ -246,7 +222,14 @@ fn run_step<R: Threads + Sync, G: Gate, L: Ledger>(
     data_is_loaded(store);
     match step {
         Step::GroupBy(keys, inner) => {
-            run_grouping(alloc, context, root, inner, keys, rows.as_slice(), steps)
+            let list = rows.as_slice();
+            let levels = grouping_levels(alloc, context, keys, list, steps)?;
+            match inner {
+                Some(pipe) => {
+                    run_levels(alloc, context, root, pipe, levels.as_slice(), list, steps)
+                }
+                None => Ok(key_rows(alloc, levels.as_slice(), steps)?),
+            }
         }
         Step::Concat(branches) => {
             run_concat(alloc, context, root, branches, rows.as_slice(), steps)
@@ -256,6 +239,8 @@ fn run_step<R: Threads + Sync, G: Gate, L: Ledger>(
             selection_ready(context, root, top, &rows);
             select_rows(alloc, store, top, rows)
         }
+        Step::Climb(climb) => run_climb(alloc, context, root, climb, rows, steps),
+        Step::Traverse(walk) => traverse_rows(alloc, context, walk, rows.as_slice(), steps),
         Step::Identity => Ok(rows),
         Step::Filter(e) => filter_rows(alloc, store, e, rows),
         Step::Compute(items) => Ok(compute_rows(alloc, store, items.as_slice(), rows, steps)?),
@@ -270,39 +255,70 @@ fn run_step<R: Threads + Sync, G: Gate, L: Ledger>(
             rows.as_slice(),
             steps,
         )?),
-        _ => unreachable!(),
     }
 }
 
-/// The rows that a grouping gives.
+/// The levels of a grouping on rows, each with its groups.
 #[cycle(run)]
-fn run_grouping<R: Threads + Sync, G: Gate, L: Ledger>(
+fn grouping_levels<R: Threads + Sync, G: Gate, L: Ledger>(
     alloc: Global,
     context: &Context<'_, R, G>,
-    root: &Option<TypeId>,
-    inner: &Option<Pipe>,
     keys: &KeyList,
     rows: &[Row],
     steps: &mut Steps<L>,
-) -> Result<Vec<Row>, RunRefused>
-    requires ready { StepReadyFrom context.now root.now (tree.Step.GroupBy (keys_of keys.now) (inner_of (option_map pipe_of inner.now))) rows.now }
-    requires keys { IsTrue (are_built_keys (keys_of keys.now)) }
-    requires inner { IsTrue (is_built_inner (inner_of (option_map pipe_of inner.now))) }
-    ensures mean { let s = tree.Step.GroupBy (keys_of keys.now) (inner_of (option_map pipe_of inner.now)) in
-        (S S' : Shape) → StepRunsFrom context.now root.now S S' s rows.now → Gives result (step_mean context.now.world (readings context.now.customs) S s rows.now) }
-    ensures steps { let s = tree.Step.GroupBy (keys_of keys.now) (inner_of (option_map pipe_of inner.now)) in
-        (S S' : Shape) → StepRunsFrom context.now root.now S S' s rows.now → steps.new ≤ steps.old + step_cost context.now.world (readings context.now.customs) S s rows.now }
+) -> Result<Vec<Level>, RunRefused>
+    requires of { IsTrue (all_of context.now.world rows.now) }
+    requires ready { KeysReady context.now (keys_of keys.now) }
+    requires named { AreReady context.now (keys_hierarchies (keys_of keys.now)) }
+    ensures levels { GivesLevels result context.now.world (readings context.now.customs) (keys_of keys.now) rows.now }
+    ensures steps { steps.new ≤ steps.old + keys_cost context.now.world (readings context.now.customs) (keys_of keys.now) }
 {
-    data_is_loaded(context.store());
-    keys_ready(context, root, inner, keys, rows);
-    let found = levels_of(alloc, context, keys, rows)?;
-    let levels = found.as_slice();
+    let items = keys.as_slice();
+    for key in items {
+        match key {
+            KeyItem::Plain(_) => {}
+            KeyItem::Rollup(..) => {}
+            KeyItem::Recursive(hier, path, inner) => {
+                let shown = run_shown(alloc, context, hier, inner, steps)?;
+                return node_levels(alloc, context, keys, hier, path, shown.as_slice(), rows);
+            }
+        }
+    }
+    levels_of(alloc, context, keys, rows)
+}
+
+/// The nodes that a recursive rollup shows: those that its pipeline gives from all nodes on, each once, or all nodes where there
+/// is no pipeline.
+#[cycle(run)]
+fn run_shown<R: Threads + Sync, G: Gate, L: Ledger>(
+    alloc: Global,
+    context: &Context<'_, R, G>,
+    hier: &HierName,
+    inner: &Option<Pipe>,
+    steps: &mut Steps<L>,
+) -> Result<Vec<u32>, RunRefused>
+    requires there { IsTrue (is_some (hierarchy_at context.now.world.model (hier_of hier.now))) }
+    requires index { IsReadyAt context.now.world context.now.hiers (hier_of hier.now) }
+    requires ready { ShownReady context.now (hier_of hier.now) (inner_of (option_map pipe_of inner.now)) }
+    requires named { AreReady context.now (inner_hierarchies (inner_of (option_map pipe_of inner.now))) }
+    ensures shown { (f : HierarchyPlace) → hierarchy_at context.now.world.model (hier_of hier.now) ≡ Some f
+        → GivesNumbers result (option_map shown_of (inner_mean context.now.world (readings context.now.customs) (set_shape f.type) (λ l. Some l) (inner_of (option_map pipe_of inner.now)) (instances.rows context.now.world f.set))) }
+    ensures within { (f : HierarchyPlace) → hierarchy_at context.now.world.model (hier_of hier.now) ≡ Some f
+        → IfOk result (λ shown. All (λ x. x < count context.now.world f.set) shown.items) }
+    ensures steps { (f : HierarchyPlace) → hierarchy_at context.now.world.model (hier_of hier.now) ≡ Some f
+        → steps.new ≤ steps.old + given_applications context.now.world (readings context.now.customs) (set_shape f.type) (inner_of (option_map pipe_of inner.now)) (instances.rows context.now.world f.set ∷ []) }
+{
+    let store = context.store();
+    data_is_loaded(store);
+    let nodes = context.nodes(hier);
     match inner {
         Some(pipe) => {
-            levels_ready(context, root, inner, pipe, keys, levels, rows);
-            run_levels(alloc, context, root, pipe, levels, rows, steps)
+            let root = Some(store.model().set_type(nodes.set));
+            let rows = set_rows(alloc, store, nodes.set, steps)?;
+            let made = run_pipe(alloc, context, &root, pipe, rows, steps)?;
+            Ok(shown_nodes(alloc, store.count(nodes.set), made.as_slice())?)
         }
-        None => Ok(key_rows(alloc, levels, steps)?),
+        None => Ok(all_nodes(alloc, store, nodes.set)?),
     }
 }
 
@@ -317,13 +333,12 @@ fn run_levels<R: Threads + Sync, G: Gate, L: Ledger>(
     rows: &[Row],
     steps: &mut Steps<L>,
 ) -> Result<Vec<Row>, RunRefused>
-    requires levels { (n : _) (level : _) → slice_get levels.now n ≡ Some level → IsLevel context.now.world rows.now level }
-    requires ready { LevelsReady context.now root.now (map (λ level. level.0) levels.now) (pipe_of pipe.now) rows.now }
-    requires built { IsTrue (is_built (pipe_of pipe.now)) }
-    ensures mean { (S G' : Shape) → LevelsRun context.now root.now S G' (map (λ level. level.0) levels.now) (pipe_of pipe.now) rows.now
-        → Gives result (joined (map (λ level. grouped context.now.world level.0 (mean context.now.world (readings context.now.customs) S (pipe_of pipe.now)) rows.now) levels.now)) }
-    ensures steps { (S G' : Shape) → LevelsRun context.now root.now S G' (map (λ level. level.0) levels.now) (pipe_of pipe.now) rows.now
-        → steps.new ≤ steps.old + sum (map (application (cost context.now.world (readings context.now.customs) S (pipe_of pipe.now)) (mean context.now.world (readings context.now.customs) S (pipe_of pipe.now))) (flat_map (λ level. groups context.now.world level.0 rows.now) levels.now)) }
+    requires ready { LevelsReady context.now root.now levels.now (pipe_of pipe.now) rows.now }
+    requires named { AreReady context.now (hierarchies (pipe_of pipe.now)) }
+    ensures mean { (S G' : Shape) → LevelsRun context.now root.now S G' levels.now (pipe_of pipe.now) rows.now
+        → Gives result (joined (map (level_made (mean context.now.world (readings context.now.customs) S (pipe_of pipe.now)) rows.now) levels.now)) }
+    ensures steps { (S G' : Shape) → LevelsRun context.now root.now S G' levels.now (pipe_of pipe.now) rows.now
+        → steps.new ≤ steps.old + sum (map (application (cost context.now.world (readings context.now.customs) S (pipe_of pipe.now)) (mean context.now.world (readings context.now.customs) S (pipe_of pipe.now))) (flat_map (level_lists rows.now) levels.now)) }
 {
     let mut all = Vec::new(alloc);
     for (i, level) in levels.iter().enumerate() {
@@ -345,16 +360,15 @@ fn run_groups<R: Threads + Sync, G: Gate, L: Ledger>(
     rows: &[Row],
     steps: &mut Steps<L>,
 ) -> Result<Vec<Row>, RunRefused>
-    requires level { IsLevel context.now.world rows.now level.now }
-    requires ready { GroupReady context.now root.now level.now.0 (pipe_of pipe.now) rows.now }
-    requires built { IsTrue (is_built (pipe_of pipe.now)) }
-    ensures mean { (S G' : Shape) → GroupRuns context.now root.now S G' level.now.0 (pipe_of pipe.now) rows.now
-        → Gives result (grouped context.now.world level.now.0 (mean context.now.world (readings context.now.customs) S (pipe_of pipe.now)) rows.now) }
-    ensures steps { (S G' : Shape) → GroupRuns context.now root.now S G' level.now.0 (pipe_of pipe.now) rows.now
-        → steps.new ≤ steps.old + sum (map (application (cost context.now.world (readings context.now.customs) S (pipe_of pipe.now)) (mean context.now.world (readings context.now.customs) S (pipe_of pipe.now))) (groups context.now.world level.now.0 rows.now)) }
+    requires ready { GroupReady context.now root.now level.now (pipe_of pipe.now) rows.now }
+    requires named { AreReady context.now (hierarchies (pipe_of pipe.now)) }
+    ensures mean { (S G' : Shape) → GroupRuns context.now root.now S G' level.now (pipe_of pipe.now) rows.now
+        → Gives result (level_made (mean context.now.world (readings context.now.customs) S (pipe_of pipe.now)) rows.now level.now) }
+    ensures steps { (S G' : Shape) → GroupRuns context.now root.now S G' level.now (pipe_of pipe.now) rows.now
+        → steps.new ≤ steps.old + sum (map (application (cost context.now.world (readings context.now.customs) S (pipe_of pipe.now)) (mean context.now.world (readings context.now.customs) S (pipe_of pipe.now))) (level_lists rows.now level.now)) }
 {
     let mut all = Vec::new(alloc);
-    for k in 0..level.groups().len() {
+    for k in 0..level.len() {
         let mut made = run_group(alloc, context, root, pipe, level, k, rows, steps)?;
         all.append(&mut made)?;
     }
@@ -373,23 +387,45 @@ fn run_group<R: Threads + Sync, G: Gate, L: Ledger>(
     rows: &[Row],
     steps: &mut Steps<L>,
 ) -> Result<Vec<Row>, RunRefused>
-    requires level { IsLevel context.now.world rows.now level.now }
     requires within { k < length level.now.1 }
-    requires ready { GroupReady context.now root.now level.now.0 (pipe_of pipe.now) rows.now }
-    requires built { IsTrue (is_built (pipe_of pipe.now)) }
-    ensures mean { (S G' : Shape) (key : List Value') → GroupRuns context.now root.now S G' level.now.0 (pipe_of pipe.now) rows.now
-        → slice_get (keys context.now.world level.now.0 rows.now) k ≡ Some key
-        → Gives result (made_of context.now S level.now.0 (pipe_of pipe.now) rows.now key) }
-    ensures steps { (S G' : Shape) (key : List Value') → GroupRuns context.now root.now S G' level.now.0 (pipe_of pipe.now) rows.now
-        → slice_get (keys context.now.world level.now.0 rows.now) k ≡ Some key
-        → steps.new ≤ steps.old + charge_of context.now S level.now.0 (pipe_of pipe.now) rows.now key }
+    requires ready { GroupReady context.now root.now level.now (pipe_of pipe.now) rows.now }
+    requires named { AreReady context.now (hierarchies (pipe_of pipe.now)) }
+    ensures mean { (S G' : Shape) (g : List Value' × List ℕ) → GroupRuns context.now root.now S G' level.now (pipe_of pipe.now) rows.now
+        → slice_get level.now.1 k ≡ Some g
+        → Gives result (group_made level.now.0 (mean context.now.world (readings context.now.customs) S (pipe_of pipe.now)) rows.now g) }
+    ensures steps { (S G' : Shape) (g : List Value' × List ℕ) → GroupRuns context.now root.now S G' level.now (pipe_of pipe.now) rows.now
+        → slice_get level.now.1 k ≡ Some g
+        → steps.new ≤ steps.old + charge_of context.now S (pipe_of pipe.now) rows.now g }
 {
-    let groups = level.groups();
-    let places = groups.places(k);
+    let places = level.places(k);
     group_ready(context, root, pipe, level, rows, places);
     let copies = members(alloc, rows, places, steps)?;
     let results = run_pipe(alloc, context, root, pipe, copies, steps)?;
-    Ok(with_keys(alloc, level.paths(), groups.key(k), results, steps)?)
+    let key = level.key(alloc, k)?;
+    Ok(with_keys(alloc, level.paths(), key.as_slice(), results, steps)?)
+}
+
+/// The rows that a climb keeps: those whose node is an ancestor, or a descendant, of a node that the inner pipeline comes to.
+#[cycle(run)]
+fn run_climb<R: Threads + Sync, G: Gate, L: Ledger>(
+    alloc: Global,
+    context: &Context<'_, R, G>,
+    root: &Option<TypeId>,
+    climb: &ClimbStep,
+    rows: Vec<Row>,
+    steps: &mut Steps<L>,
+) -> Result<Vec<Row>, RunRefused>
+    requires ready { StepReadyFrom context.now root.now (climb_of climb.now) rows.items }
+    requires named { AreReady context.now (step_hierarchies (climb_of climb.now)) }
+    ensures mean { (S S' : Shape) → StepRunsFrom context.now root.now S S' (climb_of climb.now) rows.items
+        → Gives result (step_mean context.now.world (readings context.now.customs) S (climb_of climb.now) rows.items) }
+    ensures steps { (S S' : Shape) → StepRunsFrom context.now root.now S S' (climb_of climb.now) rows.items
+        → steps.new ≤ steps.old + step_cost context.now.world (readings context.now.customs) S (climb_of climb.now) rows.items }
+{
+    data_is_loaded(context.store());
+    let copies = copy_rows(alloc, rows.as_slice(), steps)?;
+    let starts = run_pipe(alloc, context, root, &climb.inner, copies, steps)?;
+    climb_rows(alloc, context, climb, rows, starts.as_slice())
 }
 
 /// The rows that a concatenation gives: those of each branch on the same rows.
@@ -403,7 +439,7 @@ fn run_concat<R: Threads + Sync, G: Gate, L: Ledger>(
     steps: &mut Steps<L>,
 ) -> Result<Vec<Row>, RunRefused>
     requires ready { StepReadyFrom context.now root.now (tree.Step.Concat (pipes_of branches.now)) rows.now }
-    requires built { IsTrue (are_built_branches (pipes_of branches.now)) }
+    requires named { AreReady context.now (branch_hierarchies (pipes_of branches.now)) }
     ensures mean { (S S' : Shape) → StepRunsFrom context.now root.now S S' (tree.Step.Concat (pipes_of branches.now)) rows.now
         → Gives result (step_mean context.now.world (readings context.now.customs) S (tree.Step.Concat (pipes_of branches.now)) rows.now) }
     ensures steps { (S S' : Shape) → StepRunsFrom context.now root.now S S' (tree.Step.Concat (pipes_of branches.now)) rows.now
@@ -426,7 +462,7 @@ fn run_branches<R: Threads + Sync, G: Gate, L: Ledger>(
     steps: &mut Steps<L>,
 ) -> Result<Vec<Vec<Row>>, RunRefused>
     requires ready { BranchesReady context.now root.now (map pipe_of branches.now) rows.now }
-    requires built { IsTrue (list_all is_built (map pipe_of branches.now)) }
+    requires named { (n : ℕ) (p : tree.Pipe) → slice_get (map pipe_of branches.now) n ≡ Some p → AreReady context.now (hierarchies p) }
     ensures mean { (S : Shape) → BranchesRun context.now root.now S (map pipe_of branches.now) rows.now
         → GivesAll result (map (λ p. mean context.now.world (readings context.now.customs) S p rows.now) (map pipe_of branches.now)) }
     ensures steps { (S : Shape) → BranchesRun context.now root.now S (map pipe_of branches.now) rows.now
@@ -452,7 +488,7 @@ fn run_join<R: Threads + Sync, G: Gate, L: Ledger>(
     steps: &mut Steps<L>,
 ) -> Result<Vec<Row>, RunRefused>
     requires ready { StepReadyFrom context.now root.now (join_of join.now) rows.now }
-    requires built { IsTrue (is_built_step (join_of join.now)) }
+    requires named { AreReady context.now (step_hierarchies (join_of join.now)) }
     ensures mean { (S S' : Shape) → StepRunsFrom context.now root.now S S' (join_of join.now) rows.now
         → Gives result (step_mean context.now.world (readings context.now.customs) S (join_of join.now) rows.now) }
     ensures steps { (S S' : Shape) → StepRunsFrom context.now root.now S S' (join_of join.now) rows.now
@@ -485,7 +521,7 @@ fn run_joined<R: Threads + Sync, G: Gate, L: Ledger>(
     steps: &mut Steps<L>,
 ) -> Result<Vec<Row>, RunRefused>
     requires ready { StepReadyFrom context.now root.now (tree.Step.Join outer nav.now alias.now (inner_of (option_map pipe_of inner.now))) rows.now }
-    requires built { IsTrue (is_built_inner (inner_of (option_map pipe_of inner.now))) }
+    requires named { AreReady context.now (inner_hierarchies (inner_of (option_map pipe_of inner.now))) }
     ensures mean { let s = tree.Step.Join outer nav.now alias.now (inner_of (option_map pipe_of inner.now)) in
         (S S' : Shape) → StepRunsFrom context.now root.now S S' s rows.now → Gives result (step_mean context.now.world (readings context.now.customs) S s rows.now) }
     ensures steps { let s = tree.Step.Join outer nav.now alias.now (inner_of (option_map pipe_of inner.now)) in
@@ -516,7 +552,7 @@ fn run_related<R: Threads + Sync, G: Gate, L: Ledger>(
     requires many { (v : Navigation) → navigation_on context.now.world.model nav ≡ Some v → IsTrue v.many }
     requires roots { IsTrue (list_all (has_root_of context.now.world nav.of) rows.now) }
     requires ready { RelatedReady context.now nav (inner_of (option_map pipe_of inner.now)) rows.now }
-    requires built { IsTrue (is_built_inner (inner_of (option_map pipe_of inner.now))) }
+    requires named { AreReady context.now (inner_hierarchies (inner_of (option_map pipe_of inner.now))) }
     ensures mean { (v : Navigation) (T' : Shape) → navigation_on context.now.world.model nav ≡ Some v
         → RelatedRun context.now v T' (inner_of (option_map pipe_of inner.now)) rows.now
         → GivesAll result (map (λ i. inner_mean context.now.world (readings context.now.customs) (set_shape v.target) (λ r. Some r) (inner_of (option_map pipe_of inner.now)) (meaning.related_rows context.now.world v i)) rows.now) }
@@ -546,7 +582,7 @@ fn run_inner<R: Threads + Sync, G: Gate, L: Ledger>(
     steps: &mut Steps<L>,
 ) -> Result<Vec<Row>, RunRefused>
     requires ready { InnerReady context.now root.now (inner_of (option_map pipe_of inner.now)) rows.items }
-    requires built { IsTrue (is_built_inner (inner_of (option_map pipe_of inner.now))) }
+    requires named { AreReady context.now (inner_hierarchies (inner_of (option_map pipe_of inner.now))) }
     ensures mean { (S S' : Shape) → InnerRuns context.now root.now S S' (inner_of (option_map pipe_of inner.now)) rows.items
         → Gives result (inner_mean context.now.world (readings context.now.customs) S (λ r. Some r) (inner_of (option_map pipe_of inner.now)) rows.items) }
     ensures steps { (S S' : Shape) → InnerRuns context.now root.now S S' (inner_of (option_map pipe_of inner.now)) rows.items

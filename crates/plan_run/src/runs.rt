@@ -1,5 +1,5 @@
 //! Plans over data.
-ghost use Rattle.std.specs.Prelude.{◌≡◌, ◌+◌, ◌<◌, ◌≤◌, IsTrue, Some};
+ghost use Rattle.std.specs.Prelude.{◌≡◌, ◌+◌, ◌<◌, ◌≤◌, All, IsTrue, Some};
 ghost use Rattle.edm_model.specs.LookUps.{IsSet, set_type};
 ghost use Rattle.apply_ast.specs.Views.{pipe_of};
 ghost use Rattle.context_typing.specs.Readings.{AreTypedOver, readings};
@@ -10,7 +10,8 @@ ghost use Rattle.apply_meaning.specs.Running.{Gives};
 ghost use Rattle.plan_run.specs.Conditions.{RunsFrom};
 ghost use Rattle.optimiser.specs.Plans.{IsPlan, own_of, written_of};
 ghost use Rattle.plan_run.specs.Costs.{total_cost};
-ghost use Rattle.plan_run.specs.Forms.{is_built};
+ghost use Rattle.hier_states.specs.NamedHierarchies.{hierarchies};
+ghost use Rattle.hier_states.specs.States.{IsReadyAt};
 
 use crate::contexts::Context;
 use crate::pipes::run_pipe;
@@ -18,6 +19,7 @@ use apply_meaning::{Row, RunRefused, Steps, data_is_loaded, set_rows};
 use context_typing::Customs;
 use edm_data::Data;
 use edm_model::TypeId;
+use hier_states::HierState;
 use optimiser::Plan;
 use par_stages::Gate;
 use std::alloc::Global;
@@ -42,13 +44,14 @@ fn plan_ready<R: Threads + Sync, G: Gate>(
     let _customs = context.customs();
 }
 
-/// The rows that a plan gives on the instances of its entity set. Lists of values and of keys are folded in at most `workers`
-/// pieces, each of which tells the gate that it begins.
+/// The rows that a plan gives on the instances of its entity set. `hiers` has the states of the model's hierarchies. Lists of
+/// values and of keys are folded in at most `workers` pieces, each of which tells the gate that it begins.
 pub fn run<R: Threads + Sync, G: Gate, L: Ledger>(
     rt: &R,
     alloc: Global,
     store: &Data,
     c: &Customs,
+    hiers: &[HierState],
     plan: &Plan,
     workers: u32,
     gate: &G,
@@ -60,14 +63,14 @@ pub fn run<R: Threads + Sync, G: Gate, L: Ledger>(
     requires customs { IsTrue (customs_typed store.now.model (readings c.now)) }
     requires plan { IsPlan store.now.model (readings c.now) plan.now }
     requires set { IsSet store.now.model (written_of plan.now).set }
-    requires built { IsTrue (is_built (pipe_of (written_of plan.now).pipe)) }
+    requires ready { All (IsReadyAt store.now hiers.now) (hierarchies (pipe_of (written_of plan.now).pipe)) }
     ensures mean { let t = written_of plan.now in
         Gives result (mean store.now (readings c.now) (shape_of_set store.now.model t.set) (pipe_of t.pipe) (instances.rows store.now t.set)) }
     ensures steps { let t = own_of plan.now in steps.new ≤ steps.old + total_cost store.now (readings c.now) t.set (pipe_of t.pipe) }
 {
     let typed = plan.typed();
     let rows = set_rows(alloc, store, typed.set, steps)?;
-    let context = Context::new(rt, store, c, workers, gate);
+    let context = Context::new(rt, store, c, hiers, workers, gate);
     let root = Some(store.model().set_type(typed.set));
     plan_ready(&context, plan, &root, &rows);
     run_pipe(alloc, &context, &root, &typed.pipe, rows, steps)

@@ -60,7 +60,11 @@ fn taken_places(
 }
 
 /// The rows at ascending places.
-fn rows_at(alloc: Global, rows: Vec<Row>, places: &[usize]) -> Result<Vec<Row>, AllocError>
+pub(crate) fn rows_at(
+    alloc: Global,
+    rows: Vec<Row>,
+    places: &[usize],
+) -> Result<Vec<Row>, AllocError>
     requires { (q : ℕ → Bool) × (places.now ≡ filter q (all_places (length rows.items))) }
     ensures { IfOk result (λ kept. kept.items ≡ at_places rows.items places.now) }
 {

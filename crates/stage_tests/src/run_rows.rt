@@ -475,3 +475,280 @@ pub(crate) const JOINED: &[(&str, &str)] = &[
         "0; S@0 | 1; S@2 | 2; S@3 | 0; S@- | 1; S@2 | 2; S@- | 3; S@-",
     ),
 ];
+
+/// Climbs, traversals and recursive rollups.
+pub(crate) const BY_NODES: &[(&str, &str)] = &[
+    // Climbs up: rows at nodes above those of the inner rows, each once and in their own order; a row without a node is none of them.
+    (
+        "Sales?$apply=ancestors($root/Orgs,OrgTree,OrgID,identity)",
+        "5",
+    ),
+    (
+        "Sales?$apply=ancestors($root/Orgs,OrgTree,OrgID,filter(ID eq 1))",
+        "5",
+    ),
+    (
+        "Sales?$apply=ancestors($root/Orgs,OrgTree,OrgID,filter(ID eq 1),1)",
+        "5",
+    ),
+    (
+        "Sales?$apply=ancestors($root/Orgs,OrgTree,OrgID,filter(ID eq 1),keep start)",
+        "0 | 3 | 5",
+    ),
+    (
+        "Sales?$apply=ancestors($root/Orgs,OrgTree,OrgID,filter(ID eq 6),1,keep start)",
+        "5",
+    ),
+    (
+        "Sales?$apply=ancestors($root/Orgs,OrgTree,OrgID,filter(ID eq 5),keep start)",
+        "",
+    ),
+    (
+        "Sales?$apply=ancestors($root/Orgs,OrgTree,OrgID,filter(ID eq 99),keep start)",
+        "",
+    ),
+    (
+        "Sales?$apply=ancestors($root/Orgs,OrgTree,Customer/Name,identity,keep start)",
+        "",
+    ),
+    (
+        "Orgs?$apply=ancestors($root/Orgs,OrgTree,ID,filter(ID eq 'West'))",
+        "0 | 2",
+    ),
+    (
+        "Orgs?$apply=ancestors($root/Orgs,OrgTree,ID,filter(ID eq 'West'),1)",
+        "2",
+    ),
+    (
+        "Orgs?$apply=ancestors($root/Orgs,OrgTree,ID,filter(ID eq 'West' or ID eq 'Lab'),2,keep start)",
+        "0 | 2 | 3 | 5",
+    ),
+    (
+        "Orgs?$apply=ancestors($root/Orgs,OrgTree,ParentID,filter(ID eq 'East'))",
+        "1 | 2",
+    ),
+    // Climbs down.
+    (
+        "Sales?$apply=descendants($root/Orgs,OrgTree,OrgID,filter(ID eq 6))",
+        "0 | 1 | 3",
+    ),
+    (
+        "Sales?$apply=descendants($root/Orgs,OrgTree,OrgID,filter(ID eq 6 or ID eq 1),keep start)",
+        "0 | 1 | 3 | 5",
+    ),
+    (
+        "Sales?$apply=descendants($root/Orgs,OrgTree,OrgID,filter(ID eq 6 or ID eq 1),keep start)/aggregate($count as N)",
+        "-; N: 4",
+    ),
+    (
+        "Orgs?$apply=descendants($root/Orgs,OrgTree,ID,filter(ID eq 'Corp'))",
+        "1 | 2 | 3 | 4",
+    ),
+    (
+        "Orgs?$apply=descendants($root/Orgs,OrgTree,ID,filter(ID eq 'Corp'),1)",
+        "1 | 2",
+    ),
+    (
+        "Orgs?$apply=descendants($root/Orgs,OrgTree,ID,filter(ID eq 'Corp'),2,keep start)",
+        "0 | 1 | 2 | 3 | 4",
+    ),
+    (
+        "Orgs?$apply=descendants($root/Orgs,OrgTree,ParentID,filter(ID eq 'EMEA'),1)",
+        "3 | 4",
+    ),
+    (
+        "Orgs?$apply=descendants($root/Orgs,OrgTree,ID,filter(ParentID eq null),keep start)/filter(ParentID ne null)",
+        "1 | 2 | 3 | 4",
+    ),
+    // Inner pipelines that climb themselves, and climbs in groups, joins and branches.
+    (
+        "Orgs?$apply=descendants($root/Orgs,OrgTree,ID,ancestors($root/Orgs,OrgTree,ID,filter(ID eq 'East'),1),1,keep start)",
+        "2 | 3 | 4",
+    ),
+    (
+        "Sales?$apply=ancestors($root/Orgs,OrgTree,OrgID,descendants($root/Orgs,OrgTree,OrgID,filter(ID eq 6)),1)",
+        "5",
+    ),
+    (
+        "Sales?$apply=descendants($root/Orgs,OrgTree,OrgID,topcount(1,Amount)/ancestors($root/Orgs,OrgTree,OrgID,identity,keep start),keep start)",
+        "0 | 3",
+    ),
+    (
+        "Sales?$apply=groupby((CustomerID),ancestors($root/Orgs,OrgTree,OrgID,filter(ID le 3)))",
+        "5; CustomerID: C1",
+    ),
+    (
+        "Customers?$apply=join(Sales as S,ancestors($root/Orgs,OrgTree,OrgID,identity))",
+        "0; S@5",
+    ),
+    (
+        "Sales?$apply=concat(ancestors($root/Orgs,OrgTree,OrgID,filter(ID eq 1)),descendants($root/Orgs,OrgTree,OrgID,filter(ID eq 6)))",
+        "5 | 0 | 1 | 3",
+    ),
+    (
+        "Sales?$apply=concat(identity,top(1))/descendants($root/Orgs,OrgTree,OrgID,filter(ID eq 6),1)",
+        "0 | 1 | 3 | 0",
+    ),
+    // An inner pipeline that is refused, and one that is run on no row.
+    (
+        "Sales?$apply=ancestors($root/Orgs,OrgTree,OrgID,filter(Amount mul 100000000000000000 gt 0))",
+        "Range",
+    ),
+    (
+        "Sales?$apply=filter(ID eq 99)/ancestors($root/Orgs,OrgTree,OrgID,filter(Amount mul 100000000000000000 gt 0))",
+        "",
+    ),
+    // Traversals: rows by their nodes in the order of the walk, and those of one node in their own order.
+    (
+        "Orgs?$apply=traverse($root/Orgs,OrgTree,ID,preorder)",
+        "0 | 1 | 2 | 3 | 4 | 5",
+    ),
+    (
+        "Orgs?$apply=traverse($root/Orgs,OrgTree,ID,postorder)",
+        "1 | 3 | 4 | 2 | 0 | 5",
+    ),
+    (
+        "Sales?$apply=traverse($root/Orgs,OrgTree,OrgID,preorder)",
+        "2 | 5 | 0 | 3 | 1",
+    ),
+    (
+        "Sales?$apply=traverse($root/Orgs,OrgTree,OrgID,postorder)",
+        "2 | 0 | 3 | 1 | 5",
+    ),
+    (
+        "Orgs?$apply=traverse($root/Orgs,OrgTree,ParentID,postorder)",
+        "3 | 4 | 1 | 2",
+    ),
+    (
+        "Orgs?$apply=traverse($root/Orgs,OrgTree,ID,preorder,ID)",
+        "0 | 1 | 2 | 4 | 3 | 5",
+    ),
+    (
+        "Orgs?$apply=traverse($root/Orgs,OrgTree,ID,preorder,ID desc)",
+        "5 | 0 | 2 | 3 | 4 | 1",
+    ),
+    (
+        "Orgs?$apply=traverse($root/Orgs,OrgTree,ID,postorder,ID desc)",
+        "5 | 3 | 4 | 2 | 1 | 0",
+    ),
+    (
+        "Orgs?$apply=traverse($root/Orgs,OrgTree,ID,preorder,ParentID desc)",
+        "0 | 1 | 2 | 3 | 4 | 5",
+    ),
+    (
+        "Orgs?$apply=traverse($root/Orgs,OrgTree,ID,postorder,ParentID,ID desc)",
+        "5 | 3 | 4 | 2 | 1 | 0",
+    ),
+    (
+        "Orgs?$apply=traverse($root/Orgs,OrgTree,ID,preorder,Superordinate/ParentID,ID)",
+        "0 | 1 | 2 | 4 | 3 | 5",
+    ),
+    (
+        "Orgs?$apply=orderby(ID)/traverse($root/Orgs,OrgTree,ParentID,preorder)",
+        "1 | 2 | 4 | 3",
+    ),
+    (
+        "Sales?$apply=filter(ID eq 99)/traverse($root/Orgs,OrgTree,OrgID,preorder)",
+        "",
+    ),
+    (
+        "Sales?$apply=orderby(ID desc)/traverse($root/Orgs,OrgTree,OrgID,preorder,ID)/top(3)",
+        "2 | 5 | 1",
+    ),
+    // Recursive rollups: a group for each node that has rows at it or below it.
+    (
+        "Sales?$apply=groupby((rolluprecursive($root/Orgs,OrgTree,OrgID)))",
+        "-; OrgID: Corp | -; OrgID: EMEA | -; OrgID: US | -; OrgID: West | -; OrgID: East",
+    ),
+    (
+        "Sales?$apply=groupby((rolluprecursive($root/Orgs,OrgTree,OrgID)),aggregate(Amount with sum as T))",
+        "-; T: 25.00; OrgID: Corp | -; T: 7.25; OrgID: EMEA | -; T: 17.75; OrgID: US | -; T: 10.00; OrgID: West | -; T: 5.50; OrgID: East",
+    ),
+    (
+        "Sales?$apply=groupby((rolluprecursive($root/Orgs,OrgTree,OrgID)),aggregate(Amount with sum as T))/filter(OrgID eq 'US')",
+        "-; T: 17.75; OrgID: US",
+    ),
+    (
+        "Sales?$apply=groupby((CustomerID,rolluprecursive($root/Orgs,OrgTree,OrgID)),aggregate($count as N))",
+        "-; N: 3; CustomerID: C1; OrgID: Corp | -; N: 1; CustomerID: C2; OrgID: Corp | -; N: 1; CustomerID: C3; OrgID: Corp | -; N: 1; CustomerID: C2; OrgID: EMEA | -; N: 3; CustomerID: C1; OrgID: US | -; N: 1; CustomerID: C3; OrgID: US | -; N: 1; CustomerID: C1; OrgID: West | -; N: 1; CustomerID: C3; OrgID: West | -; N: 1; CustomerID: C1; OrgID: East",
+    ),
+    (
+        "Sales?$apply=groupby((rolluprecursive($root/Orgs,OrgTree,OrgID),Customer/Country),aggregate(Best))",
+        "-; Best: 17.75; Customer/Country: US; OrgID: Corp | -; Best: 7.25; Customer/Country: NL; OrgID: Corp | -; Best: null; Customer/Country: FR; OrgID: Corp | -; Best: 7.25; Customer/Country: NL; OrgID: EMEA | -; Best: 17.75; Customer/Country: US; OrgID: US | -; Best: null; Customer/Country: FR; OrgID: US | -; Best: 10.00; Customer/Country: US; OrgID: West | -; Best: null; Customer/Country: FR; OrgID: West | -; Best: 5.50; Customer/Country: US; OrgID: East",
+    ),
+    (
+        "Sales?$apply=groupby((rolluprecursive($root/Orgs,OrgTree,OrgID)),topcount(1,Amount)/aggregate(ID with max as M))",
+        "-; M: 1; OrgID: Corp | -; M: 3; OrgID: EMEA | -; M: 1; OrgID: US | -; M: 1; OrgID: West | -; M: 2; OrgID: East",
+    ),
+    (
+        "Sales?$apply=groupby((rolluprecursive($root/Orgs,OrgTree,OrgID)),filter(Amount gt 6)/groupby((ID,Amount)))",
+        "-; ID: 1; Amount: 10.00; OrgID: Corp | -; ID: 3; Amount: 7.25; OrgID: Corp | -; ID: 3; Amount: 7.25; OrgID: EMEA | -; ID: 1; Amount: 10.00; OrgID: US | -; ID: 1; Amount: 10.00; OrgID: West",
+    ),
+    (
+        "Sales?$apply=groupby((rolluprecursive($root/Orgs,OrgTree,Org/ParentID)),aggregate($count as N))",
+        "-; N: 5; Org/ParentID: Corp | -; N: 3; Org/ParentID: US",
+    ),
+    (
+        "Sales?$apply=groupby((rolluprecursive($root/Orgs,OrgTree,CustomerID)),aggregate($count as N))",
+        "",
+    ),
+    (
+        "Sales?$apply=filter(ID eq 99)/groupby((rolluprecursive($root/Orgs,OrgTree,OrgID)),aggregate($count as N))",
+        "",
+    ),
+    (
+        "Sales?$apply=filter(ID eq 5)/groupby((rolluprecursive($root/Orgs,OrgTree,OrgID)),aggregate($count as N))",
+        "",
+    ),
+    // Shown nodes: those of a pipeline over the nodes, in its order, each once where it first stands.
+    (
+        "Sales?$apply=groupby((rolluprecursive($root/Orgs,OrgTree,OrgID,filter(ID eq 'Lab'))),aggregate($count as N))",
+        "",
+    ),
+    (
+        "Sales?$apply=groupby((rolluprecursive($root/Orgs,OrgTree,OrgID,filter(ID eq 'US'))),aggregate(Amount with sum as T))",
+        "-; T: 17.75; OrgID: US",
+    ),
+    (
+        "Sales?$apply=groupby((rolluprecursive($root/Orgs,OrgTree,OrgID,orderby(ID desc))),aggregate($count as N))",
+        "-; N: 2; OrgID: West | -; N: 4; OrgID: US | -; N: 1; OrgID: East | -; N: 1; OrgID: EMEA | -; N: 5; OrgID: Corp",
+    ),
+    (
+        "Sales?$apply=groupby((rolluprecursive($root/Orgs,OrgTree,OrgID,concat(filter(ID eq 'US'),identity,filter(ID eq 'Corp')))),aggregate($count as N))",
+        "-; N: 4; OrgID: US | -; N: 5; OrgID: Corp | -; N: 1; OrgID: EMEA | -; N: 2; OrgID: West | -; N: 1; OrgID: East",
+    ),
+    (
+        "Sales?$apply=groupby((rolluprecursive($root/Orgs,OrgTree,OrgID,traverse($root/Orgs,OrgTree,ID,postorder))),aggregate($count as N))",
+        "-; N: 1; OrgID: EMEA | -; N: 2; OrgID: West | -; N: 1; OrgID: East | -; N: 4; OrgID: US | -; N: 5; OrgID: Corp",
+    ),
+    (
+        "Sales?$apply=groupby((rolluprecursive($root/Orgs,OrgTree,OrgID,ancestors($root/Orgs,OrgTree,ID,filter(ID eq 'East'),keep start))),aggregate($count as N))",
+        "-; N: 5; OrgID: Corp | -; N: 4; OrgID: US | -; N: 1; OrgID: East",
+    ),
+    (
+        "Sales?$apply=groupby((CustomerID,rolluprecursive($root/Orgs,OrgTree,OrgID,skip(3)/top(2))),aggregate($count as N))",
+        "-; N: 1; CustomerID: C1; OrgID: West | -; N: 1; CustomerID: C3; OrgID: West | -; N: 1; CustomerID: C1; OrgID: East",
+    ),
+    (
+        "Sales?$apply=groupby((rolluprecursive($root/Orgs,OrgTree,OrgID,filter(length(ID) mul 9223372036854775807 gt 0))),aggregate($count as N))",
+        "Range",
+    ),
+    // Keys and inner pipelines past their range.
+    (
+        "Sales?$apply=compute(Amount mul 100000000000000000 as X)/groupby((X,rolluprecursive($root/Orgs,OrgTree,OrgID)),aggregate($count as N))",
+        "Range",
+    ),
+    (
+        "Sales?$apply=groupby((rolluprecursive($root/Orgs,OrgTree,OrgID)),filter(Amount mul 100000000000000000 gt 0)/aggregate($count as N))",
+        "Range",
+    ),
+    // Groupings by nodes within groupings.
+    (
+        "Sales?$apply=groupby((CustomerID),groupby((rolluprecursive($root/Orgs,OrgTree,OrgID)),aggregate($count as N)))",
+        "-; N: 3; OrgID: Corp; CustomerID: C1 | -; N: 3; OrgID: US; CustomerID: C1 | -; N: 1; OrgID: West; CustomerID: C1 | -; N: 1; OrgID: East; CustomerID: C1 | -; N: 1; OrgID: Corp; CustomerID: C2 | -; N: 1; OrgID: EMEA; CustomerID: C2 | -; N: 1; OrgID: Corp; CustomerID: C3 | -; N: 1; OrgID: US; CustomerID: C3 | -; N: 1; OrgID: West; CustomerID: C3",
+    ),
+    (
+        "Sales?$apply=groupby((rolluprecursive($root/Orgs,OrgTree,OrgID)),groupby((CustomerID),aggregate($count as N)))",
+        "-; N: 3; CustomerID: C1; OrgID: Corp | -; N: 1; CustomerID: C2; OrgID: Corp | -; N: 1; CustomerID: C3; OrgID: Corp | -; N: 1; CustomerID: C2; OrgID: EMEA | -; N: 3; CustomerID: C1; OrgID: US | -; N: 1; CustomerID: C3; OrgID: US | -; N: 1; CustomerID: C1; OrgID: West | -; N: 1; CustomerID: C3; OrgID: West | -; N: 1; CustomerID: C1; OrgID: East",
+    ),
+];

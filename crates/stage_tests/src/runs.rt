@@ -3,18 +3,20 @@
 ghost use Rattle.std.specs.Prelude.{◌≡◌, ◌<◌, IfOk, IsTrue};
 ghost use Rattle.context_typing.specs.Readings.{readings, AreTypedOver};
 ghost use Rattle.context_typing.specs.Typing.{customs_typed};
+ghost use Rattle.hier_states.specs.States.{AreStates};
 
 use crate::rows::{shown, world};
-use crate::run_rows::{GROUPED, JOINED, ROW_WISE, TAKEN};
+use crate::run_rows::{BY_NODES, GROUPED, JOINED, ROW_WISE, TAKEN};
 use apply_grammar::read_request;
 use apply_meaning::{Row, RunRefused, Steps, is_plain, run_plain};
 use context_typing::{Customs, customs_are_typed, type_customs, type_pipe};
 use custom_readings::read_customs;
 use edm_data::{Data, EntityRef};
 use edm_model::Model;
+use hier_states::{HierState, first_cycle, hier_states};
 use optimiser::Plan;
 use par_stages::NoGate;
-use plan_run::{is_built, run};
+use plan_run::run;
 use std::alloc::{AllocError, Global};
 use std::marker::Brand;
 use std::process::Abort;
@@ -95,12 +97,14 @@ fn expect_run<R: Threads + Sync + Abort, L: Ledger>(
     alloc: Global,
     store: &Data,
     customs: &Customs,
+    hiers: &[HierState],
     line: &str,
     wanted: &str,
     steps: &mut Steps<L>,
 ) -> Result<(), Fail>
     requires typed { AreTypedOver store.now.model customs.now }
     requires whole { IsTrue (customs_typed store.now.model (readings customs.now)) }
+    requires states { AreStates store.now hiers.now }
 {
     let request = read_request(alloc, line.as_bytes())?;
     let Some(set) = store.model().set_named(request.set.text()) else {
@@ -111,13 +115,13 @@ fn expect_run<R: Threads + Sync + Abort, L: Ledger>(
         let found = answer_text(alloc, run_plain(alloc, store, customs, &typed, steps))?;
         assert_eq!(rt; found.as_str(), wanted, "{line}");
     }
-    let plan = Plan::written(typed);
-    if !is_built(plan.pipe()) {
-        panic!(rt; "not built: {line}");
+    if first_cycle(store, hiers, &typed.pipe).is_some() {
+        panic!(rt; "cyclic: {line}");
     }
+    let plan = Plan::written(typed);
     let found = answer_text(
         alloc,
-        run(rt, alloc, store, customs, &plan, 1, &NoGate, steps),
+        run(rt, alloc, store, customs, hiers, &plan, 1, &NoGate, steps),
     )?;
     assert_eq!(rt; found.as_str(), wanted, "{line}");
     Ok(())
@@ -137,8 +141,18 @@ fn expect_runs<R: Threads + Sync + Abort, L: Ledger>(
     let mut steps = Steps::<L>::new(blank);
     let store = world(alloc, SALES_DATA)?;
     let customs = all_customs(alloc, &store)?;
+    let hiers = hier_states(alloc, &store)?;
     for (line, wanted) in rows {
-        expect_run(rt, alloc, &store, &customs, line, wanted, &mut steps)?;
+        expect_run(
+            rt,
+            alloc,
+            &store,
+            &customs,
+            hiers.as_slice(),
+            line,
+            wanted,
+            &mut steps,
+        )?;
     }
     Ok(())
 }
@@ -163,57 +177,43 @@ fn joins_and_concatenations_give_their_rows(rt: HostRuntime) -> Result<(), Fail>
     expect_runs::<_, Brand>(&rt, rt.alloc(), JOINED, Blank::new(1))
 }
 
-/// The forms that are plain, and those that are not built.
-const FORMS: &[(&str, bool, bool)] = &[
-    ("Sales?$apply=identity/skip(1)/top(1)", true, true),
-    ("Sales?$apply=compute(1 as A)/filter(A eq 1)", true, true),
-    ("Sales?$apply=aggregate($count as N)", true, true),
-    ("Sales?$apply=aggregate(Best)", false, true),
-    ("Sales?$apply=aggregate($count as N,Best)", false, true),
-    ("Sales?$apply=orderby(ID)/top(1)", false, true),
-    ("Sales?$apply=groupby((ID))", false, true),
+#[test]
+fn climbs_traversals_and_rollups_by_nodes_give_their_rows(rt: HostRuntime) -> Result<(), Fail> {
+    expect_runs::<_, Brand>(&rt, rt.alloc(), BY_NODES, Blank::new(1))
+}
+
+/// Forms of pipelines, and whether they are plain.
+const FORMS: &[(&str, bool)] = &[
+    ("Sales?$apply=identity/skip(1)/top(1)", true),
+    ("Sales?$apply=compute(1 as A)/filter(A eq 1)", true),
+    ("Sales?$apply=aggregate($count as N)", true),
+    ("Sales?$apply=aggregate(Best)", false),
+    ("Sales?$apply=aggregate($count as N,Best)", false),
+    ("Sales?$apply=orderby(ID)/top(1)", false),
+    ("Sales?$apply=groupby((ID))", false),
     (
         "Sales?$apply=identity/groupby((ID,rollup($all,OrgID)),aggregate(Best))/top(1)",
         false,
-        true,
     ),
-    ("Sales?$apply=topcount(1,Amount)", false, true),
-    ("Sales?$apply=concat(identity,identity)", false, true),
-    ("Customers?$apply=join(Sales as S)", false, true),
+    ("Sales?$apply=topcount(1,Amount)", false),
+    ("Sales?$apply=concat(identity,identity)", false),
+    ("Customers?$apply=join(Sales as S)", false),
     (
-        "Customers?$apply=outerjoin(Sales as S,topsum(1,Amount))",
-        false,
-        true,
-    ),
-    (
-        "Sales?$apply=groupby((ID),groupby((OrgID),topcount(1,Amount)))",
-        false,
-        true,
-    ),
-    (
-        "Sales?$apply=concat(identity,traverse($root/Orgs,OrgTree,OrgID,preorder))",
-        false,
+        "Sales?$apply=ancestors($root/Orgs,OrgTree,OrgID,identity)",
         false,
     ),
     (
-        "Customers?$apply=join(Sales as S,ancestors($root/Orgs,OrgTree,OrgID,identity))",
-        false,
-        false,
-    ),
-    (
-        "Sales?$apply=groupby((ID,rolluprecursive($root/Orgs,OrgTree,OrgID)))",
-        false,
+        "Sales?$apply=traverse($root/Orgs,OrgTree,OrgID,preorder)",
         false,
     ),
 ];
 
 #[test]
-fn plain_and_built_forms(rt: HostRuntime) -> Result<(), Fail> {
+fn plain_forms(rt: HostRuntime) -> Result<(), Fail> {
     let alloc = rt.alloc();
-    for (line, plain, built) in FORMS {
+    for (line, plain) in FORMS {
         let request = read_request(alloc, line.as_bytes())?;
         assert_eq!(rt; is_plain(&request.pipe), *plain, "{line}");
-        assert_eq!(rt; is_built(&request.pipe), *built, "{line}");
     }
     Ok(())
 }

@@ -13,9 +13,9 @@ use Rattle.plan_run.proofs.groups.add_keys.Goals as goal
 pub make-requires : goal.make-requires
 make-requires g c =
     let level = c.args.level.now in
-    let d = mapped (λ g. g.0) (slice_get c.groups-groups.result.now c.loop-k.k) c.key.result.now (sym c.key.ensures) in
-    let at = ap (λ gs. slice_get gs c.loop-k.k) (sym c.groups-groups.ensures) ∙ d.1 in
-    let columns : c.in_ok-columns.columns.items ≡ keyed level.0 (d.0).0 = c.in_ok-columns.ensures ∙ (λ i. keyed (c.paths.ensures i) (sym d.2 i)) in
+    let d = mapped (λ g. g.0) (slice_get level.1 c.loop-k.k) c.in_ok-key.key.items (sym c.in_ok-key.ensures) in
+    let at = d.1 in
+    let columns : c.in_ok-columns.columns.items ≡ keyed level.0 (d.0).0 = c.in_ok-columns.ensures ∙ (λ i. keyed (c.paths.ensures i) ((c.as_slice.ensures.value ∙ sym d.2) i)) in
     subst (λ ps. IsRow ps c.in_ok-columns.columns.items) (sym c.new.ensures.items)
     (record {
       paths = refl;
@@ -27,10 +27,10 @@ pub loop-k-preserved : goal.loop-k-preserved
 loop-k-preserved g c =
     let level = c.args.level.now in
     let k = c.loop-k.k in
-    let d = mapped (λ g. g.0) (slice_get c.groups-groups.result.now k) c.key.result.now (sym c.key.ensures) in
-    let at = ap (λ gs. slice_get gs k) (sym c.groups-groups.ensures) ∙ d.1 in
+    let d = mapped (λ g. g.0) (slice_get level.1 k) c.in_ok-key.key.items (sym c.in_ok-key.ensures) in
+    let at = d.1 in
     let within = slice_get_within level.1 k d.0 at in
-    let columns : c.in_ok-columns.columns.items ≡ keyed level.0 (d.0).0 = c.in_ok-columns.ensures ∙ (λ i. keyed (c.paths.ensures i) (sym d.2 i)) in
+    let columns : c.in_ok-columns.columns.items ≡ keyed level.0 (d.0).0 = c.in_ok-columns.ensures ∙ (λ i. keyed (c.paths.ensures i) ((c.as_slice.ensures.value ∙ sym d.2) i)) in
     let made : c.in_ok-make.field-0 ≡ row_instance None c.new.result.items c.in_ok-columns.columns.items = search rules in
     let rest = map (group_row level.0) (drop (k + 1) level.1) in
     let next = next-map (group_row level.0) level.1 k d.0 within (sym (get_or_from_slice_get level.1 k d.0 d.0 at)) in

@@ -1,57 +1,59 @@
-use Rattle.std.proofs.Common.{rules, ◌<◌, true, false, [], ◌≡◌, ◌+◌, ◌≤◌, ◌∙◌, ap, sym, subst, refl, map, drop, length, Some, None, Err, IsTrue, arith, List, ◌∷◌}
-use Rattle.std.specs.Prelude.{filter, flat_map, option_and_then, option_map, sum}
-use Rattle.std.proofs.lemmas.Bool.{and_parts}
-use Rattle.std.proofs.lemmas.Option.{get_or_from_slice_get, slice_get_within}
-use Rattle.edm_values.proofs.OptionFacts.{some_value}
-use Rattle.group_rollup.proofs.GroupLemmas.{group-at_places, group-places_within}
+use Rattle.std.proofs.Common.{rules, ℕ, true, false, get_or, [], ◌≡◌, ◌+◌, ◌≤◌, ◌∙◌, ap, sym, subst, refl, map, drop, length, Some, Err, IsTrue, arith, List, ◌∷◌}
+use Rattle.std.specs.Prelude.{filter, flat_map, option_and_then, option_map, slice_get, nat_lt, ◌++◌, is_some}
+use Rattle.std.proofs.lemmas.Option.{slice_get-get_or}
 use Rattle.std.proofs.lemmas.Result.{err_from_is_err_and}
 use Rattle.std.proofs.Math.ListN.{drop_of_length-le}
-use Rattle.std.specs.Prelude.{slice_get, nat_lt, ◌++◌, if◌then◌else◌}
 use Rattle.std.specs.List.{list_all}
-use Rattle.edm_values.specs.Lists.{at_places, sorted}
+use Rattle.edm_values.specs.Lists.{at_places, sorted, all_some}
+use Rattle.edm_values.specs.declared.Value.{Value}
 use Rattle.edm_values.specs.Values.{is_value}
 use Rattle.edm_data.specs.Worlds.{World}
-use Rattle.apply_meaning.specs.Instances.{Instance, fits, extended, val}
-use Rattle.apply_meaning.specs.Meaning.{Outcome, group, grouped, joined, key_list, keyed, keys, mean, order_before, order_values, refused_at_beyond, same_keys, step_mean, values}
-use Rattle.apply_meaning.specs.MeaningLaws.{AllFit, IsLoaded}
+use Rattle.apply_meaning.specs.Instances.{Instance, extended, val}
+use Rattle.apply_meaning.specs.Meaning.{Outcome, joined, keyed, mean, order_before, order_values, refused_at_beyond, step_mean, values, inner_mean, selected, shown_of}
+use Rattle.apply_meaning.specs.MeaningLaws.{IsLoaded}
 use Rattle.apply_meaning.specs.RowViews.{columns_differ}
 use Rattle.apply_meaning.specs.Running.{Gives, StepRuns, all_free, all_of, new_columns}
-use Rattle.apply_meaning.proofs.MeaningEquations.{mean-End, step_mean-Identity, step_mean-Filter, step_mean-Compute, step_mean-OrderBy, step_mean-Skip, step_mean-Top}
-use Rattle.apply_meaning.proofs.RunLemmas.{turn, gives-err, gives-range, next-step, compute-free, all-fit-of}
+use Rattle.apply_meaning.proofs.MeaningEquations.{mean-End, step_mean-Identity, step_mean-Filter, step_mean-Compute, step_mean-OrderBy, step_mean-Skip, step_mean-Top, inner_mean-NoPipe, inner_mean-SomePipe, step_mean-TopBy}
+use Rattle.apply_meaning.proofs.RunLemmas.{turn, gives-err, next-step, compute-free, all-fit-of}
 use Rattle.apply_ast.specs.Trees as tree
-use Rattle.apply_ast.specs.Views.{agg_of, expr_of, inner_of, item_of, keys_of, named_of, pipe_of, step_of}
-use Rattle.apply_ast.proofs.ViewEquations.{step_of-Aggregate, step_of-GroupBy, step_of-Identity, step_of-Filter, step_of-Compute, step_of-OrderBy, step_of-Skip, step_of-Top}
+use Rattle.apply_ast.specs.Views.{key_of, agg_of, expr_of, inner_of, item_of, keys_of, named_of, pipe_of, step_of, pipes_in, top_of, climb_of, hier_of, traverse_of}
+use Rattle.apply_ast.proofs.ViewEquations.{step_of-Aggregate, step_of-GroupBy, step_of-Identity, step_of-Filter, step_of-Compute, step_of-OrderBy, step_of-Skip, step_of-Top, join_of-is, pipes_of-is, step_of-Concat, step_of-Join, step_of-TopBy, climb_of-is, key_of-Plain, key_of-Recursive, key_of-Rollup, step_of-Climb, step_of-Traverse}
 use Rattle.context_typing.specs.Readings.{readings}
-use Rattle.plan_run.specs.Conditions.{GroupRuns, LevelsRun, RunsFrom, StepReadyFrom, StepRunsFrom, charge_of, made_of}
-use Rattle.plan_run.specs.Costs.{application, cost, groups, result_length, step_cost}
-use Rattle.plan_run.specs.Forms.{are_built_keys, is_built_step}
-use Rattle.plan_run.proofs.FormLemmas.{built-here, built-next}
-use Rattle.plan_run.proofs.RunLemmas.{turn-cost, turn-least, compute-cost, aggregate-cost}
-use Rattle.plan_run.specs.Levels.{Level, level_rows, levels_of}
+use Rattle.plan_run.specs.Conditions.{AreReady, RunsFrom, StepReadyFrom, StepRunsFrom, charge_of, BranchesReady, InnerRuns, LimitReady, ReadyFrom, ShownReady}
+use Rattle.plan_run.specs.Costs.{cost, result_length, step_cost, inner_cost, given_applications}
+use Rattle.plan_run.proofs.GroupingRun.{grouping-run, levels-found, step-cost-on, step-mean-on, step-runs-on}
+use Rattle.plan_run.proofs.ReadyParts.{ready-back, ready-branch, ready-front, ready-here, ready-next, ready-first, ready-key, ready-others}
+use Rattle.plan_run.proofs.RunLemmas.{turn-cost, turn-least, compute-cost, aggregate-cost, cost-same, gives-same, ready-same, runs-same}
+use Rattle.plan_run.specs.Levels.{Level, group_made, level_made}
 use Rattle.plan_run.proofs.GroupLemmas.{next-sum}
-use Rattle.plan_run.proofs.LevelLemmas.{keys-cost, levels-cost, levels-keys, levels-mean, levels-run}
-use Rattle.plan_run.proofs.RunLevels.{all-differ, group-at, group-run, group-runs, grouped-levels, joined-levels, key-at, keys-long, last-joined, level-costs, level-is, levels-err, next-group, next-joined, next-level, next-refused, paths-of_levels, places-at, total-charge}
+use Rattle.plan_run.proofs.LevelLemmas.{keys-least, keys-ready}
+use Rattle.plan_run.proofs.RunLevels.{group-run, last-joined, level-costs, levels-err, next-group, next-joined, next-level, next-refused, read-key, read-places, total-charge}
 use Rattle.std.specs.Global.{Vec}
 use Rattle.std.proofs.lemmas.List.{length-map, map-append}
 use Rattle.std.proofs.lemmas.List.Folds.{flat_map-map}
-use Rattle.edm_values.specs.Lists.{all_some}
-use Rattle.edm_model.specs.LookUps.{IsNavigation, navigation_on}
+use Rattle.edm_model.specs.LookUps.{IsNavigation, navigation_on, set_type}
 use Rattle.edm_model.specs.Models.{Navigation}
-use Rattle.apply_ast.specs.Views.{pipes_in, pipes_of, top_of}
-use Rattle.apply_ast.proofs.ViewEquations.{join_of-is, pipes_of-is, step_of-Concat, step_of-Join, step_of-TopBy}
 use Rattle.apply_ast.specs.Trees.{Pipe}
 use Rattle.context_typing.specs.Shapes.{set_shape}
-use Rattle.apply_meaning.specs.Meaning.{inner_mean, related_rows, selected}
-use Rattle.apply_meaning.proofs.MeaningEquations.{inner_mean-NoPipe, inner_mean-SomePipe, step_mean-TopBy}
 use Rattle.join_concat.specs.Joins.{bound_rows}
-use Rattle.plan_run.specs.Conditions.{BranchesReady, BranchesRun, InnerRuns, LimitReady, ReadyFrom}
-use Rattle.plan_run.specs.Costs.{inner_cost}
-use Rattle.plan_run.specs.Forms.{are_built_branches, is_built}
-use Rattle.plan_run.proofs.ConcatLemmas.{all-built, branch-turn, built-at, concat-run}
+use Rattle.hier_states.specs.NamedHierarchies.{branch_hierarchies, hierarchies, inner_hierarchies, keys_hierarchies, step_hierarchies}
+use Rattle.plan_run.proofs.ConcatLemmas.{branch-at, branch-turn, concat-run}
 use Rattle.plan_run.proofs.ListsInTurn.{gives-all_err, joined-err, last-list, next-list, next-list_refused}
 use Rattle.plan_run.proofs.RelatedLemmas.{join-run, lists-made, made-mean, related-least, related-long, related-same, related-turn, related_charge, related_mean, target-is}
-use Rattle.plan_run.proofs.RunLemmas.{cost-same, gives-same, ready-same, runs-same}
+use Rattle.edm_data.specs.References.{count}
+use Rattle.context_typing.specs.Typing.{hierarchy_at}
+use Rattle.apply_meaning.specs.Instances as instances
+use Rattle.hier_rows.specs.HierRows.{AreRootsBelow}
+use Rattle.plan_run.specs.Hierarchies.{climb_from, traversal}
+use Rattle.plan_run.specs.RecursiveKeys.{is_flat_key}
+use Rattle.plan_run.proofs.ClimbLemmas.{climb-costs, climb-means, climb-of, traverse-run}
+use Rattle.plan_run.proofs.ClimbOutcomes.{found}
+use Rattle.edm_values.proofs.OptionFacts.{some_value}
+use Rattle.plan_run.proofs.GroupingLevels.{all-flat, flat-gives, met-key, next-among, next-flat_key, node-gives, shown-gives, shown-least}
+use Rattle.plan_run.proofs.KeyParts.{recursive}
+use Rattle.plan_run.proofs.ShownRun.{shown-below, shown-err, shown-rows, shown-run}
 use Rattle.plan_run.proofs.pipes.+run.Goals as goal
+use Rattle.plan_run.proofs.pipes.+run.Goals.{grouping_levels-in-Plain, grouping_levels-in-Rollup}
 
 pub run_pipe-step_ready-requires-clause-ready : goal.run_pipe-step_ready-requires-clause-ready
 run_pipe-step_ready-requires-clause-ready g t c κs within =
@@ -59,8 +61,8 @@ run_pipe-step_ready-requires-clause-ready g t c κs within =
     let i = c.loop-i.invariant.1 r.0 r.1 r.2 in
     (i.0, r.1, i.1)
 
-pub run_pipe-run_step-requires-clause-built : goal.run_pipe-run_step-requires-clause-built
-run_pipe-run_step-requires-clause-built g t c κs within = built-here c.steps-all.result.now c.loop-i.i c.index-all-i.result c.loop-i-test.true c.index-all-i.is c.loop-i.invariant.0
+pub run_pipe-run_step-requires-clause-named : goal.run_pipe-run_step-requires-clause-named
+run_pipe-run_step-requires-clause-named g t c κs within = ready-here c.args.context.now c.steps-all.result.now c.loop-i.i c.index-all-i.result c.loop-i-test.true c.index-all-i.is c.loop-i.invariant.0
 
 pub run_pipe-returns-in_err-rows-clause-mean : goal.run_pipe-returns-in_err-rows-clause-mean
 run_pipe-returns-in_err-rows-clause-mean g t c = λ S S' R.
@@ -91,7 +93,7 @@ run_pipe-returns-in_err-rows-clause-steps g t c = λ S S' R.
 
 pub run_pipe-loop-i-preserved : goal.run_pipe-loop-i-preserved
 run_pipe-loop-i-preserved g t c = (
-  built-next c.steps-all.result.now c.loop-i.i c.index-all-i.result c.loop-i-test.true c.index-all-i.is c.loop-i.invariant.0,
+  ready-next c.args.context.now c.steps-all.result.now c.loop-i.i c.index-all-i.result c.loop-i-test.true c.index-all-i.is c.loop-i.invariant.0,
   λ S S' R.
       let w = c.args.context.now.world in
       let cs = readings c.args.context.now.customs in
@@ -174,9 +176,9 @@ run_step-returns-in_err-compute_rows-in-Compute-clause-steps g t c = λ S S' R.
     let whole = ap (λ s. step_cost x.world (readings x.customs) S s c.args.rows.items) e ∙ compute-cost x.world (readings x.customs) S (map named_of c.in-Compute.items) c.args.rows.items in
     omega (arith, spent, whole)
 
-pub run_step-returns-in_ok-compute_rows-in-Compute-clause-mean :
-    goal.run_step-returns-in_ok-compute_rows-in-Compute-clause-mean
-run_step-returns-in_ok-compute_rows-in-Compute-clause-mean g t c = λ S S' R.
+pub run_step-returns-in-Compute-clause-mean :
+    goal.run_step-returns-in-Compute-clause-mean
+run_step-returns-in-Compute-clause-mean g t c = λ S S' R.
     let x = c.args.context.now in
     let l = c.args.rows.items in
     ap (λ s. step_mean x.world (readings x.customs) S s l) (ap step_of c.in-Compute.is ∙ step_of-Compute c.in-Compute.items) ∙ step_mean-Compute x.world (readings x.customs) S (map named_of c.in-Compute.items) l
@@ -184,9 +186,9 @@ run_step-returns-in_ok-compute_rows-in-Compute-clause-mean g t c = λ S S' R.
     ∙ ap (λ (w : World). Some (map (λ i. extended i (new_columns w (map named_of c.as_slice-in-Compute.result.now) i)) l)) (sym c.store-store.ensures)
     ∙ ap Some (sym c.in_ok-compute_rows-in-Compute.ensures.rows)
 
-pub run_step-returns-in_ok-compute_rows-in-Compute-clause-steps :
-    goal.run_step-returns-in_ok-compute_rows-in-Compute-clause-steps
-run_step-returns-in_ok-compute_rows-in-Compute-clause-steps g t c = λ S S' R.
+pub run_step-returns-in-Compute-clause-steps :
+    goal.run_step-returns-in-Compute-clause-steps
+run_step-returns-in-Compute-clause-steps g t c = λ S S' R.
     let x = c.args.context.now in
     let e = ap step_of c.in-Compute.is ∙ step_of-Compute c.in-Compute.items in
     let spent = c.compute_rows.ensures.steps in
@@ -218,9 +220,9 @@ run_step-aggregated-requires-clause-ready g t c κs within =
     subst (λ l. StepReadyFrom x c.args.root.now (tree.Step.Aggregate (map agg_of c.in-Aggregate.items)) l) (sym c.as_slice-in-Aggregate.ensures.value)
     (subst (λ s. StepReadyFrom x c.args.root.now s c.args.rows.items) e c.requires.ready)
 
-pub run_step-returns-in_ok-aggregated-in-Aggregate-clause-mean :
-    goal.run_step-returns-in_ok-aggregated-in-Aggregate-clause-mean
-run_step-returns-in_ok-aggregated-in-Aggregate-clause-mean g t c = λ S S' R.
+pub run_step-returns-clause-mean :
+    goal.run_step-returns-clause-mean
+run_step-returns-clause-mean g t c = λ S S' R.
     let x = c.args.context.now in
     let s = tree.Step.Aggregate (map agg_of c.in-Aggregate.items) in
     ap (λ s. step_mean x.world (readings x.customs) S s c.args.rows.items) (ap step_of c.in-Aggregate.is ∙ step_of-Aggregate c.in-Aggregate.items)
@@ -236,142 +238,121 @@ run_step-returns-in_err-aggregated-in-Aggregate-clause-steps g t c = λ S S' R.
     let whole = ap (λ s. step_cost x.world (readings x.customs) S s c.args.rows.items) e ∙ aggregate-cost x.world (readings x.customs) S (map agg_of c.in-Aggregate.items) c.args.rows.items in
     omega (arith, spent, whole)
 
-pub run_step-returns-in_ok-aggregated-in-Aggregate-clause-steps :
-    goal.run_step-returns-in_ok-aggregated-in-Aggregate-clause-steps
-run_step-returns-in_ok-aggregated-in-Aggregate-clause-steps g t c = λ S S' R.
+pub run_step-returns-clause-steps :
+    goal.run_step-returns-clause-steps
+run_step-returns-clause-steps g t c = λ S S' R.
     let x = c.args.context.now in
     let e = ap step_of c.in-Aggregate.is ∙ step_of-Aggregate c.in-Aggregate.items in
     let spent = c.aggregated.ensures.steps in
     let whole = ap (λ s. step_cost x.world (readings x.customs) S s c.args.rows.items) e ∙ aggregate-cost x.world (readings x.customs) S (map agg_of c.in-Aggregate.items) c.args.rows.items in
     omega (arith, spent, whole)
 
-pub run_step-returns-in-GroupBy-clause-mean : goal.run_step-returns-in-GroupBy-clause-mean
-run_step-returns-in-GroupBy-clause-mean g t c = λ S S' R.
-    let x = c.args.context.now in
-    let ks = c.in-GroupBy.keys in
-    let e = ap step_of c.in-GroupBy.is ∙ step_of-GroupBy ks c.in-GroupBy.inner in
-    let s = tree.Step.GroupBy (keys_of ks) (inner_of (option_map pipe_of c.in-GroupBy.inner)) in
-    let rows : c.args.rows.items ≡ c.as_slice.result.now = sym c.as_slice.ensures.value in
-    let runs = subst (λ l. StepRunsFrom x c.args.root.now S S' s l) rows (subst (λ s. StepRunsFrom x c.args.root.now S S' s c.args.rows.items) e R) in
-    subst (Gives c.run_grouping.result) (sym (ap (λ s. step_mean x.world (readings x.customs) S s c.args.rows.items) e ∙ ap (step_mean x.world (readings x.customs) S s) rows)) (c.run_grouping.ensures.mean S S' runs)
-
-pub run_step-returns-in-GroupBy-clause-steps : goal.run_step-returns-in-GroupBy-clause-steps
-run_step-returns-in-GroupBy-clause-steps g t c = λ S S' R.
-    let x = c.args.context.now in
-    let ks = c.in-GroupBy.keys in
-    let e = ap step_of c.in-GroupBy.is ∙ step_of-GroupBy ks c.in-GroupBy.inner in
-    let s = tree.Step.GroupBy (keys_of ks) (inner_of (option_map pipe_of c.in-GroupBy.inner)) in
-    let rows : c.args.rows.items ≡ c.as_slice.result.now = sym c.as_slice.ensures.value in
-    let runs = subst (λ l. StepRunsFrom x c.args.root.now S S' s l) rows (subst (λ s. StepRunsFrom x c.args.root.now S S' s c.args.rows.items) e R) in
-    let spent = c.run_grouping.ensures.steps S S' runs in
-    let whole = ap (λ s. step_cost x.world (readings x.customs) S s c.args.rows.items) e ∙ ap (step_cost x.world (readings x.customs) S s) rows in
-    omega (arith, spent, whole)
-
 -- ---- one group
-
-pub run_step-run_grouping-requires-clause-inner : goal.run_step-run_grouping-requires-clause-inner
-run_step-run_grouping-requires-clause-inner g t c κs within =
-    (and_parts (are_built_keys (keys_of c.in-GroupBy.keys)) _ (sym (ap is_built_step (ap step_of c.in-GroupBy.is ∙ step_of-GroupBy c.in-GroupBy.keys c.in-GroupBy.inner)) ∙ c.requires.built)).1
 
 pub run_group-members-requires : goal.run_group-members-requires
 run_group-members-requires g t c =
-    let w = c.args.context.now.world in
-    let ks = c.args.level.now.0 in
     let l = c.args.rows.now in
-    let d = group-at w ks l c.args.level.now.1 c.args.k c.requires.level c.requires.within in
-    let places = places-at w ks l c.groups-groups.result.now c.args.level.now.1 c.args.k d c.groups-groups.ensures c.places-places.result.now c.places-places.ensures in
-    subst (λ ns. IsTrue (list_all (λ k. nat_lt k (length l)) ns)) (sym places) (group-places_within w ks d.key l)
+    let level = c.args.level.now in
+    let d = get_or level.1 c.args.k ([], []) in
+    let at = slice_get-get_or level.1 c.args.k ([], []) c.requires.within in
+    let places = read-places level.1 c.args.k d c.places-places.result.now at c.places-places.ensures in
+    subst (λ ns. IsTrue (list_all (λ k. nat_lt k (length l)) ns)) (sym places) ((c.requires.ready.2).within c.args.k d at)
 
 pub run_group-returns-in_err-copies-clause-steps : goal.run_group-returns-in_err-copies-clause-steps
-run_group-returns-in_err-copies-clause-steps g t c = λ S G key R at.
+run_group-returns-in_err-copies-clause-steps g t c = λ S G d R at.
     let x = c.args.context.now in
-    let ks = c.args.level.now.0 in
     let T = pipe_of c.args.pipe.now in
     let l = c.args.rows.now in
-    let few = (group-run R c.requires.level c.requires.within c.groups-groups.ensures c.places-places.ensures at refl).few in
+    let few = (group-run c.args.k R at c.places-places.ensures refl).few in
     let copied = c.members.ensures.steps in
-    let charged : charge_of x S ks T l key ≡ length (group x.world ks key l) + cost x.world (readings x.customs) S T (group x.world ks key l) + result_length (mean x.world (readings x.customs) S T (group x.world ks key l)) = refl in
+    let charged : charge_of x S T l d ≡ length (at_places l d.1) + cost x.world (readings x.customs) S T (at_places l d.1) + result_length (mean x.world (readings x.customs) S T (at_places l d.1)) = refl in
     omega (arith, few, copied, charged)
 
 pub run_group-returns-in_err-results-clause-mean : goal.run_group-returns-in_err-results-clause-mean
-run_group-returns-in_err-results-clause-mean g t c = λ S G key R at.
-    let u = group-run R c.requires.level c.requires.within c.groups-groups.ensures c.places-places.ensures at c.in_ok-copies.ensures.rows in
+run_group-returns-in_err-results-clause-mean g t c = λ S G d R at.
+    let u = group-run c.args.k R at c.places-places.ensures c.in_ok-copies.ensures.rows in
     let p = err_from_is_err_and c.from_residual-in_err-results.result c.from_residual-in_err-results.ensures.1 in
-    rw (p.1, p.2) (gives-err c.in_err-results.field-0.0 _ _ (c.in_err-results.ensures.mean S G u.runs) (λ n. ap (option_map (map (λ r. extended r (keyed c.args.level.now.0 key)))) (u.means ∙ n)))
+    rw (p.1, p.2) (gives-err c.in_err-results.field-0.0 _ _ (c.in_err-results.ensures.mean S G u.runs) (λ n. ap (option_map (map (λ r. extended r (keyed c.args.level.now.0 d.0)))) (u.means ∙ n)))
 
 pub run_group-returns-in_err-results-clause-steps : goal.run_group-returns-in_err-results-clause-steps
-run_group-returns-in_err-results-clause-steps g t c = λ S G key R at.
+run_group-returns-in_err-results-clause-steps g t c = λ S G d R at.
     let x = c.args.context.now in
-    let ks = c.args.level.now.0 in
     let T = pipe_of c.args.pipe.now in
     let l = c.args.rows.now in
-    let u = group-run R c.requires.level c.requires.within c.groups-groups.ensures c.places-places.ensures at c.in_ok-copies.ensures.rows in
+    let u = group-run c.args.k R at c.places-places.ensures c.in_ok-copies.ensures.rows in
     let ran = c.run_pipe.ensures.steps S G u.runs in
     let costs = u.costs in
     let few = u.few in
     let copied = c.members.ensures.steps in
-    let charged : charge_of x S ks T l key ≡ length (group x.world ks key l) + cost x.world (readings x.customs) S T (group x.world ks key l) + result_length (mean x.world (readings x.customs) S T (group x.world ks key l)) = refl in
+    let charged : charge_of x S T l d ≡ length (at_places l d.1) + cost x.world (readings x.customs) S T (at_places l d.1) + result_length (mean x.world (readings x.customs) S T (at_places l d.1)) = refl in
+    omega (arith, few, copied, charged, ran, costs)
+
+pub run_group-returns-in_err-key-clause-steps : goal.run_group-returns-in_err-key-clause-steps
+run_group-returns-in_err-key-clause-steps g t c = λ S G d R at.
+    let x = c.args.context.now in
+    let T = pipe_of c.args.pipe.now in
+    let l = c.args.rows.now in
+    let u = group-run c.args.k R at c.places-places.ensures c.in_ok-copies.ensures.rows in
+    let ran = c.run_pipe.ensures.steps S G u.runs in
+    let costs = u.costs in
+    let few = u.few in
+    let copied = c.members.ensures.steps in
+    let charged : charge_of x S T l d ≡ length (at_places l d.1) + cost x.world (readings x.customs) S T (at_places l d.1) + result_length (mean x.world (readings x.customs) S T (at_places l d.1)) = refl in
     omega (arith, few, copied, charged, ran, costs)
 
 pub run_group-with_keys-requires : goal.run_group-with_keys-requires
 run_group-with_keys-requires g t c =
     let x = c.args.context.now in
-    let ks = c.args.level.now.0 in
+    let level = c.args.level.now in
     let T = pipe_of c.args.pipe.now in
     let l = c.args.rows.now in
     let r = c.requires.ready in
-    let d = group-at x.world ks l c.args.level.now.1 c.args.k c.requires.level c.requires.within in
-    let places = places-at x.world ks l c.groups-groups.result.now c.args.level.now.1 c.args.k d c.groups-groups.ensures c.places-places.result.now c.places-places.ensures in
-    let same : c.in_ok-copies.copies.items ≡ group x.world ks d.key l = c.in_ok-copies.ensures.rows ∙ ap (at_places l) places ∙ group-at_places x.world ks d.key l in
-    let runs = group-runs x c.args.root.now r.0 r.1 ks T l d.key c.in_ok-copies.copies.items same r.2 in
-    let m = ap (mean x.world (readings x.customs) r.0 T) (sym same) ∙ c.in_ok-results.ensures.mean r.0 r.1 runs in
-    let key = key-at x.world ks l c.groups-groups.result.now c.args.level.now.1 c.args.k d c.groups-groups.ensures c.key.result.now c.key.ensures in
+    let d = get_or level.1 c.args.k ([], []) in
+    let at = slice_get-get_or level.1 c.args.k ([], []) c.requires.within in
+    let u = group-run c.args.k r.2 at c.places-places.ensures c.in_ok-copies.ensures.rows in
+    let m = u.means ∙ c.in_ok-results.ensures.mean r.0 r.1 u.runs in
+    let key = read-key level.1 c.args.k d c.in_ok-key.key.items at c.in_ok-key.ensures in
     record {
-      free = subst (λ ps. IsTrue (list_all (λ i. columns_differ (extended i (keyed ps c.key.result.now)).columns) c.in_ok-results.results.items)) (sym c.paths.ensures)
-          (subst (λ k. IsTrue (list_all (λ i. columns_differ (extended i (keyed ks k)).columns) c.in_ok-results.results.items)) (sym key) ((r.2).free d.key c.in_ok-results.results.items m));
+      free = subst (λ ps. IsTrue (list_all (λ i. columns_differ (extended i (keyed ps c.as_slice.result.now)).columns) c.in_ok-results.results.items)) (sym c.paths.ensures)
+          (subst (λ k. IsTrue (list_all (λ i. columns_differ (extended i (keyed level.0 k)).columns) c.in_ok-results.results.items)) (sym (c.as_slice.ensures.value ∙ key)) ((r.2).free c.args.k d c.in_ok-results.results.items at m));
     }
 
 pub run_group-returns-in_err-with_keys-clause-steps : goal.run_group-returns-in_err-with_keys-clause-steps
-run_group-returns-in_err-with_keys-clause-steps g t c = λ S G key R at.
+run_group-returns-in_err-with_keys-clause-steps g t c = λ S G d R at.
     let x = c.args.context.now in
-    let ks = c.args.level.now.0 in
     let T = pipe_of c.args.pipe.now in
     let l = c.args.rows.now in
-    let u = group-run R c.requires.level c.requires.within c.groups-groups.ensures c.places-places.ensures at c.in_ok-copies.ensures.rows in
+    let u = group-run c.args.k R at c.places-places.ensures c.in_ok-copies.ensures.rows in
     let ran = c.run_pipe.ensures.steps S G u.runs in
     let costs = u.costs in
     let few = u.few in
     let copied = c.members.ensures.steps in
     let made = ap result_length (u.means ∙ c.in_ok-results.ensures.mean S G u.runs) in
     let spent = c.with_keys.ensures.steps in
-    let charged : charge_of x S ks T l key ≡ length (group x.world ks key l) + cost x.world (readings x.customs) S T (group x.world ks key l) + result_length (mean x.world (readings x.customs) S T (group x.world ks key l)) = refl in
+    let charged : charge_of x S T l d ≡ length (at_places l d.1) + cost x.world (readings x.customs) S T (at_places l d.1) + result_length (mean x.world (readings x.customs) S T (at_places l d.1)) = refl in
     omega (arith, few, copied, charged, ran, costs, made, spent)
 
 pub run_group-returns-clause-steps : goal.run_group-returns-clause-steps
-run_group-returns-clause-steps g t c = λ S G key R at.
+run_group-returns-clause-steps g t c = λ S G d R at.
     let x = c.args.context.now in
-    let ks = c.args.level.now.0 in
     let T = pipe_of c.args.pipe.now in
     let l = c.args.rows.now in
-    let u = group-run R c.requires.level c.requires.within c.groups-groups.ensures c.places-places.ensures at c.in_ok-copies.ensures.rows in
+    let u = group-run c.args.k R at c.places-places.ensures c.in_ok-copies.ensures.rows in
     let ran = c.run_pipe.ensures.steps S G u.runs in
     let costs = u.costs in
     let few = u.few in
     let copied = c.members.ensures.steps in
     let made = ap result_length (u.means ∙ c.in_ok-results.ensures.mean S G u.runs) in
     let spent = c.with_keys.ensures.steps in
-    let charged : charge_of x S ks T l key ≡ length (group x.world ks key l) + cost x.world (readings x.customs) S T (group x.world ks key l) + result_length (mean x.world (readings x.customs) S T (group x.world ks key l)) = refl in
+    let charged : charge_of x S T l d ≡ length (at_places l d.1) + cost x.world (readings x.customs) S T (at_places l d.1) + result_length (mean x.world (readings x.customs) S T (at_places l d.1)) = refl in
     omega (arith, few, copied, charged, ran, costs, made, spent)
 
 pub run_group-returns-clause-mean : goal.run_group-returns-clause-mean
-run_group-returns-clause-mean g t c = λ S G key R at.
-    let x = c.args.context.now in
-    let ks = c.args.level.now.0 in
-    let l = c.args.rows.now in
-    let u = group-run R c.requires.level c.requires.within c.groups-groups.ensures c.places-places.ensures at c.in_ok-copies.ensures.rows in
-    let d = group-at x.world ks l c.args.level.now.1 c.args.k c.requires.level c.requires.within in
-    let own = key-at x.world ks l c.groups-groups.result.now c.args.level.now.1 c.args.k d c.groups-groups.ensures c.key.result.now c.key.ensures ∙ some_value (sym d.at ∙ at) in
-    ap (option_map (map (λ r. extended r (keyed ks key)))) (u.means ∙ c.in_ok-results.ensures.mean S G u.runs)
+run_group-returns-clause-mean g t c = λ S G d R at.
+    let level = c.args.level.now in
+    let u = group-run c.args.k R at c.places-places.ensures c.in_ok-copies.ensures.rows in
+    let own = c.as_slice.ensures.value ∙ read-key level.1 c.args.k d c.in_ok-key.key.items at c.in_ok-key.ensures in
+    ap (option_map (map (λ r. extended r (keyed level.0 d.0)))) (u.means ∙ c.in_ok-results.ensures.mean S G u.runs)
     ∙ ap Some ((λ i. map (λ r. extended r (keyed (sym c.paths.ensures i) (sym own i))) c.in_ok-results.results.items) ∙ sym c.in_ok-with_keys.ensures.rows)
 
 -- ---- the groups of a level
@@ -379,72 +360,70 @@ run_group-returns-clause-mean g t c = λ S G key R at.
 pub run_groups-returns-in_err-made-clause-mean : goal.run_groups-returns-in_err-made-clause-mean
 run_groups-returns-in_err-made-clause-mean g t c = λ S G R.
     let x = c.args.context.now in
-    let ks = c.args.level.now.0 in
+    let level = c.args.level.now in
     let T = pipe_of c.args.pipe.now in
     let l = c.args.rows.now in
-    let u = next-group x S ks T l c.loop-k.k _ c.groups.result.now c.args.level.now.1 c.requires.level c.loop-k-test.true c.len-k-end.ensures c.groups.ensures in
+    let u = next-group x S level T l c.loop-k.k _ c.loop-k-test.true c.len-k-end.ensures in
     let p = err_from_is_err_and c.from_residual.result c.from_residual.ensures.1 in
-    rw (p.1, p.2) (gives-err c.in_err-made.field-0.0 _ _ (c.in_err-made.ensures.mean S G u.key R u.at) (next-refused (made_of x S ks T l) (keys x.world ks l) c.loop-k.k u.key c.loop-k.all.items _ u.within u.here (c.loop-k.invariant S G R).0))
+    rw (p.1, p.2) (gives-err c.in_err-made.field-0.0 _ _ (c.in_err-made.ensures.mean S G u.group R u.at)
+    (next-refused (group_made level.0 (mean x.world (readings x.customs) S T) l) level.1 c.loop-k.k u.group c.loop-k.all.items _ u.within u.here (c.loop-k.invariant S G R).0))
 
 pub run_groups-returns-in_err-made-clause-steps : goal.run_groups-returns-in_err-made-clause-steps
 run_groups-returns-in_err-made-clause-steps g t c = λ S G R.
     let x = c.args.context.now in
-    let ks = c.args.level.now.0 in
+    let level = c.args.level.now in
     let T = pipe_of c.args.pipe.now in
     let l = c.args.rows.now in
-    let u = next-group x S ks T l c.loop-k.k _ c.groups.result.now c.args.level.now.1 c.requires.level c.loop-k-test.true c.len-k-end.ensures c.groups.ensures in
+    let u = next-group x S level T l c.loop-k.k _ c.loop-k-test.true c.len-k-end.ensures in
     let left = (c.loop-k.invariant S G R).1 in
     let next = u.costs in
-    let total = total-charge x S ks T l in
-    let spent = c.run_group.ensures.steps S G u.key R u.at in
+    let total = total-charge x S level T l in
+    let spent = c.run_group.ensures.steps S G u.group R u.at in
     omega (arith, left, next, total, spent)
 
 pub run_groups-returns-in_err-append-clause-steps : goal.run_groups-returns-in_err-append-clause-steps
 run_groups-returns-in_err-append-clause-steps g t c = λ S G R.
     let x = c.args.context.now in
-    let ks = c.args.level.now.0 in
+    let level = c.args.level.now in
     let T = pipe_of c.args.pipe.now in
     let l = c.args.rows.now in
-    let u = next-group x S ks T l c.loop-k.k _ c.groups.result.now c.args.level.now.1 c.requires.level c.loop-k-test.true c.len-k-end.ensures c.groups.ensures in
+    let u = next-group x S level T l c.loop-k.k _ c.loop-k-test.true c.len-k-end.ensures in
     let left = (c.loop-k.invariant S G R).1 in
     let next = u.costs in
-    let total = total-charge x S ks T l in
-    let spent = c.run_group.ensures.steps S G u.key R u.at in
+    let total = total-charge x S level T l in
+    let spent = c.run_group.ensures.steps S G u.group R u.at in
     omega (arith, left, next, total, spent)
 
 pub run_groups-loop-k-preserved : goal.run_groups-loop-k-preserved
 run_groups-loop-k-preserved g t c = λ S G R.
     let x = c.args.context.now in
-    let ks = c.args.level.now.0 in
+    let level = c.args.level.now in
     let T = pipe_of c.args.pipe.now in
     let l = c.args.rows.now in
-    let u = next-group x S ks T l c.loop-k.k _ c.groups.result.now c.args.level.now.1 c.requires.level c.loop-k-test.true c.len-k-end.ensures c.groups.ensures in
-    let all = keys x.world ks l in
+    let f : List Value × List ℕ → Outcome = group_made level.0 (mean x.world (readings x.customs) S T) l in
+    let u = next-group x S level T l c.loop-k.k _ c.loop-k-test.true c.len-k-end.ensures in
     let inv = c.loop-k.invariant S G R in
     let left = inv.1 in
     let next = u.costs in
-    let spent = c.run_group.ensures.steps S G u.key R u.at in
+    let spent = c.run_group.ensures.steps S G u.group R u.at in
     let appended : c.append.new.self.items ≡ c.loop-k.all.items ++ c.in_ok-made.made.items = search rules in (
-      next-joined (made_of x S ks T l) all c.loop-k.k u.key c.loop-k.all.items _ c.in_ok-made.made.items u.within u.here inv.0 (c.in_ok-made.ensures.mean S G u.key R u.at)
-          ∙ ap (λ xs. option_map (λ rest. xs ++ rest) (joined (map (made_of x S ks T l) (drop (c.loop-k.k + 1) all)))) (sym appended),
+      next-joined f level.1 c.loop-k.k u.group c.loop-k.all.items _ c.in_ok-made.made.items u.within u.here inv.0 (c.in_ok-made.ensures.mean S G u.group R u.at)
+          ∙ ap (λ xs. option_map (λ rest. xs ++ rest) (joined (map f (drop (c.loop-k.k + 1) level.1)))) (sym appended),
       omega (arith, left, next, spent),
     )
 
 pub run_groups-returns-clause-mean : goal.run_groups-returns-clause-mean
 run_groups-returns-clause-mean g t c = λ S G R.
     let x = c.args.context.now in
-    let ks = c.args.level.now.0 in
-    let l = c.args.rows.now in
-    let n = keys-long x.world ks l c.args.level.now.1 c.requires.level in
+    let level = c.args.level.now in
     let counted = c.len-k-end.ensures in
-    let found = ap length c.groups.ensures in
-    let past : length c.args.level.now.1 ≤ c.loop-k.k = omega (arith, c.loop-k-test.false, counted, found) in
-    last-joined (made_of x S ks (pipe_of c.args.pipe.now) l) (keys x.world ks l) c.loop-k.k c.loop-k.all.items _ (omega (arith, past, n)) (c.loop-k.invariant S G R).0
+    let past : length level.1 ≤ c.loop-k.k = omega (arith, c.loop-k-test.false, counted) in
+    last-joined (group_made level.0 (mean x.world (readings x.customs) S (pipe_of c.args.pipe.now)) c.args.rows.now) level.1 c.loop-k.k c.loop-k.all.items _ past (c.loop-k.invariant S G R).0
 
 pub run_groups-returns-clause-steps : goal.run_groups-returns-clause-steps
 run_groups-returns-clause-steps g t c = λ S G R.
     let left = (c.loop-k.invariant S G R).1 in
-    let total = total-charge c.args.context.now S c.args.level.now.0 (pipe_of c.args.pipe.now) c.args.rows.now in
+    let total = total-charge c.args.context.now S c.args.level.now (pipe_of c.args.pipe.now) c.args.rows.now in
     omega (arith, left, total)
 
 -- ---- the levels
@@ -458,7 +437,7 @@ run_levels-returns-in_err-made-clause-mean g t c = λ S G R.
     let i = c.loop-i.i in
     let d = c.index-levels-i.result in
     let own = next-level levels i d R c.loop-i-test.true c.index-levels-i.is in
-    let f : Level → Outcome = λ level. grouped x.world level.0 (mean x.world (readings x.customs) S T) l in
+    let f : Level → Outcome = level_made (mean x.world (readings x.customs) S T) l in
     let p = err_from_is_err_and c.from_residual.result c.from_residual.ensures.1 in
     rw (p.1, p.2) (gives-err c.in_err-made.field-0.0 (f d) _ (c.in_err-made.ensures.mean S G own) (next-refused f levels i d c.loop-i.all.items _ c.loop-i-test.true c.index-levels-i.is (c.loop-i.invariant S G R).0))
 
@@ -499,7 +478,7 @@ run_levels-loop-i-preserved g t c = λ S G R.
     let i = c.loop-i.i in
     let d = c.index-levels-i.result in
     let own = next-level levels i d R c.loop-i-test.true c.index-levels-i.is in
-    let f : Level → Outcome = λ level. grouped x.world level.0 (mean x.world (readings x.customs) S T) l in
+    let f : Level → Outcome = level_made (mean x.world (readings x.customs) S T) l in
     let left = (c.loop-i.invariant S G R).1 in
     let next = level-costs x S T l levels i d c.loop-i-test.true c.index-levels-i.is in
     let spent = c.run_groups.ensures.steps S G own in
@@ -512,7 +491,7 @@ run_levels-loop-i-preserved g t c = λ S G R.
 pub run_levels-returns-clause-mean : goal.run_levels-returns-clause-mean
 run_levels-returns-clause-mean g t c = λ S G R.
     let x = c.args.context.now in
-    let f : Level → Outcome = λ level. grouped x.world level.0 (mean x.world (readings x.customs) S (pipe_of c.args.pipe.now)) c.args.rows.now in
+    let f : Level → Outcome = level_made (mean x.world (readings x.customs) S (pipe_of c.args.pipe.now)) c.args.rows.now in
     last-joined f c.args.levels.now c.loop-i.i c.loop-i.all.items _ (omega (arith, c.loop-i-test.false)) (c.loop-i.invariant S G R).0
 
 pub run_levels-returns-clause-steps : goal.run_levels-returns-clause-steps
@@ -522,97 +501,129 @@ run_levels-returns-clause-steps g t c = λ S G R.
 
 -- ---- a grouping
 
-pub run_grouping-levels_of-requires-clause-of : goal.run_grouping-levels_of-requires-clause-of
-run_grouping-levels_of-requires-clause-of g t c κs within = let r = c.requires.ready in all-fit-of c.args.context.now.world r.0 c.args.rows.now (r.2).runs.fit
+pub run_step-grouping_levels-requires-clause-of : goal.run_step-grouping_levels-requires-clause-of
+run_step-grouping_levels-requires-clause-of g t c κs within =
+    let r = c.requires.ready in
+    subst (λ l. IsTrue (all_of c.args.context.now.world l)) (sym c.as_slice-list.ensures.value) (all-fit-of c.args.context.now.world r.0 c.args.rows.items (r.2).runs.fit)
 
-pub run_grouping-returns-in_err-found-clause-mean : goal.run_grouping-returns-in_err-found-clause-mean
-run_grouping-returns-in_err-found-clause-mean g t c = λ S S' R.
+pub run_step-grouping_levels-requires-clause-ready : goal.run_step-grouping_levels-requires-clause-ready
+run_step-grouping_levels-requires-clause-ready g t c κs within =
+    let r = c.requires.ready in
+    let e = ap step_of c.in-GroupBy.is ∙ step_of-GroupBy c.in-GroupBy.keys c.in-GroupBy.inner in
+    keys-ready c.args.context.now c.args.root.now r.0 r.1 (keys_of c.in-GroupBy.keys) (inner_of (option_map pipe_of c.in-GroupBy.inner)) c.args.rows.items
+    (subst (λ s. StepRunsFrom c.args.context.now c.args.root.now r.0 r.1 s c.args.rows.items) e r.2)
+
+pub run_step-grouping_levels-requires-clause-named : goal.run_step-grouping_levels-requires-clause-named
+run_step-grouping_levels-requires-clause-named g t c κs within =
     let x = c.args.context.now in
+    let e = ap step_of c.in-GroupBy.is ∙ step_of-GroupBy c.in-GroupBy.keys c.in-GroupBy.inner in
+    ready-front x (keys_hierarchies (keys_of c.in-GroupBy.keys)) (inner_hierarchies (inner_of (option_map pipe_of c.in-GroupBy.inner))) (subst (λ s. AreReady x (step_hierarchies s)) e c.requires.named)
+
+pub run_step-returns-in_err-levels-in-GroupBy-clause-mean : goal.run_step-returns-in_err-levels-in-GroupBy-clause-mean
+run_step-returns-in_err-levels-in-GroupBy-clause-mean g t c = λ S S' R.
+    let x = c.args.context.now in
+    let l = c.as_slice-list.result.now in
+    let ks = keys_of c.in-GroupBy.keys in
+    let T = inner_of (option_map pipe_of c.in-GroupBy.inner) in
+    let e = ap step_of c.in-GroupBy.is ∙ step_of-GroupBy c.in-GroupBy.keys c.in-GroupBy.inner in
     let p = err_from_is_err_and c.from_residual.result c.from_residual.ensures.1 in
-    rw (p.1, p.2) (levels-err x.world (readings x.customs) S (keys_of c.args.keys.now) (inner_of (option_map pipe_of c.args.inner.now)) c.args.rows.now c.requires.keys c.in_err-found.field-0.0 c.in_err-found.ensures)
+    let whole = step-mean-on x S e c.as_slice-list.ensures.value in
+    rw (p.1, p.2) (subst (Gives (Err c.in_err-levels-in-GroupBy.field-0.0)) (sym whole) (levels-err x.world (readings x.customs) S ks T l c.in_err-levels-in-GroupBy.field-0.0 c.in_err-levels-in-GroupBy.ensures.levels))
 
-pub run_grouping-run_levels-requires-clause-levels : goal.run_grouping-run_levels-requires-clause-levels
-run_grouping-run_levels-requires-clause-levels g t c κs within = λ n level h.
+pub run_step-returns-in_err-levels-in-GroupBy-clause-steps : goal.run_step-returns-in_err-levels-in-GroupBy-clause-steps
+run_step-returns-in_err-levels-in-GroupBy-clause-steps g t c = λ S S' R.
     let x = c.args.context.now in
-    level-is x.world c.args.rows.now (levels_of (keys_of c.args.keys.now)) n level (ap (λ ls. slice_get ls n) (sym (c.as_slice-levels.ensures.value ∙ c.in_ok-found.ensures.0)) ∙ h)
+    let l = c.as_slice-list.result.now in
+    let ks = keys_of c.in-GroupBy.keys in
+    let T = inner_of (option_map pipe_of c.in-GroupBy.inner) in
+    let e = ap step_of c.in-GroupBy.is ∙ step_of-GroupBy c.in-GroupBy.keys c.in-GroupBy.inner in
+    let spent = c.grouping_levels.ensures.steps in
+    let least = keys-least x.world (readings x.customs) S ks T l in
+    let whole = step-cost-on x S e c.as_slice-list.ensures.value in
+    omega (arith, spent, least, whole)
 
-pub run_grouping-key_rows-requires : goal.run_grouping-key_rows-requires
-run_grouping-key_rows-requires g t c =
+pub run_step-run_levels-requires-clause-ready : goal.run_step-run_levels-requires-clause-ready
+run_step-run_levels-requires-clause-ready g t c κs within =
+    let r = c.requires.ready in
     let x = c.args.context.now in
-    record {
-      differ = subst (λ (ls : List Level). IsTrue (list_all (λ (level : Level). list_all (λ g. columns_differ (keyed level.0 g.0)) level.1) ls)) (sym (c.as_slice-levels.ensures.value ∙ c.in_ok-found.ensures.0))
-          (all-differ x.world c.args.rows.now (levels_of (keys_of c.args.keys.now)) c.keys_ready.ensures);
-    }
+    let l = c.as_slice-list.result.now in
+    let ks = keys_of c.in-GroupBy.keys in
+    let e = ap step_of c.in-GroupBy.is ∙ step_of-GroupBy c.in-GroupBy.keys c.in-GroupBy.inner ∙ ap (λ o. tree.Step.GroupBy ks (inner_of (option_map pipe_of o))) c.in-Some.is in
+    let u = grouping-run c.in_ok-levels-in-GroupBy.levels (subst IsLoaded c.store-store.ensures c.data_is_loaded.ensures) c.in_ok-levels-in-GroupBy.ensures.levels c.as_slice.ensures.value (step-runs-on e c.as_slice-list.ensures.value r.2) in
+    (r.0, u.shape, u.runs)
 
-pub run_grouping-returns-in-Some-clause-mean : goal.run_grouping-returns-in-Some-clause-mean
-run_grouping-returns-in-Some-clause-mean g t c = λ S S' R.
+pub run_step-run_levels-requires-clause-named : goal.run_step-run_levels-requires-clause-named
+run_step-run_levels-requires-clause-named g t c κs within =
     let x = c.args.context.now in
-    let ks = keys_of c.args.keys.now in
-    let T = pipe_of c.in-Some.pipe in
-    let l = c.args.rows.now in
-    let e = ap (λ o. tree.Step.GroupBy ks (inner_of (option_map pipe_of o))) c.in-Some.is in
-    let are = c.as_slice-levels.ensures.value ∙ c.in_ok-found.ensures.0 in
-    let paths = ap (map (λ (level : Level). level.0)) are ∙ paths-of_levels x.world l (levels_of ks) in
-    let G = levels-run x c.args.root.now S S' ks T l (subst IsLoaded c.store.ensures c.data_is_loaded.ensures) c.requires.keys (subst (λ s. StepRunsFrom x c.args.root.now S S' s l) e R) in
-    let runs = subst (λ ps. LevelsRun x c.args.root.now S G.0 ps T l) (sym paths) G.1 in
-    let F = mean x.world (readings x.customs) S T in
-    subst (Gives c.run_levels.result)
-    (joined-levels x.world F l c.as_slice-levels.result.now (levels_of ks) paths ∙ sym (levels-mean x.world (readings x.customs) S ks T l c.requires.keys c.in_ok-found.ensures.1) ∙ ap (λ s. step_mean x.world (readings x.customs) S s l) (sym e))
-    (c.run_levels.ensures.mean S G.0 runs)
+    let ks = keys_of c.in-GroupBy.keys in
+    let e = ap step_of c.in-GroupBy.is ∙ step_of-GroupBy c.in-GroupBy.keys c.in-GroupBy.inner ∙ ap (λ o. tree.Step.GroupBy ks (inner_of (option_map pipe_of o))) c.in-Some.is in
+    ready-back x (keys_hierarchies ks) (inner_hierarchies (tree.OptPipe.SomePipe (pipe_of c.in-Some.pipe))) (subst (λ s. AreReady x (step_hierarchies s)) e c.requires.named)
 
-pub run_grouping-returns-in-Some-clause-steps : goal.run_grouping-returns-in-Some-clause-steps
-run_grouping-returns-in-Some-clause-steps g t c = λ S S' R.
+pub run_step-key_rows-requires : goal.run_step-key_rows-requires
+run_step-key_rows-requires g t c =
+    let r = c.requires.ready in
     let x = c.args.context.now in
-    let ks = keys_of c.args.keys.now in
-    let T = pipe_of c.in-Some.pipe in
-    let l = c.args.rows.now in
-    let e = ap (λ o. tree.Step.GroupBy ks (inner_of (option_map pipe_of o))) c.in-Some.is in
-    let are = c.as_slice-levels.ensures.value ∙ c.in_ok-found.ensures.0 in
-    let paths = ap (map (λ (level : Level). level.0)) are ∙ paths-of_levels x.world l (levels_of ks) in
-    let G = levels-run x c.args.root.now S S' ks T l (subst IsLoaded c.store.ensures c.data_is_loaded.ensures) c.requires.keys (subst (λ s. StepRunsFrom x c.args.root.now S S' s l) e R) in
-    let runs = subst (λ ps. LevelsRun x c.args.root.now S G.0 ps T l) (sym paths) G.1 in
-    let F = mean x.world (readings x.customs) S T in
-    let spent = c.run_levels.ensures.steps S G.0 runs in
-    let same = ap (λ gs. sum (map (application (cost x.world (readings x.customs) S T) F) gs)) (grouped-levels x.world l c.as_slice-levels.result.now (levels_of ks) paths) in
-    let least = levels-cost x.world (readings x.customs) S ks T l c.requires.keys in
-    let whole = ap (λ s. step_cost x.world (readings x.customs) S s l) e in
-    omega (arith, spent, same, least, whole)
+    let l = c.as_slice-list.result.now in
+    let ks = keys_of c.in-GroupBy.keys in
+    let e = ap step_of c.in-GroupBy.is ∙ step_of-GroupBy c.in-GroupBy.keys c.in-GroupBy.inner in
+    record { differ = (levels-found c.in_ok-levels-in-GroupBy.levels (step-runs-on e c.as_slice-list.ensures.value r.2) c.in_ok-levels-in-GroupBy.ensures.levels c.as_slice-in-None.ensures.value).differ }
 
-pub run_grouping-returns-clause-mean : goal.run_grouping-returns-clause-mean
-run_grouping-returns-clause-mean g t c = λ S S' R.
+pub run_step-returns-in-Some-clause-mean : goal.run_step-returns-in-Some-clause-mean
+run_step-returns-in-Some-clause-mean g t c = λ S S' R.
     let x = c.args.context.now in
-    let ks = keys_of c.args.keys.now in
-    let l = c.args.rows.now in
-    let e = ap (λ o. tree.Step.GroupBy ks (inner_of (option_map pipe_of o))) c.in-None.is in
-    let are = c.as_slice-levels.ensures.value ∙ c.in_ok-found.ensures.0 in
-    ap (λ s. step_mean x.world (readings x.customs) S s l) e ∙ levels-keys x.world (readings x.customs) S ks l c.requires.keys c.in_ok-found.ensures.1
-    ∙ ap (λ ls. Some (flat_map level_rows ls)) (sym are) ∙ ap Some (sym c.in_ok-key_rows-in-None.ensures.rows)
+    let l = c.as_slice-list.result.now in
+    let ks = keys_of c.in-GroupBy.keys in
+    let e = ap step_of c.in-GroupBy.is ∙ step_of-GroupBy c.in-GroupBy.keys c.in-GroupBy.inner ∙ ap (λ o. tree.Step.GroupBy ks (inner_of (option_map pipe_of o))) c.in-Some.is in
+    let u = grouping-run c.in_ok-levels-in-GroupBy.levels (subst IsLoaded c.store-store.ensures c.data_is_loaded.ensures) c.in_ok-levels-in-GroupBy.ensures.levels c.as_slice.ensures.value (step-runs-on e c.as_slice-list.ensures.value R) in
+    subst (Gives c.run_levels.result) (sym u.means ∙ sym (step-mean-on x S e c.as_slice-list.ensures.value)) (c.run_levels.ensures.mean S u.shape u.runs)
 
-pub run_grouping-returns-in_err-key_rows-in-None-clause-steps : goal.run_grouping-returns-in_err-key_rows-in-None-clause-steps
-run_grouping-returns-in_err-key_rows-in-None-clause-steps g t c = λ S S' R.
+pub run_step-returns-in-Some-clause-steps : goal.run_step-returns-in-Some-clause-steps
+run_step-returns-in-Some-clause-steps g t c = λ S S' R.
     let x = c.args.context.now in
-    let ks = keys_of c.args.keys.now in
-    let l = c.args.rows.now in
-    let e = ap (λ o. tree.Step.GroupBy ks (inner_of (option_map pipe_of o))) c.in-None.is in
-    let are = c.as_slice-levels.ensures.value ∙ c.in_ok-found.ensures.0 in
+    let l = c.as_slice-list.result.now in
+    let ks = keys_of c.in-GroupBy.keys in
+    let e = ap step_of c.in-GroupBy.is ∙ step_of-GroupBy c.in-GroupBy.keys c.in-GroupBy.inner ∙ ap (λ o. tree.Step.GroupBy ks (inner_of (option_map pipe_of o))) c.in-Some.is in
+    let u = grouping-run c.in_ok-levels-in-GroupBy.levels (subst IsLoaded c.store-store.ensures c.data_is_loaded.ensures) c.in_ok-levels-in-GroupBy.ensures.levels c.as_slice.ensures.value (step-runs-on e c.as_slice-list.ensures.value R) in
+    let found = c.grouping_levels.ensures.steps in
+    let spent = c.run_levels.ensures.steps S u.shape u.runs in
+    let least = u.costs in
+    let whole = step-cost-on x S e c.as_slice-list.ensures.value in
+    omega (arith, found, spent, least, whole)
+
+pub run_step-returns-in-GroupBy-clause-mean : goal.run_step-returns-in-GroupBy-clause-mean
+run_step-returns-in-GroupBy-clause-mean g t c = λ S S' R.
+    let x = c.args.context.now in
+    let l = c.as_slice-list.result.now in
+    let ks = keys_of c.in-GroupBy.keys in
+    let e = ap step_of c.in-GroupBy.is ∙ step_of-GroupBy c.in-GroupBy.keys c.in-GroupBy.inner ∙ ap (λ o. tree.Step.GroupBy ks (inner_of (option_map pipe_of o))) c.in-None.is in
+    let u = levels-found c.in_ok-levels-in-GroupBy.levels (step-runs-on e c.as_slice-list.ensures.value R) c.in_ok-levels-in-GroupBy.ensures.levels c.as_slice-in-None.ensures.value in
+    step-mean-on x S e c.as_slice-list.ensures.value ∙ u.rows ∙ ap Some (sym c.in_ok-key_rows-in-None.ensures.rows)
+
+pub run_step-returns-in_err-key_rows-in-None-clause-steps : goal.run_step-returns-in_err-key_rows-in-None-clause-steps
+run_step-returns-in_err-key_rows-in-None-clause-steps g t c = λ S S' R.
+    let x = c.args.context.now in
+    let l = c.as_slice-list.result.now in
+    let ks = keys_of c.in-GroupBy.keys in
+    let e = ap step_of c.in-GroupBy.is ∙ step_of-GroupBy c.in-GroupBy.keys c.in-GroupBy.inner ∙ ap (λ o. tree.Step.GroupBy ks (inner_of (option_map pipe_of o))) c.in-None.is in
+    let u = levels-found c.in_ok-levels-in-GroupBy.levels (step-runs-on e c.as_slice-list.ensures.value R) c.in_ok-levels-in-GroupBy.ensures.levels c.as_slice-in-None.ensures.value in
+    let found = c.grouping_levels.ensures.steps in
     let spent = c.key_rows.ensures.steps in
-    let same = ap (λ ls. length (flat_map level_rows ls)) are in
-    let least = keys-cost x.world (readings x.customs) S ks l c.requires.keys c.in_ok-found.ensures.1 in
-    let whole = ap (λ s. step_cost x.world (readings x.customs) S s l) e in
-    omega (arith, spent, same, least, whole)
+    let least = u.costs in
+    let whole = step-cost-on x S e c.as_slice-list.ensures.value in
+    omega (arith, found, spent, least, whole)
 
-pub run_grouping-returns-clause-steps : goal.run_grouping-returns-clause-steps
-run_grouping-returns-clause-steps g t c = λ S S' R.
+pub run_step-returns-in-GroupBy-clause-steps : goal.run_step-returns-in-GroupBy-clause-steps
+run_step-returns-in-GroupBy-clause-steps g t c = λ S S' R.
     let x = c.args.context.now in
-    let ks = keys_of c.args.keys.now in
-    let l = c.args.rows.now in
-    let e = ap (λ o. tree.Step.GroupBy ks (inner_of (option_map pipe_of o))) c.in-None.is in
-    let are = c.as_slice-levels.ensures.value ∙ c.in_ok-found.ensures.0 in
+    let l = c.as_slice-list.result.now in
+    let ks = keys_of c.in-GroupBy.keys in
+    let e = ap step_of c.in-GroupBy.is ∙ step_of-GroupBy c.in-GroupBy.keys c.in-GroupBy.inner ∙ ap (λ o. tree.Step.GroupBy ks (inner_of (option_map pipe_of o))) c.in-None.is in
+    let u = levels-found c.in_ok-levels-in-GroupBy.levels (step-runs-on e c.as_slice-list.ensures.value R) c.in_ok-levels-in-GroupBy.ensures.levels c.as_slice-in-None.ensures.value in
+    let found = c.grouping_levels.ensures.steps in
     let spent = c.key_rows.ensures.steps in
-    let same = ap (λ ls. length (flat_map level_rows ls)) are in
-    let least = keys-cost x.world (readings x.customs) S ks l c.requires.keys c.in_ok-found.ensures.1 in
-    let whole = ap (λ s. step_cost x.world (readings x.customs) S s l) e in
-    omega (arith, spent, same, least, whole)
+    let least = u.costs in
+    let whole = step-cost-on x S e c.as_slice-list.ensures.value in
+    omega (arith, found, spent, least, whole)
 
 -- ---- a selection
 
@@ -652,10 +663,10 @@ pub run_concat-run_branches-requires-clause-ready : goal.run_concat-run_branches
 run_concat-run_branches-requires-clause-ready g t c κs within =
     subst (λ bs. BranchesReady c.args.context.now c.args.root.now (map pipe_of bs) c.args.rows.now) (sym c.as_slice.ensures) c.branches_ready.ensures
 
-pub run_concat-run_branches-requires-clause-built : goal.run_concat-run_branches-requires-clause-built
-run_concat-run_branches-requires-clause-built g t c κs within =
-    ap (λ bs. list_all is_built (map pipe_of bs)) c.as_slice.ensures
-    ∙ sym (all-built (map pipe_of (pipes_in c.args.branches.now))) ∙ ap are_built_branches (sym (pipes_of-is c.args.branches.now)) ∙ c.requires.built
+pub run_concat-run_branches-requires-clause-named : goal.run_concat-run_branches-requires-clause-named
+run_concat-run_branches-requires-clause-named g t c κs within =
+    subst (λ bs. (n : ℕ) (p : Pipe) → slice_get (map pipe_of bs) n ≡ Some p → AreReady c.args.context.now (hierarchies p)) (sym c.as_slice.ensures)
+    (ready-branch c.args.context.now (map pipe_of (pipes_in c.args.branches.now)) (subst (λ ps. AreReady c.args.context.now (branch_hierarchies ps)) (pipes_of-is c.args.branches.now) c.requires.named))
 
 pub run_concat-returns-in_err-parts-clause-mean : goal.run_concat-returns-in_err-parts-clause-mean
 run_concat-returns-in_err-parts-clause-mean g t c = λ S S' R.
@@ -696,8 +707,9 @@ pub run_branches-run_pipe-requires-clause-ready : goal.run_branches-run_pipe-req
 run_branches-run_pipe-requires-clause-ready g t c κs within =
     subst (λ l. ReadyFrom c.args.context.now c.args.root.now (pipe_of c.index-branches-k.result) l) (sym c.in_ok-copies.ensures.rows) c.branch_ready.ensures
 
-pub run_branches-run_pipe-requires-clause-built : goal.run_branches-run_pipe-requires-clause-built
-run_branches-run_pipe-requires-clause-built g t c κs within = built-at c.args.branches.now c.loop-k.k c.index-branches-k.result c.requires.built c.loop-k-test.true c.index-branches-k.is
+pub run_branches-run_pipe-requires-clause-named : goal.run_branches-run_pipe-requires-clause-named
+run_branches-run_pipe-requires-clause-named g t c κs within =
+    c.requires.named c.loop-k.k (pipe_of c.index-branches-k.result) (branch-at c.args.branches.now c.loop-k.k c.index-branches-k.result c.loop-k-test.true c.index-branches-k.is)
 
 pub run_branches-returns-in_err-copies-clause-steps : goal.run_branches-returns-in_err-copies-clause-steps
 run_branches-returns-in_err-copies-clause-steps g t c = λ S R.
@@ -780,8 +792,8 @@ run_step-returns-in-Join-clause-steps g t c = λ S S' R.
 pub run_join-run_joined-requires-clause-ready : goal.run_join-run_joined-requires-clause-ready
 run_join-run_joined-requires-clause-ready g t c κs within = ready-same c.args.context.now c.args.root.now _ _ c.args.rows.now c.args.rows.now (join_of-is c.args.join.now) refl c.requires.ready
 
-pub run_join-run_joined-requires-clause-built : goal.run_join-run_joined-requires-clause-built
-run_join-run_joined-requires-clause-built g t c κs within = sym (ap is_built_step (join_of-is c.args.join.now)) ∙ c.requires.built
+pub run_join-run_joined-requires-clause-named : goal.run_join-run_joined-requires-clause-named
+run_join-run_joined-requires-clause-named g t c κs within = subst (λ s. AreReady c.args.context.now (step_hierarchies s)) (join_of-is c.args.join.now) c.requires.named
 
 pub run_join-returns-clause-mean : goal.run_join-returns-clause-mean
 run_join-returns-clause-mean g t c = λ S S' R. gives-same c.run_joined.result (join_of-is c.args.join.now) refl R (c.run_joined.ensures.mean S S')
@@ -1001,3 +1013,403 @@ run_inner-returns-in-None-clause-mean g t c = λ S S' R.
     let x = c.args.context.now in
     let l = c.args.rows.items in
     ap (λ o. inner_mean x.world (readings x.customs) S (λ r. Some r) (inner_of (option_map pipe_of o)) l) c.in-None.is ∙ inner_mean-NoPipe x.world (readings x.customs) S (λ r. Some r) l
+
+-- ---- hierarchies: from a transformation to its parts
+
+pub run_step-run_concat-requires-clause-named : goal.run_step-run_concat-requires-clause-named
+run_step-run_concat-requires-clause-named g t c κs within = subst (λ s. AreReady c.args.context.now (step_hierarchies s)) (ap step_of c.in-Concat.is ∙ step_of-Concat c.in-Concat.branches) c.requires.named
+
+pub run_inner-run_pipe-requires-clause-named : goal.run_inner-run_pipe-requires-clause-named
+run_inner-run_pipe-requires-clause-named g t c κs within = subst (λ o. AreReady c.args.context.now (inner_hierarchies (inner_of (option_map pipe_of o)))) c.in-Some.is c.requires.named
+
+-- ---- a traversal
+
+pub run_step-traverse_rows-requires-clause-of : goal.run_step-traverse_rows-requires-clause-of
+run_step-traverse_rows-requires-clause-of g t c κs within =
+    let r = c.requires.ready in
+    let e = ap step_of c.in-Traverse.is ∙ step_of-Traverse c.in-Traverse.walk in
+    let u = traverse-run (subst (λ s. StepRunsFrom c.args.context.now c.args.root.now r.0 r.1 s c.args.rows.items) e r.2) in
+    subst (λ l. IsTrue (all_of c.args.context.now.world l)) (sym c.as_slice-in-Traverse.ensures.value) u.rows
+
+pub run_step-traverse_rows-requires-clause-there : goal.run_step-traverse_rows-requires-clause-there
+run_step-traverse_rows-requires-clause-there g t c κs within =
+    let r = c.requires.ready in
+    let e = ap step_of c.in-Traverse.is ∙ step_of-Traverse c.in-Traverse.walk in
+    (traverse-run (subst (λ s. StepRunsFrom c.args.context.now c.args.root.now r.0 r.1 s c.args.rows.items) e r.2)).hierarchy
+
+pub run_step-traverse_rows-requires-clause-ready : goal.run_step-traverse_rows-requires-clause-ready
+run_step-traverse_rows-requires-clause-ready g t c κs within =
+    let e = ap step_of c.in-Traverse.is ∙ step_of-Traverse c.in-Traverse.walk in
+    ready-first c.args.context.now (traverse_of c.in-Traverse.walk).hier [] (subst (λ s. AreReady c.args.context.now (step_hierarchies s)) e c.requires.named)
+
+pub run_step-returns-in-Traverse-clause-mean : goal.run_step-returns-in-Traverse-clause-mean
+run_step-returns-in-Traverse-clause-mean g t c = λ S S' R.
+    let x = c.args.context.now in
+    let l = c.args.rows.items in
+    let e = ap step_of c.in-Traverse.is ∙ step_of-Traverse c.in-Traverse.walk in
+    let u = traverse-run (subst (λ s. StepRunsFrom x c.args.root.now S S' s l) e R) in
+    subst (Gives c.traverse_rows.result) (sym (ap (λ s. step_mean x.world (readings x.customs) S s l) e ∙ u.means ∙ ap (traversal x.world (traverse_of c.in-Traverse.walk)) (sym c.as_slice-in-Traverse.ensures.value))) c.traverse_rows.ensures.mean
+
+pub run_step-returns-in-Traverse-clause-steps : goal.run_step-returns-in-Traverse-clause-steps
+run_step-returns-in-Traverse-clause-steps g t c = λ S S' R.
+    let x = c.args.context.now in
+    let l = c.args.rows.items in
+    let e = ap step_of c.in-Traverse.is ∙ step_of-Traverse c.in-Traverse.walk in
+    let u = traverse-run (subst (λ s. StepRunsFrom x c.args.root.now S S' s l) e R) in
+    let spent = c.traverse_rows.ensures.steps in
+    let same = ap (λ l. result_length (traversal x.world (traverse_of c.in-Traverse.walk) l)) c.as_slice-in-Traverse.ensures.value in
+    let whole = ap (λ s. step_cost x.world (readings x.customs) S s l) e ∙ u.costs in
+    omega (arith, spent, same, whole)
+
+-- ---- a climb
+
+pub run_step-returns-in-Climb-clause-mean : goal.run_step-returns-in-Climb-clause-mean
+run_step-returns-in-Climb-clause-mean g t c = λ S S' R.
+    let x = c.args.context.now in
+    let l = c.args.rows.items in
+    let e = ap step_of c.in-Climb.is ∙ step_of-Climb c.in-Climb.climb in
+    subst (Gives c.run_climb.result) (sym (ap (λ s. step_mean x.world (readings x.customs) S s l) e)) (c.run_climb.ensures.mean S S' (subst (λ s. StepRunsFrom x c.args.root.now S S' s l) e R))
+
+pub run_step-returns-in-Climb-clause-steps : goal.run_step-returns-in-Climb-clause-steps
+run_step-returns-in-Climb-clause-steps g t c = λ S S' R.
+    let x = c.args.context.now in
+    let l = c.args.rows.items in
+    let e = ap step_of c.in-Climb.is ∙ step_of-Climb c.in-Climb.climb in
+    let spent = c.run_climb.ensures.steps S S' (subst (λ s. StepRunsFrom x c.args.root.now S S' s l) e R) in
+    let whole = ap (λ s. step_cost x.world (readings x.customs) S s l) e in
+    omega (arith, spent, whole)
+
+pub run_climb-run_pipe-requires-clause-ready : goal.run_climb-run_pipe-requires-clause-ready
+run_climb-run_pipe-requires-clause-ready g t c κs within =
+    let x = c.args.context.now in
+    let r = c.requires.ready in
+    let u = climb-of c.args.climb.now r.2 in
+    (r.0, u.shape, subst (RunsFrom x c.args.root.now r.0 u.shape (pipe_of c.args.climb.now.inner)) (sym (c.in_ok-copies.ensures.rows ∙ c.as_slice.ensures.value)) u.runs)
+
+pub run_climb-run_pipe-requires-clause-named : goal.run_climb-run_pipe-requires-clause-named
+run_climb-run_pipe-requires-clause-named g t c κs within =
+    let x = c.args.context.now in
+    let k = c.args.climb.now in
+    ready-others x (hier_of k.hier) (hierarchies (pipe_of k.inner)) (subst (λ s. AreReady x (step_hierarchies s)) (climb_of-is k) c.requires.named)
+
+pub run_climb-climb_rows-requires-clause-of : goal.run_climb-climb_rows-requires-clause-of
+run_climb-climb_rows-requires-clause-of g t c κs within = let r = c.requires.ready in all-fit-of c.args.context.now.world r.0 c.args.rows.items (r.2).runs.fit
+
+pub run_climb-climb_rows-requires-clause-starts : goal.run_climb-climb_rows-requires-clause-starts
+run_climb-climb_rows-requires-clause-starts g t c κs within =
+    let x = c.args.context.now in
+    let k = c.args.climb.now in
+    let l = c.args.rows.items in
+    let r = c.requires.ready in
+    let u = climb-of k r.2 in
+    let copied = c.in_ok-copies.ensures.rows ∙ c.as_slice.ensures.value in
+    let runs = subst (RunsFrom x c.args.root.now r.0 u.shape (pipe_of k.inner)) (sym copied) u.runs in
+    let made = ap (mean x.world (readings x.customs) r.0 (pipe_of k.inner)) (sym copied) ∙ c.in_ok-starts.ensures.mean r.0 u.shape runs in
+    subst (λ l. IsTrue (all_of x.world l)) (sym c.as_slice-2.ensures.value) (u.starts c.in_ok-starts.starts.items (subst IsLoaded c.store.ensures c.data_is_loaded.ensures) made)
+
+pub run_climb-climb_rows-requires-clause-there : goal.run_climb-climb_rows-requires-clause-there
+run_climb-climb_rows-requires-clause-there g t c κs within = (climb-of c.args.climb.now c.requires.ready.2).hierarchy
+
+pub run_climb-climb_rows-requires-clause-ready : goal.run_climb-climb_rows-requires-clause-ready
+run_climb-climb_rows-requires-clause-ready g t c κs within =
+    let x = c.args.context.now in
+    let k = c.args.climb.now in
+    ready-first x (hier_of k.hier) (hierarchies (pipe_of k.inner)) (subst (λ s. AreReady x (step_hierarchies s)) (climb_of-is k) c.requires.named)
+
+pub run_climb-returns-in_err-copies-clause-steps : goal.run_climb-returns-in_err-copies-clause-steps
+run_climb-returns-in_err-copies-clause-steps g t c = λ S S' R.
+    let x = c.args.context.now in
+    let k = c.args.climb.now in
+    let l = c.args.rows.items in
+    let u = climb-of k R in
+    let copied = c.copy_rows.ensures.steps in
+    let long = ap length c.as_slice.ensures.value in
+    let least = u.costs in
+    let whole = climb-costs x S k l in
+    omega (arith, copied, long, least, whole)
+
+pub run_climb-returns-in_err-starts-clause-mean : goal.run_climb-returns-in_err-starts-clause-mean
+run_climb-returns-in_err-starts-clause-mean g t c = λ S S' R.
+    let x = c.args.context.now in
+    let k = c.args.climb.now in
+    let l = c.args.rows.items in
+    let u = climb-of k R in
+    let copied = c.in_ok-copies.ensures.rows ∙ c.as_slice.ensures.value in
+    let runs = subst (RunsFrom x c.args.root.now S u.shape (pipe_of k.inner)) (sym copied) u.runs in
+    let p = err_from_is_err_and c.from_residual-in_err-starts.result c.from_residual-in_err-starts.ensures.1 in
+    rw (p.1, p.2) (gives-err c.in_err-starts.field-0.0 (mean x.world (readings x.customs) S (pipe_of k.inner) c.in_ok-copies.copies.items) (step_mean x.world (readings x.customs) S (climb_of k) l) (c.in_err-starts.ensures.mean S u.shape runs)
+    (λ n. climb-means x S k l ∙ u.refused (ap (mean x.world (readings x.customs) S (pipe_of k.inner)) (sym copied) ∙ n)))
+
+pub run_climb-returns-in_err-starts-clause-steps : goal.run_climb-returns-in_err-starts-clause-steps
+run_climb-returns-in_err-starts-clause-steps g t c = λ S S' R.
+    let x = c.args.context.now in
+    let k = c.args.climb.now in
+    let l = c.args.rows.items in
+    let u = climb-of k R in
+    let same = c.in_ok-copies.ensures.rows ∙ c.as_slice.ensures.value in
+    let runs = subst (RunsFrom x c.args.root.now S u.shape (pipe_of k.inner)) (sym same) u.runs in
+    let copied = c.copy_rows.ensures.steps in
+    let long = ap length c.as_slice.ensures.value in
+    let ran = c.run_pipe.ensures.steps S u.shape runs in
+    let costs = ap (cost x.world (readings x.customs) S (pipe_of k.inner)) same in
+    let least = u.costs in
+    let whole = climb-costs x S k l in
+    omega (arith, copied, long, ran, costs, least, whole)
+
+pub run_climb-returns-clause-mean : goal.run_climb-returns-clause-mean
+run_climb-returns-clause-mean g t c = λ S S' R.
+    let x = c.args.context.now in
+    let k = c.args.climb.now in
+    let l = c.args.rows.items in
+    let u = climb-of k R in
+    let copied = c.in_ok-copies.ensures.rows ∙ c.as_slice.ensures.value in
+    let runs = subst (RunsFrom x c.args.root.now S u.shape (pipe_of k.inner)) (sym copied) u.runs in
+    let made = ap (mean x.world (readings x.customs) S (pipe_of k.inner)) (sym copied) ∙ c.in_ok-starts.ensures.mean S u.shape runs in
+    subst (Gives c.climb_rows.result) (sym (climb-means x S k l ∙ u.means c.in_ok-starts.starts.items made ∙ ap (climb_from x.world k.up (hier_of k.hier) k.path k.distance k.keep l) (sym c.as_slice-2.ensures.value))) c.climb_rows.ensures
+
+pub run_climb-returns-clause-steps : goal.run_climb-returns-clause-steps
+run_climb-returns-clause-steps g t c = λ S S' R.
+    let x = c.args.context.now in
+    let k = c.args.climb.now in
+    let l = c.args.rows.items in
+    let u = climb-of k R in
+    let same = c.in_ok-copies.ensures.rows ∙ c.as_slice.ensures.value in
+    let runs = subst (RunsFrom x c.args.root.now S u.shape (pipe_of k.inner)) (sym same) u.runs in
+    let copied = c.copy_rows.ensures.steps in
+    let long = ap length c.as_slice.ensures.value in
+    let ran = c.run_pipe.ensures.steps S u.shape runs in
+    let costs = ap (cost x.world (readings x.customs) S (pipe_of k.inner)) same in
+    let least = u.costs in
+    let whole = climb-costs x S k l in
+    omega (arith, copied, long, ran, costs, least, whole)
+
+-- ---- the levels of a grouping
+
+pub grouping_levels-run_shown-requires-clause-there : goal.grouping_levels-run_shown-requires-clause-there
+grouping_levels-run_shown-requires-clause-there g t c κs within =
+    let x = c.args.context.now in
+    let h = hier_of c.in-Recursive.hier in
+    let p = c.in-Recursive.path in
+    let T = inner_of (option_map pipe_of c.in-Recursive.inner) in
+    let has = met-key c.args.keys.now c.as_slice-items.result.now c.loop-key.key-index c.key-item.result c.as_slice-items.ensures c.loop-key-test.true c.key-item.is (c.loop-key.invariant).1 (ap key_of c.in-Recursive.is ∙ key_of-Recursive c.in-Recursive.hier p c.in-Recursive.inner) in
+    ap is_some (recursive x h p T (keys_of c.args.keys.now) has c.requires.ready).at
+
+pub grouping_levels-run_shown-requires-clause-index : goal.grouping_levels-run_shown-requires-clause-index
+grouping_levels-run_shown-requires-clause-index g t c κs within =
+    let x = c.args.context.now in
+    let h = hier_of c.in-Recursive.hier in
+    let p = c.in-Recursive.path in
+    let T = inner_of (option_map pipe_of c.in-Recursive.inner) in
+    let has = met-key c.args.keys.now c.as_slice-items.result.now c.loop-key.key-index c.key-item.result c.as_slice-items.ensures c.loop-key-test.true c.key-item.is (c.loop-key.invariant).1 (ap key_of c.in-Recursive.is ∙ key_of-Recursive c.in-Recursive.hier p c.in-Recursive.inner) in
+    ready-first x h (inner_hierarchies T) (ready-key x (tree.Key.Recursive h p T) (keys_of c.args.keys.now) has c.requires.named)
+
+pub grouping_levels-run_shown-requires-clause-ready : goal.grouping_levels-run_shown-requires-clause-ready
+grouping_levels-run_shown-requires-clause-ready g t c κs within =
+    let x = c.args.context.now in
+    let h = hier_of c.in-Recursive.hier in
+    let p = c.in-Recursive.path in
+    let T = inner_of (option_map pipe_of c.in-Recursive.inner) in
+    let has = met-key c.args.keys.now c.as_slice-items.result.now c.loop-key.key-index c.key-item.result c.as_slice-items.ensures c.loop-key-test.true c.key-item.is (c.loop-key.invariant).1 (ap key_of c.in-Recursive.is ∙ key_of-Recursive c.in-Recursive.hier p c.in-Recursive.inner) in
+    (recursive x h p T (keys_of c.args.keys.now) has c.requires.ready).shown
+
+pub grouping_levels-run_shown-requires-clause-named : goal.grouping_levels-run_shown-requires-clause-named
+grouping_levels-run_shown-requires-clause-named g t c κs within =
+    let x = c.args.context.now in
+    let h = hier_of c.in-Recursive.hier in
+    let p = c.in-Recursive.path in
+    let T = inner_of (option_map pipe_of c.in-Recursive.inner) in
+    let has = met-key c.args.keys.now c.as_slice-items.result.now c.loop-key.key-index c.key-item.result c.as_slice-items.ensures c.loop-key-test.true c.key-item.is (c.loop-key.invariant).1 (ap key_of c.in-Recursive.is ∙ key_of-Recursive c.in-Recursive.hier p c.in-Recursive.inner) in
+    ready-others x h (inner_hierarchies T) (ready-key x (tree.Key.Recursive h p T) (keys_of c.args.keys.now) has c.requires.named)
+
+pub grouping_levels-node_levels-requires-clause-there : goal.grouping_levels-node_levels-requires-clause-there
+grouping_levels-node_levels-requires-clause-there g t c κs within =
+    let x = c.args.context.now in
+    let h = hier_of c.in-Recursive.hier in
+    let p = c.in-Recursive.path in
+    let T = inner_of (option_map pipe_of c.in-Recursive.inner) in
+    let has = met-key c.args.keys.now c.as_slice-items.result.now c.loop-key.key-index c.key-item.result c.as_slice-items.ensures c.loop-key-test.true c.key-item.is (c.loop-key.invariant).1 (ap key_of c.in-Recursive.is ∙ key_of-Recursive c.in-Recursive.hier p c.in-Recursive.inner) in
+    ap is_some (recursive x h p T (keys_of c.args.keys.now) has c.requires.ready).at
+
+pub grouping_levels-node_levels-requires-clause-ready : goal.grouping_levels-node_levels-requires-clause-ready
+grouping_levels-node_levels-requires-clause-ready g t c κs within =
+    let x = c.args.context.now in
+    let h = hier_of c.in-Recursive.hier in
+    let p = c.in-Recursive.path in
+    let T = inner_of (option_map pipe_of c.in-Recursive.inner) in
+    let has = met-key c.args.keys.now c.as_slice-items.result.now c.loop-key.key-index c.key-item.result c.as_slice-items.ensures c.loop-key-test.true c.key-item.is (c.loop-key.invariant).1 (ap key_of c.in-Recursive.is ∙ key_of-Recursive c.in-Recursive.hier p c.in-Recursive.inner) in
+    ready-first x h (inner_hierarchies T) (ready-key x (tree.Key.Recursive h p T) (keys_of c.args.keys.now) has c.requires.named)
+
+pub grouping_levels-returns-in_err-shown-in-Recursive-clause-levels : goal.grouping_levels-returns-in_err-shown-in-Recursive-clause-levels
+grouping_levels-returns-in_err-shown-in-Recursive-clause-levels g t c =
+    let x = c.args.context.now in
+    let h = hier_of c.in-Recursive.hier in
+    let p = c.in-Recursive.path in
+    let T = inner_of (option_map pipe_of c.in-Recursive.inner) in
+    let has = met-key c.args.keys.now c.as_slice-items.result.now c.loop-key.key-index c.key-item.result c.as_slice-items.ensures c.loop-key-test.true c.key-item.is (c.loop-key.invariant).1 (ap key_of c.in-Recursive.is ∙ key_of-Recursive c.in-Recursive.hier p c.in-Recursive.inner) in
+    let u = recursive x h p T (keys_of c.args.keys.now) has c.requires.ready in
+    let q = err_from_is_err_and c.from_residual.result c.from_residual.ensures.1 in
+    rw (q.1, q.2) (shown-gives x h p T (keys_of c.args.keys.now) has c.requires.ready u.place u.at c.in_err-shown-in-Recursive.field-0.0 c.args.rows.now (c.in_err-shown-in-Recursive.ensures.shown u.place u.at))
+
+pub grouping_levels-returns-in_err-shown-in-Recursive-clause-steps : goal.grouping_levels-returns-in_err-shown-in-Recursive-clause-steps
+grouping_levels-returns-in_err-shown-in-Recursive-clause-steps g t c =
+    let x = c.args.context.now in
+    let h = hier_of c.in-Recursive.hier in
+    let p = c.in-Recursive.path in
+    let T = inner_of (option_map pipe_of c.in-Recursive.inner) in
+    let has = met-key c.args.keys.now c.as_slice-items.result.now c.loop-key.key-index c.key-item.result c.as_slice-items.ensures c.loop-key-test.true c.key-item.is (c.loop-key.invariant).1 (ap key_of c.in-Recursive.is ∙ key_of-Recursive c.in-Recursive.hier p c.in-Recursive.inner) in
+    let u = recursive x h p T (keys_of c.args.keys.now) has c.requires.ready in
+    let same = (c.loop-key.invariant).2 in
+    let spent = c.run_shown.ensures.steps u.place u.at in
+    let least = shown-least x h p T (keys_of c.args.keys.now) u.place has u.at in
+    omega (arith, same, spent, least)
+
+pub grouping_levels-returns-in-Recursive-clause-levels : goal.grouping_levels-returns-in-Recursive-clause-levels
+grouping_levels-returns-in-Recursive-clause-levels g t c =
+    let x = c.args.context.now in
+    let h = hier_of c.in-Recursive.hier in
+    let p = c.in-Recursive.path in
+    let T = inner_of (option_map pipe_of c.in-Recursive.inner) in
+    let has = met-key c.args.keys.now c.as_slice-items.result.now c.loop-key.key-index c.key-item.result c.as_slice-items.ensures c.loop-key-test.true c.key-item.is (c.loop-key.invariant).1 (ap key_of c.in-Recursive.is ∙ key_of-Recursive c.in-Recursive.hier p c.in-Recursive.inner) in
+    let u = recursive x h p T (keys_of c.args.keys.now) has c.requires.ready in
+    node-gives x h p T (keys_of c.args.keys.now) has c.requires.ready u.place u.at c.node_levels.result c.as_slice.result.now c.args.rows.now
+    (c.in_ok-shown-in-Recursive.ensures.shown u.place u.at ∙ ap Some (sym c.as_slice.ensures.value)) (c.node_levels.ensures u.place u.at)
+
+pub grouping_levels-returns-in-Recursive-clause-steps : goal.grouping_levels-returns-in-Recursive-clause-steps
+grouping_levels-returns-in-Recursive-clause-steps g t c =
+    let x = c.args.context.now in
+    let h = hier_of c.in-Recursive.hier in
+    let p = c.in-Recursive.path in
+    let T = inner_of (option_map pipe_of c.in-Recursive.inner) in
+    let has = met-key c.args.keys.now c.as_slice-items.result.now c.loop-key.key-index c.key-item.result c.as_slice-items.ensures c.loop-key-test.true c.key-item.is (c.loop-key.invariant).1 (ap key_of c.in-Recursive.is ∙ key_of-Recursive c.in-Recursive.hier p c.in-Recursive.inner) in
+    let u = recursive x h p T (keys_of c.args.keys.now) has c.requires.ready in
+    let same = (c.loop-key.invariant).2 in
+    let spent = c.run_shown.ensures.steps u.place u.at in
+    let least = shown-least x h p T (keys_of c.args.keys.now) u.place has u.at in
+    omega (arith, same, spent, least)
+
+pub grouping_levels-loop-key-preserved : goal.grouping_levels-loop-key-preserved
+grouping_levels-loop-key-preserved g t c =
+    let ks = c.as_slice-items.result.now in
+    let i = c.loop-key.key-index in
+    let d = c.key-item.result in
+    let flat : is_flat_key (key_of d) ≡ true = elim c.match-key.branch [
+      | grouping_levels-in-Plain w ↦ ap is_flat_key (ap key_of w.in-Plain.is ∙ key_of-Plain _)
+      | grouping_levels-in-Rollup w ↦ ap is_flat_key (ap key_of w.in-Rollup.is ∙ key_of-Rollup _ _)
+    ] in (
+      c.loop-key.invariant.0 ∙ next-flat_key ks i d c.loop-key-test.true c.key-item.is flat,
+      λ k h. c.loop-key.invariant.1 k (next-among k ks i d c.loop-key-test.true c.key-item.is h),
+      c.loop-key.invariant.2,
+    )
+
+pub grouping_levels-levels_of-requires-clause-flat : goal.grouping_levels-levels_of-requires-clause-flat
+grouping_levels-levels_of-requires-clause-flat g t c κs within = all-flat c.args.keys.now c.as_slice-items.result.now c.loop-key.key-index c.as_slice-items.ensures (omega (arith, c.loop-key-test.false)) (c.loop-key.invariant).0
+
+pub grouping_levels-returns-clause-levels : goal.grouping_levels-returns-clause-levels
+grouping_levels-returns-clause-levels g t c =
+    let x = c.args.context.now in
+    let flat = all-flat c.args.keys.now c.as_slice-items.result.now c.loop-key.key-index c.as_slice-items.ensures (omega (arith, c.loop-key-test.false)) (c.loop-key.invariant).0 in
+    flat-gives c.levels_of.result x.world (readings x.customs) (keys_of c.args.keys.now) c.args.rows.now flat c.levels_of.ensures
+
+-- ---- the nodes that are shown
+
+pub run_shown-run_pipe-requires-clause-named : goal.run_shown-run_pipe-requires-clause-named
+run_shown-run_pipe-requires-clause-named g t c κs within = subst (λ o. AreReady c.args.context.now (inner_hierarchies (inner_of (option_map pipe_of o)))) c.in-Some.is c.requires.named
+
+pub run_shown-run_pipe-requires-clause-ready : goal.run_shown-run_pipe-requires-clause-ready
+run_shown-run_pipe-requires-clause-ready g t c κs within =
+    let x = c.args.context.now in
+    let h = hier_of c.args.hier.now in
+    let f = found (hierarchy_at x.world.model h) c.requires.there in
+    let R = subst (λ o. ShownReady x h (inner_of (option_map pipe_of o))) c.in-Some.is c.requires.ready f.0 f.1 in
+    let u = shown-run h R.1 f.1 (c.nodes-nodes.ensures.set f.0 f.1) (c.set_type.ensures.value ∙ ap (λ m. set_type m c.nodes-nodes.result.set) (c.model.ensures.value ∙ ap (λ (w : World). w.model) c.store-store.ensures)) (c.in_ok-rows-in-Some.ensures.rows ∙ ap (λ (w : World). instances.rows w c.nodes-nodes.result.set) c.store-store.ensures) in
+    (set_shape f.0.type, u.shape, u.runs)
+
+pub run_shown-returns-in_err-rows-in-Some-clause-steps : goal.run_shown-returns-in_err-rows-in-Some-clause-steps
+run_shown-returns-in_err-rows-in-Some-clause-steps g t c = λ f at.
+    let x = c.args.context.now in
+    let made = c.set_rows.ensures.steps in
+    let counts = ap (λ (w : World). count w c.nodes-nodes.result.set) c.store-store.ensures in
+    let least = shown-rows x f (pipe_of c.in-Some.pipe) c.nodes-nodes.result.set (c.nodes-nodes.ensures.set f at) in
+    let whole = ap (λ o. given_applications x.world (readings x.customs) (set_shape f.type) (inner_of (option_map pipe_of o)) (instances.rows x.world f.set ∷ [])) c.in-Some.is in
+    omega (arith, made, counts, least, whole)
+
+pub run_shown-returns-in_err-made-in-Some-clause-shown : goal.run_shown-returns-in_err-made-in-Some-clause-shown
+run_shown-returns-in_err-made-in-Some-clause-shown g t c = λ f at.
+    let x = c.args.context.now in
+    let h = hier_of c.args.hier.now in
+    let T = pipe_of c.in-Some.pipe in
+    let R = subst (λ o. ShownReady x h (inner_of (option_map pipe_of o))) c.in-Some.is c.requires.ready f at in
+    let u = shown-run h R.1 at (c.nodes-nodes.ensures.set f at) (c.set_type.ensures.value ∙ ap (λ m. set_type m c.nodes-nodes.result.set) (c.model.ensures.value ∙ ap (λ (w : World). w.model) c.store-store.ensures)) (c.in_ok-rows-in-Some.ensures.rows ∙ ap (λ (w : World). instances.rows w c.nodes-nodes.result.set) c.store-store.ensures) in
+    let whole = ap (λ o. inner_mean x.world (readings x.customs) (set_shape f.type) (λ l. Some l) (inner_of (option_map pipe_of o)) (instances.rows x.world f.set)) c.in-Some.is in
+    let p = err_from_is_err_and c.from_residual-in_err-made-in-Some.result c.from_residual-in_err-made-in-Some.ensures.1 in
+    rw (p.1, p.2) (shown-err c.in_err-made-in-Some.field-0.0 _ _ (whole ∙ u.means) (c.in_err-made-in-Some.ensures.mean (set_shape f.type) u.shape u.runs))
+
+pub run_shown-returns-in_err-made-in-Some-clause-steps : goal.run_shown-returns-in_err-made-in-Some-clause-steps
+run_shown-returns-in_err-made-in-Some-clause-steps g t c = λ f at.
+    let x = c.args.context.now in
+    let h = hier_of c.args.hier.now in
+    let R = subst (λ o. ShownReady x h (inner_of (option_map pipe_of o))) c.in-Some.is c.requires.ready f at in
+    let u = shown-run h R.1 at (c.nodes-nodes.ensures.set f at) (c.set_type.ensures.value ∙ ap (λ m. set_type m c.nodes-nodes.result.set) (c.model.ensures.value ∙ ap (λ (w : World). w.model) c.store-store.ensures)) (c.in_ok-rows-in-Some.ensures.rows ∙ ap (λ (w : World). instances.rows w c.nodes-nodes.result.set) c.store-store.ensures) in
+    let made = c.set_rows.ensures.steps in
+    let counts = ap (λ (w : World). count w c.nodes-nodes.result.set) c.store-store.ensures in
+    let ran = c.run_pipe.ensures.steps (set_shape f.type) u.shape u.runs in
+    let least = u.costs in
+    let whole = ap (λ o. given_applications x.world (readings x.customs) (set_shape f.type) (inner_of (option_map pipe_of o)) (instances.rows x.world f.set ∷ [])) c.in-Some.is in
+    omega (arith, made, counts, ran, least, whole)
+
+pub run_shown-shown_nodes-requires : goal.run_shown-shown_nodes-requires
+run_shown-shown_nodes-requires g t c =
+    let x = c.args.context.now in
+    let h = hier_of c.args.hier.now in
+    let T = pipe_of c.in-Some.pipe in
+    let f = found (hierarchy_at x.world.model h) c.requires.there in
+    let set = c.nodes-nodes.ensures.set f.0 f.1 in
+    let R = subst (λ o. ShownReady x h (inner_of (option_map pipe_of o))) c.in-Some.is c.requires.ready f.0 f.1 in
+    let u = shown-run h R.1 f.1 set (c.set_type.ensures.value ∙ ap (λ m. set_type m c.nodes-nodes.result.set) (c.model.ensures.value ∙ ap (λ (w : World). w.model) c.store-store.ensures)) (c.in_ok-rows-in-Some.ensures.rows ∙ ap (λ (w : World). instances.rows w c.nodes-nodes.result.set) c.store-store.ensures) in
+    let own = ap (mean x.world (readings x.customs) (set_shape f.0.type) T) (sym (c.in_ok-rows-in-Some.ensures.rows ∙ ap (λ (w : World). instances.rows w c.nodes-nodes.result.set) c.store-store.ensures ∙ ap (instances.rows x.world) set)) ∙ c.in_ok-made-in-Some.ensures.mean (set_shape f.0.type) u.shape u.runs in
+    let below = shown-below x h f.0 R.0 T c.nodes-nodes.result.set c.in_ok-made-in-Some.made.items (subst IsLoaded c.store-store.ensures c.data_is_loaded.ensures) f.1 set R.1 own in
+    subst (λ n. AreRootsBelow n c.as_slice.result.now) (sym (c.count.ensures ∙ ap (λ (w : World). count w c.nodes-nodes.result.set) c.store-store.ensures)) (subst (AreRootsBelow (count x.world c.nodes-nodes.result.set)) (sym c.as_slice.ensures.value) below)
+
+pub run_shown-returns-in_err-shown_nodes-in-Some-clause-steps : goal.run_shown-returns-in_err-shown_nodes-in-Some-clause-steps
+run_shown-returns-in_err-shown_nodes-in-Some-clause-steps g t c = λ f at.
+    let x = c.args.context.now in
+    let h = hier_of c.args.hier.now in
+    let R = subst (λ o. ShownReady x h (inner_of (option_map pipe_of o))) c.in-Some.is c.requires.ready f at in
+    let u = shown-run h R.1 at (c.nodes-nodes.ensures.set f at) (c.set_type.ensures.value ∙ ap (λ m. set_type m c.nodes-nodes.result.set) (c.model.ensures.value ∙ ap (λ (w : World). w.model) c.store-store.ensures)) (c.in_ok-rows-in-Some.ensures.rows ∙ ap (λ (w : World). instances.rows w c.nodes-nodes.result.set) c.store-store.ensures) in
+    let made = c.set_rows.ensures.steps in
+    let counts = ap (λ (w : World). count w c.nodes-nodes.result.set) c.store-store.ensures in
+    let ran = c.run_pipe.ensures.steps (set_shape f.type) u.shape u.runs in
+    let least = u.costs in
+    let whole = ap (λ o. given_applications x.world (readings x.customs) (set_shape f.type) (inner_of (option_map pipe_of o)) (instances.rows x.world f.set ∷ [])) c.in-Some.is in
+    omega (arith, made, counts, ran, least, whole)
+
+pub run_shown-returns-in_ok-shown_nodes-in-Some-clause-steps : goal.run_shown-returns-in_ok-shown_nodes-in-Some-clause-steps
+run_shown-returns-in_ok-shown_nodes-in-Some-clause-steps g t c = λ f at.
+    let x = c.args.context.now in
+    let h = hier_of c.args.hier.now in
+    let R = subst (λ o. ShownReady x h (inner_of (option_map pipe_of o))) c.in-Some.is c.requires.ready f at in
+    let u = shown-run h R.1 at (c.nodes-nodes.ensures.set f at) (c.set_type.ensures.value ∙ ap (λ m. set_type m c.nodes-nodes.result.set) (c.model.ensures.value ∙ ap (λ (w : World). w.model) c.store-store.ensures)) (c.in_ok-rows-in-Some.ensures.rows ∙ ap (λ (w : World). instances.rows w c.nodes-nodes.result.set) c.store-store.ensures) in
+    let made = c.set_rows.ensures.steps in
+    let counts = ap (λ (w : World). count w c.nodes-nodes.result.set) c.store-store.ensures in
+    let ran = c.run_pipe.ensures.steps (set_shape f.type) u.shape u.runs in
+    let least = u.costs in
+    let whole = ap (λ o. given_applications x.world (readings x.customs) (set_shape f.type) (inner_of (option_map pipe_of o)) (instances.rows x.world f.set ∷ [])) c.in-Some.is in
+    omega (arith, made, counts, ran, least, whole)
+
+pub run_shown-returns-in_ok-shown_nodes-in-Some-clause-shown : goal.run_shown-returns-in_ok-shown_nodes-in-Some-clause-shown
+run_shown-returns-in_ok-shown_nodes-in-Some-clause-shown g t c = λ f at.
+    let x = c.args.context.now in
+    let h = hier_of c.args.hier.now in
+    let R = subst (λ o. ShownReady x h (inner_of (option_map pipe_of o))) c.in-Some.is c.requires.ready f at in
+    let u = shown-run h R.1 at (c.nodes-nodes.ensures.set f at) (c.set_type.ensures.value ∙ ap (λ m. set_type m c.nodes-nodes.result.set) (c.model.ensures.value ∙ ap (λ (w : World). w.model) c.store-store.ensures)) (c.in_ok-rows-in-Some.ensures.rows ∙ ap (λ (w : World). instances.rows w c.nodes-nodes.result.set) c.store-store.ensures) in
+    let whole = ap (λ o. inner_mean x.world (readings x.customs) (set_shape f.type) (λ l. Some l) (inner_of (option_map pipe_of o)) (instances.rows x.world f.set)) c.in-Some.is in
+    ap (option_map shown_of) (whole ∙ u.means ∙ c.in_ok-made-in-Some.ensures.mean (set_shape f.type) u.shape u.runs)
+    ∙ ap Some (ap shown_of (sym c.as_slice.ensures.value) ∙ sym c.in_ok-shown_nodes-in-Some.ensures.value)
+
+pub run_shown-returns-in_ok-all_nodes-in-None-clause-shown : goal.run_shown-returns-in_ok-all_nodes-in-None-clause-shown
+run_shown-returns-in_ok-all_nodes-in-None-clause-shown g t c = λ f at.
+    let x = c.args.context.now in
+    let set = c.nodes-nodes.ensures.set f at in
+    let whole = ap (λ o. inner_mean x.world (readings x.customs) (set_shape f.type) (λ l. Some l) (inner_of (option_map pipe_of o)) (instances.rows x.world f.set)) c.in-None.is in
+    ap (option_map shown_of) (whole ∙ inner_mean-NoPipe x.world (readings x.customs) (set_shape f.type) (λ l. Some l) (instances.rows x.world f.set))
+    ∙ ap Some ((λ i. shown_of (instances.rows (sym c.store-store.ensures i) (sym set i))) ∙ sym c.in_ok-all_nodes-in-None.ensures.value)

@@ -2,19 +2,18 @@ use Rattle.std.proofs.Common.{rules, ◌≡◌, ◌+◌, ◌∙◌, ap, sym, sub
 use Rattle.std.proofs.Math.ListN.{drop_of_length-le}
 use Rattle.apply_ast.specs.Trees.{pipe}
 use Rattle.apply_ast.specs.Views.{inner_of, keys_of, pipe_of, pipes_from, pipes_of, step_of}
-use Rattle.apply_ast.proofs.ViewEquations.{join_of-is, step_of-Aggregate, step_of-Compute, step_of-Concat, step_of-Filter, step_of-GroupBy, step_of-Identity, step_of-Join, step_of-OrderBy, step_of-Skip, step_of-Top, step_of-TopBy}
+use Rattle.apply_ast.proofs.ViewEquations.{climb_of-is, join_of-is, step_of-Aggregate, step_of-Climb, step_of-Compute, step_of-Concat, step_of-Filter, step_of-GroupBy, step_of-Identity, step_of-Join, step_of-OrderBy, step_of-Skip, step_of-Top, step_of-TopBy, step_of-Traverse}
 use Rattle.apply_meaning.proofs.RunLemmas.{next-step}
-use Rattle.plan_run.specs.Forms.{is_built_step}
 use Rattle.plan_run.specs.Roots.{InnerLeadsTo, LeadsTo, PipeLeadsTo}
 use Rattle.plan_run.proofs.BranchRoots.{branches-typed, passed-all, passed-next, passed-none}
-use Rattle.plan_run.proofs.FormLemmas.{branch-next, built-next, next-branch}
-use Rattle.plan_run.proofs.RootLemmas.{last-root, next-root, root-Aggregate, root-Compute, root-Concat, root-Filter, root-GroupBy, root-Identity, root-Join, root-OrderBy, root-Skip, root-Top, root-TopBy, root-inner, root-none}
+use Rattle.plan_run.proofs.NextItems.{next-branch}
+use Rattle.plan_run.proofs.RootLemmas.{last-root, next-root, root-Aggregate, root-Climb, root-Compute, root-Concat, root-Filter, root-GroupBy, root-Identity, root-Join, root-OrderBy, root-Skip, root-Top, root-TopBy, root-Traverse, root-inner, root-none}
 use Rattle.plan_run.proofs.roots.+roots.Goals as goal
 
 pub root_after-returns-in-GroupBy : goal.root_after-returns-in-GroupBy
 root_after-returns-in-GroupBy t c =
-    let e = ap step_of c.in-GroupBy.is ∙ step_of-GroupBy c.in-GroupBy.keys c.in-GroupBy.inner in
-    subst (λ s. LeadsTo s c.args.root c.root_inside.result) (sym e) (root-GroupBy (keys_of c.in-GroupBy.keys) (inner_of (option_map pipe_of c.in-GroupBy.inner)) c.args.root c.root_inside.result c.root_inside.ensures)
+    let e = ap step_of c.in-GroupBy.is ∙ step_of-GroupBy c.in-GroupBy.field-0 c.in-GroupBy.inner in
+    subst (λ s. LeadsTo s c.args.root c.root_inside.result) (sym e) (root-GroupBy (keys_of c.in-GroupBy.field-0) (inner_of (option_map pipe_of c.in-GroupBy.inner)) c.args.root c.root_inside.result c.root_inside.ensures)
 
 pub root_after-returns-in-Aggregate : goal.root_after-returns-in-Aggregate
 root_after-returns-in-Aggregate t c =
@@ -32,17 +31,14 @@ pub root_behind-loop-step-preserved : goal.root_behind-loop-step-preserved
 root_behind-loop-step-preserved t c =
     let ss = c.steps-step-items.result.now in
     let d = c.step-item.result in
-    let e = c.step-item.is in (
-      built-next ss c.loop-step.step-index d c.loop-step-test.true e c.loop-step.invariant.0,
-      λ m c' S S' h r.
-          let i = c.loop-step.invariant.1 m c' S S' h r in
-          next-root m c' i.0 S' _ (step_of d) (pipe (map step_of (drop (c.loop-step.step-index + 1) ss))) c.loop-step.root c.root_after-root.result
-          (next-step ss c.loop-step.step-index d c.loop-step-test.true e) c.root_after-root.ensures i.1 i.2,
-    )
+    let e = c.step-item.is in
+    λ m c' S S' h r.
+    let i = c.loop-step.invariant m c' S S' h r in
+    next-root m c' i.0 S' _ (step_of d) (pipe (map step_of (drop (c.loop-step.step-index + 1) ss))) c.loop-step.root c.root_after-root.result (next-step ss c.loop-step.step-index d c.loop-step-test.true e) c.root_after-root.ensures i.1 i.2
 
 pub root_behind-returns : goal.root_behind-returns
 root_behind-returns t c = λ m c' S S' h r.
-    let i = c.loop-step.invariant.1 m c' S S' h r in
+    let i = c.loop-step.invariant m c' S S' h r in
     last-root m c' i.0 S' _ c.loop-step.root (ap (λ ss. pipe (map step_of ss)) (drop_of_length-le c.steps-step-items.result.now (omega (arith, c.loop-step-test.false)))) i.1 i.2
 
 pub root_after-returns-in-Identity : goal.root_after-returns-in-Identity
@@ -63,9 +59,6 @@ root_after-returns-in-Skip t c = subst (λ s. LeadsTo s c.args.root c.args.root)
 pub root_after-returns-in-Top : goal.root_after-returns-in-Top
 root_after-returns-in-Top t c = subst (λ s. LeadsTo s c.args.root c.args.root) (sym (ap step_of c.in-Top.is ∙ step_of-Top c.in-Top.field-0)) (root-Top _ c.args.root)
 
-pub root_after-inner_built-requires : goal.root_after-inner_built-requires
-root_after-inner_built-requires t c = ap is_built_step (sym (ap step_of c.in-GroupBy.is ∙ step_of-GroupBy c.in-GroupBy.keys c.in-GroupBy.inner)) ∙ c.requires
-
 pub root_after-returns-in-Concat : goal.root_after-returns-in-Concat
 root_after-returns-in-Concat t c =
     let e = ap step_of c.in-Concat.is ∙ step_of-Concat c.in-Concat.branches in
@@ -78,6 +71,13 @@ root_after-returns-in-Join t c =
 pub root_after-returns-in-TopBy : goal.root_after-returns-in-TopBy
 root_after-returns-in-TopBy t c = subst (λ s. LeadsTo s c.args.root c.args.root) (sym (ap step_of c.in-TopBy.is ∙ step_of-TopBy c.in-TopBy.field-0)) (root-TopBy _ c.args.root)
 
+pub root_after-returns-in-Climb : goal.root_after-returns-in-Climb
+root_after-returns-in-Climb t c =
+    subst (λ s. LeadsTo s c.args.root c.args.root) (sym (ap step_of c.in-Climb.is ∙ step_of-Climb c.in-Climb.field-0 ∙ climb_of-is c.in-Climb.field-0)) (root-Climb _ _ _ _ _ _ c.args.root)
+
+pub root_after-returns-in-Traverse : goal.root_after-returns-in-Traverse
+root_after-returns-in-Traverse t c = subst (λ s. LeadsTo s c.args.root c.args.root) (sym (ap step_of c.in-Traverse.is ∙ step_of-Traverse c.in-Traverse.field-0)) (root-Traverse _ c.args.root)
+
 pub root_of_branches-returns-in_err-behind : goal.root_of_branches-returns-in_err-behind
 root_of_branches-returns-in_err-behind t c =
     let ps = c.as_slice-branch-items.result.now in
@@ -88,7 +88,7 @@ root_of_branches-returns-in_err-behind t c =
     λ m c' S S' h r.
     let b = branches-typed m c' S S' (pipes_of c.args.branches.now) h in
     passed-none m c' S S' b.0 _ (pipe_of d) (pipes_from (map pipe_of (drop (k + 1) ps))) c.args.root.now c.loop-branch.first
-    (next-branch ps k d c.loop-branch-test.true c.branch-item.is) leads r (c.loop-branch.invariant.1 m c' S b.0 b.1 r) b.2
+    (next-branch ps k d c.loop-branch-test.true c.branch-item.is) leads r (c.loop-branch.invariant m c' S b.0 b.1 r) b.2
     ∙ sym none
 
 pub root_of_branches-loop-branch-preserved : goal.root_of_branches-loop-branch-preserved
@@ -96,16 +96,14 @@ root_of_branches-loop-branch-preserved t c =
     let ps = c.as_slice-branch-items.result.now in
     let d = c.branch-item.result in
     let k = c.loop-branch.branch-index in
-    let leads = subst (PipeLeadsTo (pipe_of d) c.args.root.now) c.in_ok-behind.was c.root_behind.ensures in (
-      branch-next ps k d c.loop-branch-test.true c.branch-item.is c.loop-branch.invariant.0,
-      λ m c' S Ss h r.
-          rw (c.or-first.ensures)
-          (passed-next m c' S Ss _ (pipe_of d) (pipes_from (map pipe_of (drop (k + 1) ps))) c.args.root.now c.loop-branch.first c.in_ok-behind.behind
-          (next-branch ps k d c.loop-branch-test.true c.branch-item.is) leads r (c.loop-branch.invariant.1 m c' S Ss h r)),
-    )
+    let leads = subst (PipeLeadsTo (pipe_of d) c.args.root.now) c.in_ok-behind.was c.root_behind.ensures in
+    λ m c' S Ss h r.
+    rw (c.or-first.ensures)
+    (passed-next m c' S Ss _ (pipe_of d) (pipes_from (map pipe_of (drop (k + 1) ps))) c.args.root.now c.loop-branch.first c.in_ok-behind.behind (next-branch ps k d c.loop-branch-test.true c.branch-item.is) leads r
+    (c.loop-branch.invariant m c' S Ss h r))
 
 pub root_of_branches-returns : goal.root_of_branches-returns
 root_of_branches-returns t c = λ m c' S S' h r.
     let b = branches-typed m c' S S' (pipes_of c.args.branches.now) h in
     passed-all m c' S S' b.0 _ c.loop-branch.first (ap (λ ps. pipes_from (map pipe_of ps)) (drop_of_length-le c.as_slice-branch-items.result.now (omega (arith, c.loop-branch-test.false))))
-    (c.loop-branch.invariant.1 m c' S b.0 b.1 r) b.2
+    (c.loop-branch.invariant m c' S b.0 b.1 r) b.2

@@ -1,4 +1,5 @@
 use Rattle.std.proofs.Common.{◌≡◌, ◌+◌, ◌∙◌, arith, ap, sym, subst, refl}
+use Rattle.std.specs.Prelude.{All}
 use Rattle.edm_data.specs.References.{count}
 use Rattle.apply_ast.specs.Views.{pipe_of}
 use Rattle.context_typing.specs.Readings.{readings}
@@ -8,10 +9,18 @@ use Rattle.apply_meaning.specs.Instances as instances
 use Rattle.apply_meaning.specs.Meaning.{mean}
 use Rattle.apply_meaning.specs.Running.{Gives}
 use Rattle.optimiser.specs.Plans.{own_of}
+use Rattle.hier_states.specs.NamedHierarchies.{hierarchies}
+use Rattle.hier_states.specs.States.{IsReadyAt}
+use Rattle.plan_run.specs.Conditions.{AreReady}
 use Rattle.plan_run.specs.Contexts.{Context}
 use Rattle.plan_run.specs.Costs.{cost, total_cost}
 use Rattle.plan_run.proofs.PlanLemmas.{plan-means, runs-as}
 use Rattle.plan_run.proofs.runs.run.Goals as goal
+
+pub run_pipe-requires-clause-named : goal.run_pipe-requires-clause-named
+run_pipe-requires-clause-named g c κs within =
+    let named = subst (λ p. All (IsReadyAt c.args.store.now c.args.hiers.now) (hierarchies p)) (sym c.requires.plan.pipe ∙ ap (λ (t : Typed). pipe_of t.pipe) (sym c.typed-typed.ensures)) c.requires.ready in
+    subst (λ (x : Context). AreReady x (hierarchies (pipe_of c.typed-typed.result.now.pipe))) (sym c.new-context.ensures) named
 
 pub returns-clause-mean : goal.returns-clause-mean
 returns-clause-mean g c =

@@ -1,8 +1,0 @@
-use Rattle.std.proofs.Common.{◌≡◌, map, drop}
-use Rattle.apply_ast.specs.Views.{item_of}
-use Rattle.plan_run.specs.Orders.{values_cmp}
-use Rattle.plan_run.proofs.orders.values_order.Given as goal
-
--- by the items so far the two lists tie
-abbrev pub invariant-loop-k : goal.invariant-loop-k
-invariant-loop-k l = values_cmp (map item_of l.items) l.a l.b ≡ values_cmp (map item_of (drop l.k l.items)) (drop l.k l.a) (drop l.k l.b)
