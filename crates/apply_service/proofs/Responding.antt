@@ -1,11 +1,12 @@
 -- From the response that was made to the response to a request.
-use Rattle.std.proofs.Common.{◌≡◌, ℕ, List, Some, Ok, Err, IfOk, sym, subst}
+use Rattle.std.proofs.Common.{◌≡◌, ◌∙◌, ℕ, List, Some, Ok, Err, IfOk, sym, ap₂, subst}
+use Rattle.std.specs.declared.option.Option.{Option}
 use Rattle.std.specs.declared.result.Result.{Result}
 use Rattle.apply_service.specs.OutputBytes.{bytes_of}
 use Rattle.apply_service.specs.declared.output.Output.{Output}
 use Rattle.edm_model.specs.Models.{Model}
 use Rattle.edm_model.specs.LookUps.{set_named}
-use Rattle.edm_data.specs.Worlds.{World}
+use Rattle.edm_data.specs.Worlds.{World, Entity}
 use Rattle.apply_ast.specs.Trees.{Pipe}
 use Rattle.apply_ast.specs.Views.{pipe_of}
 use Rattle.apply_grammar.specs.Requests.{Asked}
@@ -15,6 +16,8 @@ use Rattle.context_typing.specs.Shapes.{Shape}
 use Rattle.context_typing.specs.Typing.{Customs, Types, IsUntypedAt, shape_of_set}
 use Rattle.context_typing.specs.declared.customs.TypedCustom.{TypedCustom}
 use Rattle.context_typing.specs.declared.typed.Typed.{Typed}
+use Rattle.hier_states.specs.NamedHierarchies.{hierarchies}
+use Rattle.hier_states.specs.States.{first_cycle}
 use Rattle.apply_service.specs.Replies.{IsResponse, IsTyped}
 
 -- a response with other bytes that are the same
@@ -25,6 +28,10 @@ respond w cs asked bytes r h e = subst (IsResponse w cs asked) (sym e) h
 pub respond-made : {E : Type 0} (made : Result Output E) (w : World) (cs : Customs) (asked : Asked) (r : List ℕ) → IsResponse w cs asked r → IfOk made (λ x. bytes_of x ≡ r) → IfOk made (λ x. IsResponse w cs asked (bytes_of x))
 respond-made (Ok x) w cs asked r h e = respond w cs asked (bytes_of x) r h e
 respond-made (Err x) w cs asked r h e = tt
+
+-- the first cycle of the pipeline that was asked is that of the pipeline that was typed
+pub cycle-asked : (v w : World) (p q : Pipe) (found : Option Entity) → v ≡ w → p ≡ q → found ≡ first_cycle v (hierarchies p) → first_cycle w (hierarchies q) ≡ found
+cycle-asked v w p q found same pipe e = sym (e ∙ ap₂ (λ (x : World) (y : Pipe). first_cycle x (hierarchies y)) same pipe)
 
 module _ (w : World) (asked : Asked) (set : ℕ) (m : Model) (c d : List TypedCustom) (same : m ≡ w.model) (are : c ≡ d) where
   -- a pipeline that was typed

@@ -1,8 +1,10 @@
 -- The reply to a line of the input.
-use Rattle.std.specs.Prelude.{◌≡◌, ℕ, ◌<◌, ◌≤◌, ◌&&◌, Bool, true, false, not, List, length, Option, Some, None, option_and_then}
+use Rattle.std.specs.Prelude.{◌≡◌, ℕ, ◌<◌, ◌≤◌, true, false, List, length, Option, Some, None, option_and_then}
+use Rattle.edm_values.specs.Literals.{plain_text}
 use Rattle.apply_ast.specs.Trees.{Pipe}
 use Rattle.edm_model.specs.LookUps.{set_name, set_named}
-use Rattle.edm_data.specs.Worlds.{World}
+use Rattle.edm_data.specs.Worlds.{World, Entity}
+use Rattle.edm_data.specs.References.{key}
 use Rattle.apply_meaning.specs.Instances.{rows}
 use Rattle.apply_meaning.specs.Meaning.{mean}
 use Rattle.apply_grammar.specs.Frames.{line_limit}
@@ -10,29 +12,27 @@ use Rattle.apply_grammar.specs.Requests.{Asked, IsRequest, IsNoRequest}
 use Rattle.context_typing.specs.Shapes.{Shape}
 use Rattle.context_typing.specs.Typing.{Customs, Types, IsUntypedAt, shape_of_set}
 use Rattle.json_render.specs.Bodies.{body}
-use Rattle.plan_run.specs.Forms.{is_built}
-use Rattle.apply_service.specs.Responses.{TooLong, Syntax, NotFound, NotBuilt, Type', Range, Memory, answered, refused}
+use Rattle.hier_states.specs.NamedHierarchies.{hierarchies}
+use Rattle.hier_states.specs.States.{first_cycle}
+use Rattle.apply_service.specs.Responses.{TooLong, Syntax, NotFound, NotBuilt, Type', Cycle, Range, Memory, answered, refused}
 
 -- the set of a request is there, and the pipeline takes its shape to this one
 pub record IsTyped (w : World) (c : Customs) (asked : Asked) (set : ℕ) (s : Shape) : Type 0 where
   pub finds : set_named w.model asked.1 ≡ Some set
   pub types : Types w.model c (shape_of_set w.model set) asked.2 s
 
--- the request asks for the rows of a pipeline that is built, and not for its plan
-abbrev pub is_run : Asked → Bool
-is_run asked = not asked.0 && is_built asked.2
-
 -- the body of what the pipeline means on the instances of its set, or none where it is refused or a value to be printed is `Beyond`
 abbrev pub answer_body : World → Customs → ℕ → Pipe → Shape → Option (List ℕ)
 answer_body w c set p s = option_and_then (body w (set_name w.model set) s) (mean w c (shape_of_set w.model set) p (rows w set))
 
--- The response to a request: the first that holds of no such set, no type from this transformation on, not built, past its range; else the body.
+-- The response to a request: the first that holds of no such set, no type from this transformation on, not built, as each request for a plan is, a cyclic hierarchy in the pipeline's text, told by its node's identifier, and a number past its range; else the body.
 pub data IsResponse (w : World) (c : Customs) (asked : Asked) : List ℕ → Type 0 where
   no_set : set_named w.model asked.1 ≡ None → IsResponse w c asked (refused (NotFound asked.1))
   no_type : (set k : ℕ) → set_named w.model asked.1 ≡ Some set → IsUntypedAt w.model c (shape_of_set w.model set) asked.2 k → IsResponse w c asked (refused (Type' k))
-  not_built : (set : ℕ) (s : Shape) → IsTyped w c asked set s → is_run asked ≡ false → IsResponse w c asked (refused NotBuilt)
-  range : (set : ℕ) (s : Shape) → IsTyped w c asked set s → is_run asked ≡ true → answer_body w c set asked.2 s ≡ None → IsResponse w c asked (refused Range)
-  answer : (set : ℕ) (s : Shape) (bytes : List ℕ) → IsTyped w c asked set s → is_run asked ≡ true → answer_body w c set asked.2 s ≡ Some bytes → IsResponse w c asked (answered bytes)
+  not_built : (set : ℕ) (s : Shape) → IsTyped w c asked set s → asked.0 ≡ true → IsResponse w c asked (refused NotBuilt)
+  cycle : (set : ℕ) (s : Shape) (node : Entity) → IsTyped w c asked set s → asked.0 ≡ false → first_cycle w (hierarchies asked.2) ≡ Some node → IsResponse w c asked (refused (Cycle (plain_text (key w node))))
+  range : (set : ℕ) (s : Shape) → IsTyped w c asked set s → asked.0 ≡ false → first_cycle w (hierarchies asked.2) ≡ None → answer_body w c set asked.2 s ≡ None → IsResponse w c asked (refused Range)
+  answer : (set : ℕ) (s : Shape) (bytes : List ℕ) → IsTyped w c asked set s → asked.0 ≡ false → first_cycle w (hierarchies asked.2) ≡ None → answer_body w c set asked.2 s ≡ Some bytes → IsResponse w c asked (answered bytes)
 
 -- The reply to a line: that it is too long; else the number of the step where it stops being a request, or the response to its request. Memory may be wanting in place of each but the first.
 pub data IsReply (w : World) (c : Customs) (line : List ℕ) : List ℕ → Type 0 where

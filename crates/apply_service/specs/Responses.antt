@@ -34,6 +34,8 @@ pub data Refusal : Type 0 where
   NotFound : List ℕ → Refusal
   -- the transformation of this number, from 1, has no type
   Type' : ℕ → Refusal
+  -- a hierarchy that the request names is cyclic: the identifier of its first node whose chain of parents comes to no root
+  Cycle : List ℕ → Refusal
   -- a number is past its range
   Range : Refusal
   -- memory was wanting
@@ -46,6 +48,7 @@ refused (Syntax k) = framed (codes "400") (error_body_at (codes "Syntax") (codes
 refused NotBuilt = framed (codes "501") (error_body (codes "NotBuilt") (codes "this form is not built yet"))
 refused (NotFound set) = framed (codes "404") (error_body_at (codes "NotFound") (codes "no such entity set") set)
 refused (Type' k) = framed (codes "400") (error_body_at (codes "Type") (codes "the transformation has no type") (decimal k))
+refused (Cycle node) = framed (codes "422") (error_body_at (codes "Cycle") (codes "the hierarchy has a cycle") node)
 refused Range = framed (codes "422") (error_body (codes "Range") (codes "a number is past its range"))
 refused Memory = framed (codes "503") (error_body (codes "Memory") (codes "out of memory"))
 

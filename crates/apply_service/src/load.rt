@@ -17,6 +17,7 @@ use crate::words::FileNames;
 use apply_io::Folder;
 use edm_data::{DATA_LIMIT, Data, read_data};
 use edm_model::{MODEL_LIMIT, Model, ModelRefused, read_model};
+use hier_states::hier_states;
 use std::alloc::Global;
 
 /// Why there is no model.
@@ -121,7 +122,8 @@ fn load_data<F: Folder>(
     }
 }
 
-/// Reads the two files, the model file first, whose custom aggregates are judged before the data file is read.
+/// Reads the two files, the model file first, whose custom aggregates are judged before the data file is read. A cyclic
+/// hierarchy refuses no file.
 pub fn load<F: Folder>(
     alloc: Global,
     folder: &mut F,
@@ -145,10 +147,14 @@ pub fn load<F: Folder>(
         Err(CustomStop::Memory) => return Err(LoadStop::Memory),
         Err(CustomStop::Refused(line)) => return Err(LoadStop::Model(Output::Made(line))),
     };
-    match load_data(alloc, folder, names.entities, DATA_LIMIT, model, buffer) {
-        Ok(data) => Ok(Store::new(data, customs)),
-        Err(DataStop::Fault) => Err(LoadStop::Fault),
-        Err(DataStop::Memory) => Err(LoadStop::Memory),
-        Err(DataStop::Refused(line)) => Err(LoadStop::Data(line)),
+    let data = match load_data(alloc, folder, names.entities, DATA_LIMIT, model, buffer) {
+        Ok(data) => data,
+        Err(DataStop::Fault) => return Err(LoadStop::Fault),
+        Err(DataStop::Memory) => return Err(LoadStop::Memory),
+        Err(DataStop::Refused(line)) => return Err(LoadStop::Data(line)),
+    };
+    match hier_states(alloc, &data) {
+        Ok(hiers) => Ok(Store::new(data, customs, hiers)),
+        Err(_) => Err(LoadStop::Memory),
     }
 }

@@ -1,33 +1,40 @@
 //! The reply to a line of the input.
-ghost use Rattle.std.specs.Prelude.{◌≡◌, IfOk, IsTrue, Some, None, Err};
+ghost use Rattle.std.specs.Prelude.{◌≡◌, ◌<◌, All, IfOk, Some, None, Err};
 ghost use Rattle.apply_ast.specs.Views.{pipe_of};
 ghost use Rattle.apply_grammar.specs.Requests.{asked_of};
 ghost use Rattle.edm_model.specs.LookUps.{IsSet};
-ghost use Rattle.plan_run.specs.Forms as forms;
+ghost use Rattle.edm_values.specs.Literals.{plain_text};
+ghost use Rattle.edm_data.specs.References.{key};
 ghost use Rattle.context_typing.specs.Answers.{IsTyping};
 ghost use Rattle.context_typing.specs.Readings.{readings};
 ghost use Rattle.context_typing.specs.Typing.{shape_of_set};
+ghost use Rattle.hier_states.specs.NamedHierarchies.{hierarchies};
+ghost use Rattle.hier_states.specs.States.{IsReadyAt};
 ghost use Rattle.apply_meaning.specs.Instances as instances;
 ghost use Rattle.apply_meaning.specs.Meaning.{mean};
 ghost use Rattle.apply_meaning.specs.MeaningLaws.{AllFit};
 ghost use Rattle.apply_service.specs.Replies.{IsReply, IsResponse, IsTyped};
 ghost use Rattle.apply_service.specs.Replies as spec;
-ghost use Rattle.apply_service.specs.Responses.{Syntax, refused};
+ghost use Rattle.apply_service.specs.Responses.{Cycle, Syntax, refused};
 ghost use Rattle.apply_service.specs.OutputBytes.{bytes_of, bytes_made};
 
+use crate::identifiers::identifier;
 use crate::output::Output;
 use crate::responses::{
-    answered, no_pipeline, not_built, not_found, out_of_memory, past_range, too_long, untyped,
+    answered, cyclic, no_pipeline, not_built, not_found, out_of_memory, past_range, too_long,
+    untyped,
 };
 use crate::store::Store;
 use apply_ast::Request;
 use apply_grammar::{GrammarRefused, read_request};
 use apply_meaning::{Row, RunRefused, Steps, data_is_loaded};
 use context_typing::{TypeRefused, Typed, type_pipe};
+use edm_data::EntityRef;
+use hier_states::first_cycle;
 use json_render::{RenderRefused, render};
 use optimiser::Plan;
 use par_stages::Gate;
-use plan_run::{is_built, run};
+use plan_run::run;
 use std::alloc::{AllocError, Global};
 use std::sync::ledger::Ledger;
 use std::thread::Threads;
@@ -43,13 +50,6 @@ fn made(response: Result<Output, AllocError>) -> Output
         Ok(output) => output,
         Err(_) => Output::Constant(out_of_memory()),
     }
-}
-
-/// Whether the request asks for the rows of a pipeline that is built.
-pub fn is_run(request: &Request) -> bool
-    ensures { result ≡ spec.is_run (asked_of request.now) }
-{
-    !request.explain && is_built(&request.pipe)
 }
 
 /// The rows that a typed pipeline gives fit its shape.
@@ -74,7 +74,7 @@ fn body_of<R: Threads + Sync, G: Gate, L: Ledger>(
 ) -> Result<Vec<u8>, RunRefused>
     requires set { IsSet store.now.world.model typed.set }
     requires typing { IsTyping store.now.world.model (readings store.now.customs) typed }
-    requires built { IsTrue (forms.is_built (pipe_of typed.pipe)) }
+    requires ready { All (IsReadyAt store.now.world store.now.hiers) (hierarchies (pipe_of typed.pipe)) }
     ensures ok { IfOk result (λ b. spec.answer_body store.now.world (readings store.now.customs) typed.set (pipe_of typed.pipe) typed.shape ≡ Some b.items) }
     ensures range { result ≡ Err RunRefused.Range → spec.answer_body store.now.world (readings store.now.customs) typed.set (pipe_of typed.pipe) typed.shape ≡ None }
 {
@@ -84,6 +84,7 @@ fn body_of<R: Threads + Sync, G: Gate, L: Ledger>(
         alloc,
         store.data(),
         store.customs(),
+        store.hiers(),
         &plan,
         WORKERS,
         gate,
@@ -104,6 +105,15 @@ fn body_of<R: Threads + Sync, G: Gate, L: Ledger>(
     }
 }
 
+/// The response to a request that names a cyclic hierarchy with this node.
+fn cycle_response(alloc: Global, store: &Store, node: EntityRef) -> Result<Output, AllocError>
+    requires { IsSet store.now.world.model node.set }
+    ensures { IfOk result (λ r. bytes_of r ≡ refused (Cycle (plain_text (key store.now.world node)))) }
+{
+    let node = identifier(alloc, store.data(), node)?;
+    Ok(Output::Made(cyclic(alloc, node.as_str())?))
+}
+
 /// The response to a request that has this typing.
 fn typed_response<R: Threads + Sync, G: Gate, L: Ledger>(
     rt: &R,
@@ -120,8 +130,11 @@ fn typed_response<R: Threads + Sync, G: Gate, L: Ledger>(
     requires typed { IsTyped store.now.world (readings store.now.customs) (asked_of request.now) typed.set typed.shape }
     ensures { IfOk result (λ r. IsResponse store.now.world (readings store.now.customs) (asked_of request.now) (bytes_of r)) }
 {
-    if !is_run(request) {
+    if request.explain {
         return Ok(Output::Made(not_built(alloc)?));
+    }
+    if let Some(node) = first_cycle(store.data(), store.hiers(), &typed.pipe) {
+        return cycle_response(alloc, store, node);
     }
     match body_of(rt, alloc, store, typed, gate, steps) {
         Ok(body) => answered(alloc, body),

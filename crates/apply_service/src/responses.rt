@@ -142,6 +142,14 @@ pub fn untyped(alloc: Global, number: u32) -> Result<Vec<u8>, AllocError>
     framed(alloc, "400", body.as_bytes())
 }
 
+/// The response to a request that names a cyclic hierarchy, with the identifier of its node.
+pub fn cyclic(alloc: Global, node: &str) -> Result<Vec<u8>, AllocError>
+    ensures { IfOk result (λ r. r.items ≡ spec.refused (spec.Cycle node.now)) }
+{
+    let body = error_body_at(alloc, "Cycle", "the hierarchy has a cycle", node)?;
+    framed(alloc, "422", body.as_bytes())
+}
+
 /// The response to a line with a number past its range.
 pub fn past_range(alloc: Global) -> Result<Vec<u8>, AllocError>
     ensures { IfOk result (λ r. r.items ≡ spec.refused spec.Range) }

@@ -2,8 +2,11 @@
 use crate::runs::{Case, PLAIN, outcome, outcome_of, words};
 use crate::worlds::{FIRST, RESPONSES};
 use apply_service::Status;
+use std::alloc::Global;
+use std::process::Abort;
 use std::test::Fail;
-use test_support::samples::{SALES_DATA, SAMPLE};
+use std::thread::Threads;
+use test_support::samples::{CYCLE_DATA, SALES_DATA, SAMPLE, STOCK};
 
 #[test]
 fn lines_are_answered_in_order_however_the_input_is_cut(rt: HostRuntime) -> Result<(), Fail> {
@@ -33,7 +36,7 @@ fn each_line_is_answered_by_the_first_reason_that_holds(rt: HostRuntime) -> Resu
         ),
         (
             b"Sales?$apply=traverse($root/Orgs,OrgTree,OrgID,preorder)\n".as_slice(),
-            b"501 68\n{\"error\":{\"code\":\"NotBuilt\",\"message\":\"this form is not built yet\"}}\n".as_slice(),
+            b"200 337\n{\"@context\":\"$metadata#Sales\",\"value\":[{\"Amount\":\"7.25\",\"CustomerID\":\"C2\",\"ID\":\"3\",\"OrgID\":\"EMEA\"},{\"Amount\":\"2.25\",\"CustomerID\":\"C1\",\"ID\":\"6\",\"OrgID\":\"US\"},{\"Amount\":\"10.00\",\"CustomerID\":\"C1\",\"ID\":\"1\",\"OrgID\":\"West\"},{\"Amount\":null,\"CustomerID\":\"C3\",\"ID\":\"4\",\"OrgID\":\"West\"},{\"Amount\":\"5.50\",\"CustomerID\":\"C1\",\"ID\":\"2\",\"OrgID\":\"East\"}]}\n".as_slice(),
         ),
         (
             b"/Sales?%24apply=aggregate( Amount with sum as Total )\n".as_slice(),
@@ -69,11 +72,11 @@ fn each_line_is_answered_by_the_first_reason_that_holds(rt: HostRuntime) -> Resu
         ),
         (
             b"Sales?$apply=concat(identity,descendants($root/Orgs,OrgTree,OrgID,filter(ID eq 1)))\n".as_slice(),
-            b"501 68\n{\"error\":{\"code\":\"NotBuilt\",\"message\":\"this form is not built yet\"}}\n".as_slice(),
+            b"200 395\n{\"@context\":\"$metadata#Sales\",\"value\":[{\"Amount\":\"10.00\",\"CustomerID\":\"C1\",\"ID\":\"1\",\"OrgID\":\"West\"},{\"Amount\":\"5.50\",\"CustomerID\":\"C1\",\"ID\":\"2\",\"OrgID\":\"East\"},{\"Amount\":\"7.25\",\"CustomerID\":\"C2\",\"ID\":\"3\",\"OrgID\":\"EMEA\"},{\"Amount\":null,\"CustomerID\":\"C3\",\"ID\":\"4\",\"OrgID\":\"West\"},{\"Amount\":\"1.00\",\"CustomerID\":\"C2\",\"ID\":\"5\",\"OrgID\":null},{\"Amount\":\"2.25\",\"CustomerID\":\"C1\",\"ID\":\"6\",\"OrgID\":\"US\"}]}\n".as_slice(),
         ),
         (
             b"Customers?$apply=join(Sales as S,traverse($root/Orgs,OrgTree,OrgID,preorder))\n".as_slice(),
-            b"501 68\n{\"error\":{\"code\":\"NotBuilt\",\"message\":\"this form is not built yet\"}}\n".as_slice(),
+            b"200 666\n{\"@context\":\"$metadata#Customers(*,S(*))\",\"value\":[{\"Country\":\"US\",\"ID\":\"C1\",\"Name\":\"Joe\",\"S\":{\"Amount\":\"2.25\",\"CustomerID\":\"C1\",\"ID\":\"6\",\"OrgID\":\"US\"},\"Since\":\"2019-05-01\"},{\"Country\":\"US\",\"ID\":\"C1\",\"Name\":\"Joe\",\"S\":{\"Amount\":\"10.00\",\"CustomerID\":\"C1\",\"ID\":\"1\",\"OrgID\":\"West\"},\"Since\":\"2019-05-01\"},{\"Country\":\"US\",\"ID\":\"C1\",\"Name\":\"Joe\",\"S\":{\"Amount\":\"5.50\",\"CustomerID\":\"C1\",\"ID\":\"2\",\"OrgID\":\"East\"},\"Since\":\"2019-05-01\"},{\"Country\":\"NL\",\"ID\":\"C2\",\"Name\":\"Sue\",\"S\":{\"Amount\":\"7.25\",\"CustomerID\":\"C2\",\"ID\":\"3\",\"OrgID\":\"EMEA\"},\"Since\":\"2020-02-29\"},{\"Country\":\"FR\",\"ID\":\"C3\",\"Name\":\"Luc\",\"S\":{\"Amount\":null,\"CustomerID\":\"C3\",\"ID\":\"4\",\"OrgID\":\"West\"},\"Since\":null}]}\n".as_slice(),
         ),
         (
             b"Customers?$apply=aggregate(Best)\n".as_slice(),
@@ -411,26 +414,6 @@ const ANSWERS: &[(&str, &str, &str)] = &[
         "{\"error\":{\"code\":\"Range\",\"message\":\"a number is past its range\"}}",
     ),
     (
-        "Sales?$apply=concat(identity,traverse($root/Orgs,OrgTree,OrgID,preorder))",
-        "501",
-        "{\"error\":{\"code\":\"NotBuilt\",\"message\":\"this form is not built yet\"}}",
-    ),
-    (
-        "Customers?$apply=join(Sales as S,ancestors($root/Orgs,OrgTree,OrgID,identity))",
-        "501",
-        "{\"error\":{\"code\":\"NotBuilt\",\"message\":\"this form is not built yet\"}}",
-    ),
-    (
-        "Orgs?$apply=traverse($root/Orgs,OrgTree,ID,postorder)",
-        "501",
-        "{\"error\":{\"code\":\"NotBuilt\",\"message\":\"this form is not built yet\"}}",
-    ),
-    (
-        "Sales?$apply=groupby((rolluprecursive($root/Orgs,OrgTree,OrgID)))",
-        "501",
-        "{\"error\":{\"code\":\"NotBuilt\",\"message\":\"this form is not built yet\"}}",
-    ),
-    (
         "explain Sales?$apply=groupby((ID))",
         "501",
         "{\"error\":{\"code\":\"NotBuilt\",\"message\":\"this form is not built yet\"}}",
@@ -442,21 +425,178 @@ const ANSWERS: &[(&str, &str, &str)] = &[
     ),
 ];
 
-#[test]
-fn pipelines_that_are_built_have_their_bodies(rt: HostRuntime) -> Result<(), Fail> {
-    let alloc = rt.alloc();
-    for (line, code, body) in ANSWERS {
+/// The same with transformations over the hierarchy of the organisations.
+const BY_NODES: &[(&str, &str, &str)] = &[
+    (
+        "Sales?$apply=concat(identity,traverse($root/Orgs,OrgTree,OrgID,preorder))",
+        "200",
+        "{\"@context\":\"$metadata#Sales\",\"value\":[{\"Amount\":\"10.00\",\"CustomerID\":\"C1\",\"ID\":\"1\",\"OrgID\":\"West\"},{\"Amount\":\"5.50\",\"CustomerID\":\"C1\",\"ID\":\"2\",\"OrgID\":\"East\"},{\"Amount\":\"7.25\",\"CustomerID\":\"C2\",\"ID\":\"3\",\"OrgID\":\"EMEA\"},{\"Amount\":null,\"CustomerID\":\"C3\",\"ID\":\"4\",\"OrgID\":\"West\"},{\"Amount\":\"1.00\",\"CustomerID\":\"C2\",\"ID\":\"5\",\"OrgID\":null},{\"Amount\":\"2.25\",\"CustomerID\":\"C1\",\"ID\":\"6\",\"OrgID\":\"US\"},{\"Amount\":\"7.25\",\"CustomerID\":\"C2\",\"ID\":\"3\",\"OrgID\":\"EMEA\"},{\"Amount\":\"2.25\",\"CustomerID\":\"C1\",\"ID\":\"6\",\"OrgID\":\"US\"},{\"Amount\":\"10.00\",\"CustomerID\":\"C1\",\"ID\":\"1\",\"OrgID\":\"West\"},{\"Amount\":null,\"CustomerID\":\"C3\",\"ID\":\"4\",\"OrgID\":\"West\"},{\"Amount\":\"5.50\",\"CustomerID\":\"C1\",\"ID\":\"2\",\"OrgID\":\"East\"}]}",
+    ),
+    (
+        "Customers?$apply=join(Sales as S,ancestors($root/Orgs,OrgTree,OrgID,identity))",
+        "200",
+        "{\"@context\":\"$metadata#Customers(*,S(*))\",\"value\":[{\"Country\":\"US\",\"ID\":\"C1\",\"Name\":\"Joe\",\"S\":{\"Amount\":\"2.25\",\"CustomerID\":\"C1\",\"ID\":\"6\",\"OrgID\":\"US\"},\"Since\":\"2019-05-01\"}]}",
+    ),
+    (
+        "Orgs?$apply=traverse($root/Orgs,OrgTree,ID,postorder)",
+        "200",
+        "{\"@context\":\"$metadata#Orgs\",\"value\":[{\"ID\":\"EMEA\",\"ParentID\":\"Corp\"},{\"ID\":\"West\",\"ParentID\":\"US\"},{\"ID\":\"East\",\"ParentID\":\"US\"},{\"ID\":\"US\",\"ParentID\":\"Corp\"},{\"ID\":\"Corp\",\"ParentID\":null},{\"ID\":\"Lab\",\"ParentID\":null}]}",
+    ),
+    (
+        "Sales?$apply=groupby((rolluprecursive($root/Orgs,OrgTree,OrgID)))",
+        "200",
+        "{\"@context\":\"$metadata#Sales(OrgID)\",\"value\":[{\"OrgID\":\"Corp\"},{\"OrgID\":\"EMEA\"},{\"OrgID\":\"US\"},{\"OrgID\":\"West\"},{\"OrgID\":\"East\"}]}",
+    ),
+    (
+        "Sales?$apply=groupby((rolluprecursive($root/Orgs,OrgTree,OrgID)),aggregate(Amount with sum as T))",
+        "200",
+        "{\"@context\":\"$metadata#Sales(OrgID,T)\",\"value\":[{\"OrgID\":\"Corp\",\"T@type\":\"Decimal\",\"T\":\"25.00\"},{\"OrgID\":\"EMEA\",\"T@type\":\"Decimal\",\"T\":\"7.25\"},{\"OrgID\":\"US\",\"T@type\":\"Decimal\",\"T\":\"17.75\"},{\"OrgID\":\"West\",\"T@type\":\"Decimal\",\"T\":\"10.00\"},{\"OrgID\":\"East\",\"T@type\":\"Decimal\",\"T\":\"5.50\"}]}",
+    ),
+    (
+        "Sales?$apply=groupby((rolluprecursive($root/Orgs,OrgTree,OrgID)),aggregate(Amount with sum as T))/filter(OrgID eq 'US')",
+        "200",
+        "{\"@context\":\"$metadata#Sales(OrgID,T)\",\"value\":[{\"OrgID\":\"US\",\"T@type\":\"Decimal\",\"T\":\"17.75\"}]}",
+    ),
+    (
+        "Sales?$apply=ancestors($root/Orgs,OrgTree,OrgID,filter(ID eq 1),1)",
+        "200",
+        "{\"@context\":\"$metadata#Sales\",\"value\":[{\"Amount\":\"2.25\",\"CustomerID\":\"C1\",\"ID\":\"6\",\"OrgID\":\"US\"}]}",
+    ),
+    (
+        "Sales?$apply=ancestors($root/Orgs,OrgTree,OrgID,filter(ID eq 1),keep start)/groupby((ID))",
+        "200",
+        "{\"@context\":\"$metadata#Sales(ID)\",\"value\":[{\"ID\":\"1\"},{\"ID\":\"4\"},{\"ID\":\"6\"}]}",
+    ),
+    (
+        "Sales?$apply=descendants($root/Orgs,OrgTree,OrgID,filter(ID eq 6 or ID eq 1),keep start)/aggregate($count as N)",
+        "200",
+        "{\"@context\":\"$metadata#Sales(N)\",\"value\":[{\"N@type\":\"Int64\",\"N\":\"4\"}]}",
+    ),
+    (
+        "Orgs?$apply=traverse($root/Orgs,OrgTree,ID,preorder,ID desc)/groupby((ID))",
+        "200",
+        "{\"@context\":\"$metadata#Orgs(ID)\",\"value\":[{\"ID\":\"Lab\"},{\"ID\":\"Corp\"},{\"ID\":\"US\"},{\"ID\":\"West\"},{\"ID\":\"East\"},{\"ID\":\"EMEA\"}]}",
+    ),
+    (
+        "Sales?$apply=groupby((rolluprecursive($root/Orgs,OrgTree,OrgID,filter(ID eq 'Lab'))),aggregate($count as N))",
+        "200",
+        "{\"@context\":\"$metadata#Sales(N,OrgID)\",\"value\":[]}",
+    ),
+    (
+        "explain Sales?$apply=groupby((rolluprecursive($root/Orgs,OrgTree,OrgID)),aggregate(Amount with sum as T))",
+        "501",
+        "{\"error\":{\"code\":\"NotBuilt\",\"message\":\"this form is not built yet\"}}",
+    ),
+];
+
+/// Requests over the sample's model and two organisations, each the parent of the other.
+const CYCLIC: &[(&str, &str, &str)] = &[
+    (
+        "Sales?$apply=groupby((rolluprecursive($root/Orgs,OrgTree,OrgID)),aggregate(Amount with sum as T))",
+        "422",
+        "{\"error\":{\"code\":\"Cycle\",\"message\":\"the hierarchy has a cycle\",\"target\":\"A\"}}",
+    ),
+    (
+        "Orgs?$apply=traverse($root/Orgs,OrgTree,ID,postorder)",
+        "422",
+        "{\"error\":{\"code\":\"Cycle\",\"message\":\"the hierarchy has a cycle\",\"target\":\"A\"}}",
+    ),
+    (
+        "Sales?$apply=concat(identity,groupby((CustomerID),ancestors($root/Orgs,OrgTree,OrgID,identity)))",
+        "422",
+        "{\"error\":{\"code\":\"Cycle\",\"message\":\"the hierarchy has a cycle\",\"target\":\"A\"}}",
+    ),
+    (
+        "explain Sales?$apply=groupby((rolluprecursive($root/Orgs,OrgTree,OrgID)),aggregate(Amount with sum as T))",
+        "501",
+        "{\"error\":{\"code\":\"NotBuilt\",\"message\":\"this form is not built yet\"}}",
+    ),
+    (
+        "Sales?$apply=filter(Nope eq 1)/traverse($root/Orgs,OrgTree,OrgID,preorder)",
+        "400",
+        "{\"error\":{\"code\":\"Type\",\"message\":\"the transformation has no type\",\"target\":\"1\"}}",
+    ),
+    (
+        "Sales?$apply=aggregate(Amount with sum as Total)",
+        "200",
+        "{\"@context\":\"$metadata#Sales(Total)\",\"value\":[{\"Total@type\":\"Decimal\",\"Total\":null}]}",
+    ),
+    (
+        "Orgs?$apply=filter(Superordinate/Superordinate/ID eq ID)/groupby((ID))",
+        "200",
+        "{\"@context\":\"$metadata#Orgs(ID)\",\"value\":[{\"ID\":\"A\"},{\"ID\":\"B\"}]}",
+    ),
+];
+
+/// Items whose parts are a tree and whose copies are a cycle, and a shop before itself.
+const LOOPS: &str =
+    "{\"Items\":[{\"Code\":1,\"Ratio\":\"1\",\"Made\":\"2020-01-01\",\"Label\":\"a\",\"Opened\":\"2020-02-29\"},{\"Code\":7,\"Ratio\":\"1\",\"Made\":\"2020-01-01\",\"Label\":\"b\",\"PartOf\":1,\"Twin\":8,\"Opened\":\"2020-02-29\"},{\"Code\":8,\"Ratio\":\"1\",\"Made\":\"2020-01-01\",\"Label\":\"c\",\"PartOf\":7,\"Twin\":7,\"Opened\":\"2020-02-29\"}],\"Shops\":[{\"Day\":\"2020-02-29\",\"City\":\"x\",\"Before\":\"2020-02-29\"}]}";
+
+/// The same over these items and the shop.
+const LOOPED: &[(&str, &str, &str)] = &[
+    (
+        "Items?$apply=traverse($root/Items,Tree,Code,postorder)/groupby((Code))",
+        "200",
+        "{\"@context\":\"$metadata#Items(Code)\",\"value\":[{\"Code\":\"8\"},{\"Code\":\"7\"},{\"Code\":\"1\"}]}",
+    ),
+    (
+        "Items?$apply=traverse($root/Items,Copies,Code,preorder)",
+        "422",
+        "{\"error\":{\"code\":\"Cycle\",\"message\":\"the hierarchy has a cycle\",\"target\":\"7\"}}",
+    ),
+    (
+        "Items?$apply=concat(traverse($root/Items,Tree,Code,preorder),ancestors($root/Shops,Moves,Opened,traverse($root/Items,Copies,Code,preorder)))",
+        "422",
+        "{\"error\":{\"code\":\"Cycle\",\"message\":\"the hierarchy has a cycle\",\"target\":\"2020-02-29\"}}",
+    ),
+    (
+        "Items?$apply=groupby((Label),descendants($root/Items,Tree,Code,ancestors($root/Items,Copies,Code,traverse($root/Shops,Moves,Opened,preorder)),1))",
+        "422",
+        "{\"error\":{\"code\":\"Cycle\",\"message\":\"the hierarchy has a cycle\",\"target\":\"7\"}}",
+    ),
+    (
+        "Items?$apply=groupby((rolluprecursive($root/Items,Tree,PartOf,traverse($root/Items,Copies,Code,preorder))))",
+        "422",
+        "{\"error\":{\"code\":\"Cycle\",\"message\":\"the hierarchy has a cycle\",\"target\":\"7\"}}",
+    ),
+];
+
+/// Compares the responses to requests over a model and its data.
+fn expect_answers<R: Threads + Sync + Abort>(
+    rt: &R,
+    alloc: Global,
+    model: &str,
+    data: &str,
+    answers: &[(&str, &str, &str)],
+) -> Result<(), Fail> {
+    for (line, code, body) in answers {
         let case = Case {
-            model: SAMPLE,
-            data: SALES_DATA,
+            model,
+            data,
             input: line.as_bytes(),
             ..PLAIN
         };
         let length = body.len();
         let expected = format!(in alloc; "{code} {length}\n{body}\n")?;
-        let ran = outcome(&rt, alloc, &case)?;
+        let ran = outcome(rt, alloc, &case)?;
         assert_eq!(rt; ran.status, Status::Served);
-        assert_eq!(rt; ran.output.as_slice(), expected.as_bytes());
+        assert_eq!(rt; ran.output.as_slice(), expected.as_bytes(), "{line}");
     }
     Ok(())
+}
+
+#[test]
+fn pipelines_have_their_bodies(rt: HostRuntime) -> Result<(), Fail> {
+    expect_answers(&rt, rt.alloc(), SAMPLE, SALES_DATA, ANSWERS)
+}
+
+#[test]
+fn pipelines_over_hierarchies_have_their_bodies(rt: HostRuntime) -> Result<(), Fail> {
+    expect_answers(&rt, rt.alloc(), SAMPLE, SALES_DATA, BY_NODES)
+}
+
+#[test]
+fn a_cyclic_hierarchy_is_told_where_it_is_named(rt: HostRuntime) -> Result<(), Fail> {
+    expect_answers(&rt, rt.alloc(), SAMPLE, CYCLE_DATA, CYCLIC)?;
+    expect_answers(&rt, rt.alloc(), STOCK, LOOPS, LOOPED)
 }

@@ -1,5 +1,4 @@
-use Rattle.std.proofs.Common.{◌≡◌, subst, sym}
-use Rattle.edm_data.specs.Worlds.{World}
+use Rattle.std.proofs.Common.{subst, sym}
 use Rattle.edm_model.specs.LookUps.{set_type}
 use Rattle.apply_ast.specs.Views.{pipe_of}
 use Rattle.context_typing.proofs.LawfulShapes.{own_is_lawful}
