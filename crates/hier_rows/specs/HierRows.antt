@@ -1,8 +1,7 @@
 -- Rows by their nodes in a hierarchy (Data Aggregation 4.0, section 6), and what calls over them return.
-use Rattle.std.specs.Prelude.{ℕ, ◌≡◌, ◌<◌, ◌++◌, true, false, Bool, List, map, filter_map, Option, Some, None, IfSome, option_map, if◌then◌else◌}
+use Rattle.std.specs.Prelude.{ℕ, ◌≡◌, ◌<◌, ◌++◌, true, false, Bool, List, map, filter_map, Option, IfSome, option_map, if◌then◌else◌}
 use Rattle.std.specs.declared.result.Result as result
 use Rattle.std.specs.declared.result.Result.TheVariants.{Ok, Err}
-use Rattle.std.specs.Global.{Vec}
 use Rattle.std.specs.List.{All, list_any}
 use Rattle.edm_values.specs.declared.Value.{Value}
 use Rattle.edm_values.specs.Names.{Path}

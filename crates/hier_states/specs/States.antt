@@ -1,5 +1,5 @@
 -- The states of a model's hierarchies over loaded data, and which of them a pipeline names (Data Aggregation 4.0, section 5.5.2).
-use Rattle.std.specs.Prelude.{◌≡◌, ◌==◌, ◌&&◌, Bool, List, slice_get, position, Option, Some, None, option_map, option_and_then}
+use Rattle.std.specs.Prelude.{◌≡◌, List, slice_get, position, Option, Some, None, option_map, option_and_then}
 use Rattle.std.specs.List.{AllZip}
 use Rattle.edm_values.specs.Lists.{find_map}
 use Rattle.edm_model.specs.Models.{Model, Part}

@@ -1,9 +1,7 @@
 -- Concatenations: what the branches mean and cost, and that each runs.
-use Rattle.std.proofs.Common.{◌≡◌, ◌≤◌, ◌<◌, ◌+◌, ◌∙◌, refl, sym, ap, subst, ℕ, zero, suc, true, ◌&&◌, Option, List, [], ◌∷◌, length, drop, get_or, map, Some, None, arith}
+use Rattle.std.proofs.Common.{◌≡◌, ◌≤◌, ◌<◌, ◌+◌, ◌∙◌, sym, ap, subst, ℕ, zero, suc, Option, List, [], ◌∷◌, length, drop, get_or, map, Some, None, arith}
 use Rattle.std.specs.Prelude.{option_map, slice_get, sum, if◌then◌else◌}
-use Rattle.std.specs.List.{list_all}
 use Rattle.std.proofs.lemmas.Option.{get_or_from_slice_get, slice_get-map, slice_get_within}
-use Rattle.edm_values.proofs.ListFacts.{all-of_mapped}
 use Rattle.edm_values.proofs.OptionFacts.{all_some-parts, chained, if_else-parts, none_or, some_value}
 use Rattle.edm_values.specs.Lists.{all_some}
 use Rattle.edm_model.specs.Models.{Model}
@@ -13,7 +11,6 @@ use Rattle.apply_ast.specs.Views.{pipe_of, pipes_from, pipes_in, pipes_of}
 use Rattle.apply_ast.specs.declared.steps.Pipe as of_pipe
 use Rattle.apply_ast.specs.declared.steps.PipeList as of_pipes
 use Rattle.apply_ast.proofs.ViewEquations.{pipes_of-is}
-use Rattle.context_typing.proofs.TableFold.{all-place}
 use Rattle.context_typing.proofs.TypingEquations.{branch_shapes-MorePipes, step_shape-Concat}
 use Rattle.context_typing.specs.Readings.{readings}
 use Rattle.context_typing.specs.Shapes.{Shape}

@@ -31,7 +31,7 @@ use Rattle.apply_meaning.proofs.MeaningProved.{loaded-mean_fits}
 use Rattle.apply_meaning.proofs.MeanLemmas.{fit-at_places}
 use Rattle.apply_meaning.specs.Instances.{Instance, extended, fits, no_instance}
 use Rattle.apply_meaning.specs.Meaning.{Outcome, at_or_below, group, grouped, grouping_mean, groups_by, inner_mean, joined, keyed, keys, keys_shown, level_paths, mean, node_groups, step_mean}
-use Rattle.apply_meaning.specs.MeaningLaws.{AllFit, IsLoaded}
+use Rattle.apply_meaning.specs.MeaningLaws.{IsLoaded}
 use Rattle.apply_meaning.specs.RowViews.{columns_differ}
 use Rattle.group_rollup.proofs.GroupLemmas.{group-at_places, group-places_within}
 use Rattle.group_rollup.specs.Groupings.{has_beyond_key, places_in}
@@ -41,7 +41,7 @@ use Rattle.plan_run.proofs.NodeLevels.{nodes-lists, nodes-made, nodes-within}
 use Rattle.plan_run.specs.Conditions.{KeysReady, LevelsRun, RunsFrom, StepRunsFrom}
 use Rattle.plan_run.specs.Contexts.{Context}
 use Rattle.plan_run.specs.Costs.{application, cost, given_applications, group_lists, groups, keys_cost, result_length, step_cost}
-use Rattle.plan_run.specs.Levels.{Level, group_made, group_row, level_lists, level_made, level_on, level_rows, levels_by, levels_of, levels_on, node_levels}
+use Rattle.plan_run.specs.Levels.{Level, group_made, group_row, level_lists, level_made, level_on, level_rows, levels_by, levels_on, node_levels}
 
 -- ---- the meaning
 

@@ -1,13 +1,12 @@
 -- Lists that are made one after the other, each of which may be refused.
 use Rattle.std.proofs.Common.{◌≡◌, ℕ, ◌+◌, ◌<◌, ◌≤◌, refl, sym, ◌∙◌, ap, Err, List, [], ◌∷◌, ◌++◌, length, drop, map, get_or, Option, Some, None}
-use Rattle.std.specs.Prelude.{flat_map, option_map}
+use Rattle.std.specs.Prelude.{option_map}
 use Rattle.std.proofs.Math.ListN.{drop_of_length-le}
-use Rattle.std.proofs.lemmas.List.{append-nil, append_assoc, length-map, map-append}
-use Rattle.std.specs.Global.{Vec}
+use Rattle.std.proofs.lemmas.List.{append-nil, append_assoc, length-map}
 use Rattle.edm_values.specs.Lists.{all_some}
 use Rattle.edm_values.proofs.SearchFacts.{all_some-map}
 use Rattle.apply_meaning.specs.Instances.{Instance}
-use Rattle.apply_meaning.specs.Meaning.{Outcome, joined}
+use Rattle.apply_meaning.specs.Meaning.{Outcome}
 use Rattle.apply_meaning.specs.Running.{Gives}
 use Rattle.apply_meaning.specs.declared.refusals.RunRefused.{RunRefused}
 use Rattle.apply_meaning.specs.declared.refusals.RunRefused.TheVariants.{Range, Memory}

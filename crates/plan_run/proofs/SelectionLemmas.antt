@@ -1,5 +1,5 @@
 -- What is typed as a selection has values that it can be made by.
-use Rattle.std.proofs.Common.{◌≡◌, sym, ◌∙◌, true, List, Some, ◌&&◌}
+use Rattle.std.proofs.Common.{◌≡◌, sym, ◌∙◌, true, List}
 use Rattle.std.specs.Prelude.{nat_le}
 use Rattle.std.proofs.lemmas.Bool.{and_parts, leb-true}
 use Rattle.edm_values.proofs.ListFacts.{all-map}

@@ -17,7 +17,8 @@ use Rattle.apply_ast.specs.Views.{limit_of}
 use Rattle.apply_ast.specs.declared.items.Limit as of_limit
 use Rattle.apply_meaning.specs.Meaning.{reaches}
 use Rattle.apply_meaning.specs.declared.refusals.RunRefused.{RunRefused}
-use Rattle.plan_run.specs.Selections.{GivesPlaces, literal_number}
+use Rattle.plan_run.specs.Selections.{literal_number}
+use Rattle.row_orders.specs.Ranks.{GivesNumbers}
 
 -- ---- places that pass, from one place to the next
 
@@ -119,7 +120,7 @@ sum-reaches (NumberLiteral.Int n) vs = refl
 sum-reaches (NumberLiteral.Dec m s) vs = refl
 
 -- the places of a selection in the program
-pub limit-is : (limit x : of_limit.Limit) (bottom b : Bool) (vs : List Value) (r : result.Result (Vec ℕ) RunRefused) → limit ≡ x → bottom ≡ b → GivesPlaces (top_places (reaches (limit_of x) vs) b vs) r
-    → GivesPlaces (top_places (reaches (limit_of limit) vs) bottom vs) r
+pub limit-is : (limit x : of_limit.Limit) (bottom b : Bool) (vs : List Value) (r : result.Result (Vec ℕ) RunRefused) → limit ≡ x → bottom ≡ b → GivesNumbers r (top_places (reaches (limit_of x) vs) b vs)
+    → GivesNumbers r (top_places (reaches (limit_of limit) vs) bottom vs)
 limit-is limit x bottom b vs r e f h =
-    subst (λ x. GivesPlaces (top_places (reaches (limit_of x) vs) bottom vs) r) (sym e) (subst (λ d. GivesPlaces (top_places (reaches (limit_of x) vs) d vs) r) (sym f) h)
+    subst (λ x. GivesNumbers r (top_places (reaches (limit_of x) vs) bottom vs)) (sym e) (subst (λ d. GivesNumbers r (top_places (reaches (limit_of x) vs) d vs)) (sym f) h)

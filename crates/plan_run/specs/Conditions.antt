@@ -7,7 +7,7 @@ use Rattle.std.specs.Global.{Vec}
 use Rattle.edm_values.specs.declared.Value.{Value}
 use Rattle.edm_values.specs.Lists.{all_some, at_places}
 use Rattle.edm_values.specs.Literals.{AreNumbers}
-use Rattle.edm_values.specs.Names.{Name, Path}
+use Rattle.edm_values.specs.Names.{Name}
 use Rattle.edm_model.specs.LookUps.{HierarchyPlace, navigation_on}
 use Rattle.edm_model.specs.Models.{Custom, Navigation, Part}
 use Rattle.edm_data.specs.Worlds.{World}

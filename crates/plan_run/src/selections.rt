@@ -7,7 +7,8 @@ ghost use Rattle.apply_meaning.specs.Meaning.{reaches, selected, values};
 ghost use Rattle.apply_meaning.specs.Running.{Gives, all_of};
 ghost use Rattle.top_family.specs.Selections.{Takes};
 ghost use Rattle.plan_run.specs.Conditions.{LimitReady};
-ghost use Rattle.plan_run.specs.Selections.{GivesPlaces, literal_number};
+ghost use Rattle.plan_run.specs.Selections.{literal_number};
+ghost use Rattle.row_orders.specs.Ranks.{GivesNumbers};
 
 use apply_ast::{Limit, Number, TopStep};
 use apply_meaning::{Row, RunRefused, seen_values};
@@ -30,7 +31,7 @@ fn number_value(number: &Number) -> Seen<'_>
 
 /// What a selection answered, as a run returns it.
 fn run_answer(taken: Result<Vec<usize>, TopRefused>) -> Result<Vec<usize>, RunRefused>
-    ensures { (places : Option (List ℕ)) → Takes places taken → GivesPlaces places result }
+    ensures { (places : Option (List ℕ)) → Takes places taken → GivesNumbers result places }
 {
     match taken {
         Ok(places) => Ok(places),
@@ -47,7 +48,7 @@ fn taken_places(
     values: &[Seen<'_>],
 ) -> Result<Vec<usize>, RunRefused>
     requires { LimitReady (limit_of limit.now) (map seen_value values.now) }
-    ensures { let vs = map seen_value values.now in GivesPlaces (top_places (reaches (limit_of limit.now) vs) bottom vs) result }
+    ensures { let vs = map seen_value values.now in GivesNumbers result (top_places (reaches (limit_of limit.now) vs) bottom vs) }
 {
     match (limit, bottom) {
         (Limit::Count(n), false) => run_answer(top_count(alloc, values, *n)),

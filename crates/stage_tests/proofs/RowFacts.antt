@@ -1,5 +1,5 @@
 -- Rows whose entities are of sets that the model has.
-use Rattle.std.proofs.Common.{◌≡◌, ℕ, zero, suc, ◌<◌, length, refl, subst, ◌∙◌, ap, Bool, true, false, List, [], ◌∷◌, Option, Some, None, arith}
+use Rattle.std.proofs.Common.{◌≡◌, ℕ, zero, suc, ◌<◌, length, refl, subst, ◌∙◌, ap, Bool, true, List, [], ◌∷◌, Option, Some, None, arith}
 use Rattle.std.specs.Prelude.{Result, Ok, option_map, slice_get, is_some}
 use Rattle.std.specs.List.{list_all}
 use Rattle.std.proofs.lemmas.Bool.{and_from}

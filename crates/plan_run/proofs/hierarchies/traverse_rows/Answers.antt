@@ -1,4 +1,4 @@
-use Rattle.std.proofs.Common.{◌≡◌, ◌+◌, ◌≤◌, sym, subst, ◌∙◌, ap, Err, Some, arith}
+use Rattle.std.proofs.Common.{sym, subst, ◌∙◌, ap, Err, Some, arith}
 use Rattle.std.specs.Prelude.{option_map, if◌then◌else◌}
 use Rattle.std.proofs.lemmas.Result.{err_from_is_err_and}
 use Rattle.edm_values.specs.Lists.{at_places, is_nonempty}

@@ -1,5 +1,4 @@
-use Rattle.std.proofs.Common.{◌∙◌, ap, subst, sym, IsTrue}
-use Rattle.edm_model.specs.Models.{Model}
+use Rattle.std.proofs.Common.{subst, sym, IsTrue}
 use Rattle.context_typing.specs.Readings.{readings}
 use Rattle.context_typing.specs.Typing.{customs_typed}
 use Rattle.apply_meaning.specs.MeaningLaws.{IsLoaded}
