@@ -1,0 +1,5 @@
+pub mod Answers
+pub mod Buffers
+pub mod Lines
+pub mod Outputs
+pub mod Streams
