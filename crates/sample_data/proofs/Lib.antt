@@ -1,0 +1,8 @@
+pub mod AmountTexts
+pub mod EntityTrees
+pub mod FileLengths
+pub mod GeneratedFile
+pub mod GeneratedTree
+pub mod PlaceLists
+pub mod WorldKeys
+pub mod WorldReferences
