@@ -2,21 +2,23 @@
 //!
 //! `main` makes the real objects, calls [`apply_service::serve`] with the words after the program's name, tells on standard
 //! error what was wrong where something was, and ends with the number of the status. It stands on `apply_service` for the
-//! service and on `apply_io` for the objects.
+//! service, on `serve_options` for what is told of wrong words, and on `apply_io` for the objects.
 //!
 //! It promises that `run`, which makes the counter of steps, says of a run what `serve` says, and that the number that the
 //! program ends with is that of the status.
 #![tactic(auto)]
 
 ghost use Rattle.std.specs.Prelude.{◌≡◌, ◌<◌};
+ghost use Rattle.serve_options.specs.Command.{texts_of};
 ghost use Rattle.apply_service.specs.ExitCodes.{exit_code};
-ghost use Rattle.apply_service.specs.Service.{Run, Says};
-ghost use Rattle.apply_service.specs.Words.{texts_of};
+ghost use Rattle.apply_service.specs.Runs.{Run, FolderSeen, SourceSeen, SinkSeen};
+ghost use Rattle.apply_service.specs.Service.{Says};
 
 use apply_io::{DiskFolder, Folder, Sink, Source, StdSink, StdSource};
 use apply_meaning::Steps;
-use apply_service::{INPUT_LIMIT, Status, serve};
+use apply_service::{Status, serve};
 use par_stages::NoGate;
+use serve_options::{Mode, read_options, usage_text};
 use std::alloc::Global;
 use std::env::Env;
 use std::marker::Brand;
@@ -48,17 +50,9 @@ fn run<R: Threads + Sync, F: Folder, S: Source, K: Sink, L: Ledger>(
     ensures number { result.number ≡ exit_code result.status }
     ensures says { Says (record {
       words = texts_of words.now;
-      files = F.files folder.old;
-      folder_faults = F.fault_count folder.old;
-      folder_faults_after = F.fault_count folder.new;
-      left = S.left input.old;
-      left_after = S.left input.new;
-      input_faults = S.fault_count input.old;
-      input_faults_after = S.fault_count input.new;
-      held = K.held output.old;
-      held_after = K.held output.new;
-      output_faults = K.fault_count output.old;
-      output_faults_after = K.fault_count output.new;
+      folder = record { files = F.files folder.old; faults = F.fault_count folder.old; faults_after = F.fault_count folder.new };
+      input = record { left = S.left input.old; left_after = S.left input.new; faults = S.fault_count input.old; faults_after = S.fault_count input.new };
+      output = record { held = K.held output.old; held_after = K.held output.new; faults = K.fault_count output.old; faults_after = K.fault_count output.new };
       status = result.status;
     }) (F.is_steady folder.old) (folder.new ≡ folder.old) (input.new ≡ input.old) (output.new ≡ output.old) }
 {
@@ -70,33 +64,38 @@ fn run<R: Threads + Sync, F: Folder, S: Source, K: Sink, L: Ledger>(
     }
 }
 
+/// Tells on standard error what is wrong with the words.
+fn explain_words<R: Eprint>(rt: &R, alloc: Global, words: &[String]) -> io::Result<()> {
+    match usage_text(alloc, words) {
+        Ok(text) => eprintln!(rt; "{text}"),
+        Err(_) => eprintln!(rt; "apply_serve: out of memory"),
+    }
+}
+
 /// Tells on standard error what was wrong, where something was.
 fn explain<R: Eprint>(
     rt: &R,
     status: Status,
-    words: &[String],
+    model: &str,
+    data: &str,
     failed_name: Option<&str>,
     input_faults: u64,
 ) -> io::Result<()> {
-    let model = words.get(1).map_or("", |name| name.as_str());
-    let data = words.get(3).map_or("", |name| name.as_str());
     match status {
         Status::Served => Ok(()),
-        Status::Usage => {
-            eprintln!(rt;
-                "usage: apply_serve --model FILE --data FILE < REQUESTS, the words in this order"
-            )
-        }
+        Status::Usage => eprintln!(rt; "apply_serve: a word is no UTF-8 text"),
         Status::ModelRefused => {
             eprintln!(rt;
-                "apply_serve: the model file {model} is refused; standard output says why"
+                "apply_serve: the model file {model:?} is refused; standard output says why"
             )
         }
         Status::DataRefused => {
-            eprintln!(rt; "apply_serve: the data file {data} is refused; standard output says why")
+            eprintln!(rt;
+                "apply_serve: the data file {data:?} is refused; standard output says why"
+            )
         }
         Status::ReadFault => match failed_name {
-            Some(name) => eprintln!(rt; "apply_serve: the file {name} could not be read"),
+            Some(name) => eprintln!(rt; "apply_serve: the file {name:?} could not be read"),
             None if input_faults > 0 => {
                 eprintln!(rt; "apply_serve: standard input could not be read")
             }
@@ -105,7 +104,7 @@ fn explain<R: Eprint>(
         Status::WriteFault => eprintln!(rt; "apply_serve: standard output could not be written"),
         Status::Memory => eprintln!(rt; "apply_serve: out of memory"),
         Status::InputLimit => {
-            eprintln!(rt; "apply_serve: the input has more than {INPUT_LIMIT} bytes")
+            eprintln!(rt; "apply_serve: the input has more bytes than --max-bytes allows")
         }
     }
 }
@@ -127,10 +126,11 @@ fn words_of<R: Env + Alloc<A = Global>>(rt: &R) -> Result<Vec<String>, Status> {
 
 /// Serves over the real objects, and tells on standard error what was wrong.
 fn main(rt: HostRuntime) -> ExitCode {
+    let alloc = rt.alloc();
     let words = match words_of(&rt) {
         Ok(words) => words,
         Err(status) => {
-            let _ = explain(&rt, status, &[], None, 0);
+            let _ = explain(&rt, status, "", "", None, 0);
             return ExitCode::from(status.number());
         }
     };
@@ -139,19 +139,32 @@ fn main(rt: HostRuntime) -> ExitCode {
     let mut output = StdSink::new(io::writer(&rt));
     let ended = run::<_, _, _, _, Brand>(
         &rt,
-        rt.alloc(),
+        alloc,
         words.as_slice(),
         &mut folder,
         &mut input,
         &mut output,
         Blank::new(1),
     );
-    let _ = explain(
-        &rt,
-        ended.status,
-        words.as_slice(),
-        folder.failed_name(),
-        input.faults(),
-    );
+    let _ = match (ended.status, read_options(alloc, words.as_slice())) {
+        (Status::Usage, _) => explain_words(&rt, alloc, words.as_slice()),
+        (status, Ok(options)) => {
+            let (model, data) = match &options.mode {
+                Mode::Serve(files) | Mode::Check(files) => {
+                    (files.model.as_str(), files.entities.as_str())
+                }
+                Mode::Gen(_) => ("", ""),
+            };
+            explain(
+                &rt,
+                status,
+                model,
+                data,
+                folder.failed_name(),
+                input.faults(),
+            )
+        }
+        (status, Err(_)) => explain(&rt, status, "", "", folder.failed_name(), input.faults()),
+    };
     ExitCode::from(ended.number)
 }

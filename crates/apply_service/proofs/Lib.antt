@@ -1,12 +1,5 @@
-mod FirstCustoms
-mod CustomsRead
-mod Responding
-mod Fronts
-mod Known
-mod Loading
-mod SetNames
-mod Answering
 mod Completeness
+mod Counts
 mod Ends
-mod CutLines
-mod Named
+mod Sampled
+mod Saying

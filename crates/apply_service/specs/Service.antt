@@ -1,108 +1,116 @@
--- One run of the service, seen from outside: what each of its ends says.
-use Rattle.std.specs.Prelude.{◌≡◌, ℕ, ◌≤◌, ◌⊎◌, List, length, Some, None}
-use Rattle.std.specs.declared.option.Option.{Option}
-use Rattle.std.specs.Io.KnownBytes.{Appends}
+-- What the service promises of a run.
+use Rattle.std.specs.Prelude.{◌≡◌, ℕ, ◌<◌, ◌≤◌, ◌⊎◌, List, [], ◌++◌, length, Some, None}
+use Rattle.std.specs.Option.{ForSome}
 use Rattle.apply_io.specs.Causes.{Rose}
 use Rattle.apply_io.specs.Files.{Files}
 use Rattle.edm_data.specs.Worlds.{World}
 use Rattle.context_typing.specs.Typing.{Customs}
-use Rattle.apply_service.specs.Requests.{request_lines}
-use Rattle.apply_service.specs.Answers.{Responds, RespondsInPart, WritesFront}
-use Rattle.apply_service.specs.Transfers.{TakesAll, TakesOneMore}
-use Rattle.apply_service.specs.Words.{file_names}
-use Rattle.apply_service.specs.Loads.{Outcome, Missing, RefusedModel, RefusedData, Loaded, IsOutcome, HasOutcome}
+use Rattle.line_stream.specs.Lines.{request_lines}
+use Rattle.serve_options.specs.Options.{Mode, Settings, Serve, Check, Gen}
+use Rattle.serve_options.specs.Command.{settings_in}
+use Rattle.apply_load.specs.Loads.{FileNames, Outcome, RefusedModel, RefusedData, Loaded, IsFilesOutcome}
+use Rattle.apply_service.specs.Runs.{Run}
+use Rattle.apply_service.specs.Outcomes.{IsOut, ServeSays, CheckSays, GenSays}
 use Rattle.apply_service.specs.declared.status.Status.{Status}
 use Rattle.apply_service.specs.declared.status.Status.TheVariants.{Served, Usage, ModelRefused, DataRefused, ReadFault, WriteFault, Memory, InputLimit}
 
--- the input has at most so many bytes
-abbrev pub input_limit : ℕ
-input_limit = 1048576
+-- ---- words on a run
 
--- what is seen of a run: the words; what the folder, the source and the sink tell, none where they do not tell, and their counts of faults, before and after; and the status
-pub record Run : Type 0 where
-  pub words : List (List ℕ)
-  pub files : Option Files
-  pub folder_faults : ℕ
-  pub folder_faults_after : ℕ
-  pub left : Option (List ℕ)
-  pub left_after : Option (List ℕ)
-  pub input_faults : ℕ
-  pub input_faults_after : ℕ
-  pub held : Option (List ℕ)
-  pub held_after : Option (List ℕ)
-  pub output_faults : ℕ
-  pub output_faults_after : ℕ
-  pub status : Status
+-- the names of two files
+abbrev pub names_of : List ℕ → List ℕ → FileNames
+names_of model data_file = record { model = model; entities = data_file }
 
--- The files make a world, the source's bytes were taken to their end, and the responses to their lines were written in order.
-pub record ServesAll (told : Option Files) (words : List (List ℕ)) (limit : ℕ) (left0 left1 held0 held1 : Option (List ℕ)) : Type 0 where
-  pub world : World
-  pub customs : Customs
-  pub loaded : HasOutcome told words (Loaded world customs)
-  pub bytes : List ℕ
-  pub taken : TakesAll left0 left1 limit bytes
-  pub answered : Responds world customs (request_lines bytes) held0 held1
+-- the words ask for these settings
+abbrev pub Asks : Run → Settings → Type 0
+Asks r s = settings_in r.words ≡ Some s
 
--- a file is refused, and its line was written
-pub record Refuses (told : Option Files) (words : List (List ℕ)) (refused : List ℕ → Outcome) (held0 held1 : Option (List ℕ)) : Type 0 where
-  pub line : List ℕ
-  pub judged : HasOutcome told words (refused line)
-  pub written : Appends held0 held1 line
+-- the words ask to answer requests over these files, within this limit
+abbrev pub AsksServe : Run → ℕ → FileNames → Type 0
+AsksServe r max_bytes names = (s : Settings) × Asks r s × (s.mode ≡ Serve names.model names.entities) × (s.max_bytes ≡ max_bytes)
 
--- the files make a world, and the source had more bytes than the limit
-pub record Overruns (told : Option Files) (words : List (List ℕ)) (limit : ℕ) (left0 left1 : Option (List ℕ)) : Type 0 where
-  pub world : World
-  pub customs : Customs
-  pub loaded : HasOutcome told words (Loaded world customs)
-  pub taken : TakesOneMore left0 left1 limit
+-- the words ask to check these files
+abbrev pub AsksCheck : Run → FileNames → Type 0
+AsksCheck r names = (s : Settings) × Asks r s × (s.mode ≡ Check names.model names.entities)
 
--- the writing broke off in the line of a refused file, or in the responses
-pub data BreaksOff (told : Option Files) (words : List (List ℕ)) (limit : ℕ) (left0 left1 held0 held1 : Option (List ℕ)) : Type 0 where
-  in_model_line : {line : List ℕ} → HasOutcome told words (RefusedModel line) → WritesFront line held0 held1 → BreaksOff told words limit left0 left1 held0 held1
-  in_data_line : {line : List ℕ} → HasOutcome told words (RefusedData line) → WritesFront line held0 held1 → BreaksOff told words limit left0 left1 held0 held1
-  in_responses : {world : World} {customs : Customs} {bytes : List ℕ} → HasOutcome told words (Loaded world customs) → TakesAll left0 left1 limit bytes → RespondsInPart world customs (request_lines bytes) held0 held1 → BreaksOff told words limit left0 left1 held0 held1
+-- the words ask for the sample requests over so many sales
+abbrev pub AsksGen : Run → ℕ → Type 0
+AsksGen r count = (s : Settings) × Asks r s × (s.mode ≡ Gen count)
 
--- a read of the source failed; or one of the folder, which is to blame only where it lacks a file, if it is steady
-abbrev pub ReadFailed : Run → Type 0 → Type 0
-ReadFailed r is_steady =
-    Rose r.input_faults r.input_faults_after
-    ⊎ (Rose r.folder_faults r.folder_faults_after × (is_steady → HasOutcome r.files r.words Missing))
+-- the words ask for one of the modes that read both files
+abbrev pub AsksFiles : Run → FileNames → Type 0
+AsksFiles r names = ((max_bytes : ℕ) × AsksServe r max_bytes names) ⊎ AsksCheck r names
 
--- What each status says of a run. The last three are that the folder, the source and the sink are as they were.
-pub record Says (r : Run) (is_steady same_folder same_input same_output : Type 0) : Type 0 where
-  -- the words name no files, and nothing was touched; and words that name none are told so
-  pub usage : r.status ≡ Usage → (file_names r.words ≡ None) × same_folder × same_input × same_output
-  pub usage_comes : file_names r.words ≡ None → r.status ≡ Usage
-  -- the promise: nothing is left, and one framed response for each line was written, in order
-  pub served : r.status ≡ Served → ServesAll r.files r.words input_limit r.left r.left_after r.held r.held_after
-  -- a refused file has its line, and the input is not read
-  pub model_refused : r.status ≡ ModelRefused → Refuses r.files r.words RefusedModel r.held r.held_after × same_input
-  pub data_refused : r.status ≡ DataRefused → Refuses r.files r.words RefusedData r.held r.held_after × same_input
-  -- a failed read has its cause, and nothing was written
-  pub read_fault : r.status ≡ ReadFault → ReadFailed r is_steady × same_output
-  -- one byte more than the limit came, and nothing was written
-  pub overrun : r.status ≡ InputLimit → Overruns r.files r.words input_limit r.left r.left_after × same_output
-  -- a failed write has its cause, and a front of what was to be written was written
-  pub write_fault : r.status ≡ WriteFault → Rose r.output_faults r.output_faults_after × BreaksOff r.files r.words input_limit r.left r.left_after r.held r.held_after
-  -- want of memory writes nothing
-  pub memory : r.status ≡ Memory → same_output
+-- the folder tells its files, and the two of these names make this
+abbrev pub Make : Run → FileNames → Outcome → Type 0
+Make r names o = (files : Files) × (r.folder.files ≡ Some files) × IsFilesOutcome files names o
+
+-- the bytes appended to the sink pass; nothing is said of a sink that does not tell its bytes
+abbrev pub Writes : Run → (List ℕ → Type 0) → Type 0
+Writes r P = ForSome r.output.held (λ before. (out : List ℕ) × (r.output.held_after ≡ Some (before ++ out)) × P out)
 
 -- a fault of the outside, or want of memory, which may come in place of a status that is else exact
 abbrev pub IsFault : Status → Type 0
 IsFault status = (status ≡ ReadFault) ⊎ ((status ≡ WriteFault) ⊎ (status ≡ Memory))
 
--- the folder tells its files, and the outcome is this
-abbrev pub Tells : Option Files → List (List ℕ) → Outcome → Type 0
-Tells told words o = (files : Files) × (told ≡ Some files) × IsOutcome words files o
+-- ---- what each end says
 
--- The files make a world and the folder is steady, the source tells its bytes and they keep the limit, and no count of the source or the sink rose.
-pub record IsUndisturbed (told : Option Files) (is_steady : Type 0) (words : List (List ℕ)) (limit : ℕ) (left : Option (List ℕ)) (input0 input1 output0 output1 : ℕ) : Type 0 where
-  pub world : World
-  pub customs : Customs
-  pub loads : Tells told words (Loaded world customs)
+-- what the status says of a run that was asked for this; the last three are that the folder, the source and the sink are as they were
+abbrev pub ModeSays : Run → ℕ → Mode → Type 0 → Type 0 → Type 0 → Type 0 → Type 0
+ModeSays r max_bytes (Serve model data_file) is_steady same_folder same_input same_output = ServeSays r.folder r.input r.output (names_of model data_file) max_bytes is_steady same_input same_output r.status
+ModeSays r max_bytes (Check model data_file) is_steady same_folder same_input same_output = CheckSays r.folder r.output (names_of model data_file) is_steady same_output r.status × same_input
+ModeSays r max_bytes (Gen count) is_steady same_folder same_input same_output = GenSays r.output count same_output r.status × same_folder × same_input
+
+-- What each status says of a run.
+pub record Ends (r : Run) (is_steady same_folder same_input same_output : Type 0) : Type 0 where
+  -- the words do not meet the command, or a value breaks a rule; nothing was touched
+  pub usage : r.status ≡ Usage → (settings_in r.words ≡ None) × same_folder × same_input × same_output
+  -- such words are told so, want of memory aside
+  pub usage_comes : settings_in r.words ≡ None → (r.status ≡ Usage) ⊎ (r.status ≡ Memory)
+  -- want of memory: nothing was read from the source and nothing written
+  pub memory : r.status ≡ Memory → same_input × same_output
+  -- what the words asked for was done, or was stopped by what the status says
+  pub asked : (s : Settings) → Asks r s → ModeSays r s.max_bytes s.mode is_steady same_folder same_input same_output
+
+-- ---- where a status comes
+
+-- Where a file is refused or the source has too many bytes, the status says so, but for a fault of the outside and want of memory.
+pub record Comes (r : Run) : Type 0 where
+  pub model : (names : FileNames) (line : List ℕ) → AsksFiles r names → Make r names (RefusedModel line) → (r.status ≡ ModelRefused) ⊎ IsFault r.status
+  pub entities : (names : FileNames) (line : List ℕ) → AsksFiles r names → Make r names (RefusedData line) → (r.status ≡ DataRefused) ⊎ IsFault r.status
+  pub limit : (max_bytes : ℕ) (names : FileNames) (w : World) (c : Customs) (bytes : List ℕ) → AsksServe r max_bytes names → Make r names (Loaded w c) → r.input.left ≡ Some bytes → max_bytes < length bytes → (r.status ≡ InputLimit) ⊎ IsFault r.status
+
+-- ---- completeness, and the headline
+
+-- the files make a world, and nothing fails: the folder is steady, no count of the source or the sink rose, and the input keeps its limit
+pub record IsUndisturbed (r : Run) (is_steady : Type 0) (w : World) (c : Customs) (bytes : List ℕ) : Type 0 where
+  pub max_bytes : ℕ
+  pub names : FileNames
+  pub asks : AsksServe r max_bytes names
+  pub loads : Make r names (Loaded w c)
   pub steady : is_steady
-  pub bytes : List ℕ
-  pub tells : left ≡ Some bytes
-  pub within : length bytes ≤ limit
-  pub no_read_failed : ¬ Rose input0 input1
-  pub no_write_failed : ¬ Rose output0 output1
+  pub told : r.input.left ≡ Some bytes
+  pub within : length bytes ≤ max_bytes
+  pub no_read_failed : ¬ Rose r.input.faults r.input.faults_after
+  pub no_write_failed : ¬ Rose r.output.faults r.output.faults_after
+
+-- the bytes written are the replies to the request lines in order, or memory was wanting before the first line
+abbrev pub Headline : Run → Type 0 → Type 0
+Headline r is_steady = (w : World) (c : Customs) (bytes : List ℕ) → IsUndisturbed r is_steady w c bytes →
+    ((r.status ≡ Served) × (r.input.left_after ≡ Some []) × Writes r (IsOut w c (request_lines bytes)))
+    ⊎ ((r.status ≡ Memory) × (r.input.left_after ≡ r.input.left) × (r.output.held_after ≡ r.output.held))
+
+-- a check ends in Served or Memory where nothing fails
+abbrev pub ChecksAreComplete : Run → Type 0 → Type 0
+ChecksAreComplete r is_steady = (names : FileNames) (w : World) (c : Customs) → AsksCheck r names → Make r names (Loaded w c) → is_steady → ¬ Rose r.output.faults r.output.faults_after → (r.status ≡ Served) ⊎ (r.status ≡ Memory)
+
+-- the sample requests are answered where nothing fails
+abbrev pub SamplesAreComplete : Run → Type 0
+SamplesAreComplete r = (count : ℕ) → AsksGen r count → ¬ Rose r.output.faults r.output.faults_after → (r.status ≡ Served) ⊎ (r.status ≡ Memory)
+
+-- What the service promises of a run.
+pub record Says (r : Run) (is_steady same_folder same_input same_output : Type 0) : Type 0 where
+  pub headline : Headline r is_steady
+  pub ends : Ends r is_steady same_folder same_input same_output
+  pub comes : Comes r
+  pub checks : ChecksAreComplete r is_steady
+  pub samples : SamplesAreComplete r

@@ -1,8 +1,8 @@
-//! How runs end: words, limits, faults, and what reads offer.
+//! How runs end: limits, faults, and what reads offer.
 ghost use Rattle.std.specs.Prelude.{None};
 
-use crate::runs::{Case, PLAIN, outcome, outcome_of, outcome_over, words};
-use crate::worlds::{FIRST, LINES};
+use crate::runs::{Case, PLAIN, outcome, outcome_of, outcome_over, texts, words};
+use crate::worlds::{FIRST, RESPONSES};
 use apply_io::{Failed, Source};
 use apply_service::Status;
 use std::test::Fail;
@@ -24,7 +24,7 @@ fn each_status_has_its_number(rt: HostRuntime) {
 }
 
 #[test]
-fn a_failed_read_writes_nothing(rt: HostRuntime) -> Result<(), Fail> {
+fn after_a_failed_read_the_lines_before_it_are_answered(rt: HostRuntime) -> Result<(), Fail> {
     for number in 1u64..=4 {
         let folder = outcome(
             &rt,
@@ -37,18 +37,18 @@ fn a_failed_read_writes_nothing(rt: HostRuntime) -> Result<(), Fail> {
         assert_eq!(rt; folder.status, Status::ReadFault);
         assert_eq!(rt; folder.output.as_slice(), b"".as_slice());
     }
-    for number in 1u64..=3 {
+    for (input_fails, output) in [(1u64, b"".as_slice()), (2, b"".as_slice()), (3, FIRST)] {
         let input = outcome(
             &rt,
             rt.alloc(),
             &Case {
-                most: 49,
-                input_fails: number,
+                most: 48,
+                input_fails,
                 ..PLAIN
             },
         )?;
         assert_eq!(rt; input.status, Status::ReadFault);
-        assert_eq!(rt; input.output.as_slice(), b"".as_slice());
+        assert_eq!(rt; input.output.as_slice(), output);
     }
     Ok(())
 }
@@ -92,31 +92,88 @@ fn a_failed_write_leaves_a_front_of_the_responses(rt: HostRuntime) -> Result<(),
 }
 
 #[test]
-fn the_limit_of_the_input_is_met_exactly(rt: HostRuntime) -> Result<(), Fail> {
-    let alloc = rt.alloc();
-    let words = words(alloc)?;
-    for (length, status) in [
-        (1_048_576usize, Status::Served),
-        (1_048_577, Status::InputLimit),
+fn past_the_limit_the_lines_within_it_are_answered(rt: HostRuntime) -> Result<(), Fail> {
+    for (limit, most, status, output) in [
+        ("92", 4096usize, Status::Served, RESPONSES),
+        ("92", 1, Status::Served, RESPONSES),
+        ("91", 4096, Status::InputLimit, FIRST),
+        ("91", 1, Status::InputLimit, FIRST),
+        ("50", 7, Status::InputLimit, FIRST),
+        ("49", 7, Status::InputLimit, b"".as_slice()),
+        ("10", 4096, Status::InputLimit, b"".as_slice()),
+        ("0", 4096, Status::InputLimit, b"".as_slice()),
     ] {
-        let input = vec![in alloc; b'\n'; length]?;
-        let ran = outcome_of(&rt, alloc, &PLAIN, words.as_slice(), input)?;
-        assert_eq!(rt; ran.status, status);
-        assert_eq!(rt; ran.output.as_slice(), b"".as_slice());
+        let ran = outcome(
+            &rt,
+            rt.alloc(),
+            &Case {
+                words: &["--max-bytes", limit],
+                most,
+                ..PLAIN
+            },
+        )?;
+        assert_eq!(rt; ran.status, status, "{limit}");
+        assert_eq!(rt; ran.output.as_slice(), output, "{limit}");
     }
     Ok(())
 }
 
+/// Two requests, each with its LF, the first of 49 bytes with it.
+const TWO: &[u8] =
+    b"Sales?$apply=aggregate(Amount with sum as Total)\nSales?$apply=filter(ID eq 99)/aggregate(Amount with sum as T,$count as N)\n";
+
 #[test]
-fn other_words_are_told_the_usage(rt: HostRuntime) -> Result<(), Fail> {
-    let alloc = rt.alloc();
-    let mut words = Vec::new(alloc);
-    for word in ["--data", "d", "--model", "m"] {
-        words.push(String::from_str(alloc, word)?)?;
-        let ran = outcome_of(&rt, alloc, &PLAIN, words.as_slice(), LINES.to_vec(alloc)?)?;
-        assert_eq!(rt; ran.status, Status::Usage);
-        assert_eq!(rt; ran.output.as_slice(), b"".as_slice());
+fn what_was_written_belongs_to_what_was_taken(rt: HostRuntime) -> Result<(), Fail> {
+    for (input_fails, output_fails, words, status, output) in [
+        (2u64, 0u64, [].as_slice(), Status::ReadFault, FIRST),
+        (0, 1, [].as_slice(), Status::WriteFault, b"".as_slice()),
+        (
+            0,
+            0,
+            ["--max-bytes", "49"].as_slice(),
+            Status::InputLimit,
+            FIRST,
+        ),
+        (
+            0,
+            0,
+            ["--max-bytes", "10"].as_slice(),
+            Status::InputLimit,
+            b"".as_slice(),
+        ),
+        (
+            0,
+            0,
+            ["--workers", "0"].as_slice(),
+            Status::Usage,
+            b"".as_slice(),
+        ),
+    ] {
+        let ran = outcome(
+            &rt,
+            rt.alloc(),
+            &Case {
+                input: TWO,
+                most: 49,
+                input_fails,
+                output_fails,
+                words,
+                ..PLAIN
+            },
+        )?;
+        assert_eq!(rt; ran.status, status);
+        assert_eq!(rt; ran.output.as_slice(), output);
     }
+    let words = texts(rt.alloc(), &["--model", "x", "--data", "d"])?;
+    let missing = outcome_of(
+        &rt,
+        rt.alloc(),
+        &PLAIN,
+        words.as_slice(),
+        TWO.to_vec(rt.alloc())?,
+    )?;
+    assert_eq!(rt; missing.status, Status::ReadFault);
+    assert_eq!(rt; missing.output.as_slice(), b"".as_slice());
     Ok(())
 }
 
@@ -153,11 +210,11 @@ impl Source for OfferedSource {
 fn a_read_of_the_input_offers_no_more_than_the_buffer_and_the_limit(
     rt: HostRuntime,
 ) -> Result<(), Fail> {
-    let words = words(rt.alloc())?;
-    for (length, status, reads, least) in [
-        (10_000usize, Status::Served, 4u64, 4096usize),
-        (1_048_576, Status::Served, 257, 1),
-        (1_048_577, Status::InputLimit, 257, 1),
+    for (limit, length, status, reads, least) in [
+        ("1073741824", 10_000usize, Status::Served, 4u64, 4096usize),
+        ("8292", 8292, Status::Served, 4, 1),
+        ("8292", 8293, Status::InputLimit, 3, 101),
+        ("0", 0, Status::Served, 1, 1),
     ] {
         let mut input = OfferedSource {
             left: length,
@@ -165,11 +222,18 @@ fn a_read_of_the_input_offers_no_more_than_the_buffer_and_the_limit(
             least: usize::MAX,
             most: 0,
         };
+        let words = words(
+            rt.alloc(),
+            &Case {
+                words: &["--max-bytes", limit],
+                ..PLAIN
+            },
+        )?;
         let ran = outcome_over(&rt, rt.alloc(), &PLAIN, words.as_slice(), &mut input)?;
-        assert_eq!(rt; ran.status, status);
-        assert_eq!(rt; input.reads, reads);
-        assert_eq!(rt; input.least, least);
-        assert_eq!(rt; input.most, 4096);
+        assert_eq!(rt; ran.status, status, "{limit}");
+        assert_eq!(rt; input.reads, reads, "{limit}");
+        assert_eq!(rt; input.least, least, "{limit}");
+        assert_eq!(rt; input.most <= 4096, true);
     }
     Ok(())
 }

@@ -1,7 +1,8 @@
 //! Tests of the service: the worked rows through `serve` (`apply_service`), over objects in memory.
 //!
 //! `worlds` has the files and lines that tests share and `runs` runs the service over them; `lines` has requests with their
-//! responses, `files` refused files with their lines, and `ends` how runs end.
+//! responses, `files` refused files with their lines, `words` the words of the command, `modes` what each mode writes, and
+//! `ends` how runs end.
 #![tactic(auto)]
 
 #[cfg(test)]
@@ -11,6 +12,10 @@ mod files;
 #[cfg(test)]
 mod lines;
 #[cfg(test)]
+mod modes;
+#[cfg(test)]
 mod runs;
+#[cfg(test)]
+mod words;
 #[cfg(test)]
 mod worlds;

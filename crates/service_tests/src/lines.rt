@@ -127,7 +127,7 @@ fn a_line_that_is_too_long_is_told_so_and_the_next_is_answered(
     rt: HostRuntime,
 ) -> Result<(), Fail> {
     let alloc = rt.alloc();
-    let words = words(alloc)?;
+    let words = words(alloc, &PLAIN)?;
     let mut input = vec![in alloc; b'x'; 65_536]?;
     input.extend_from_slice(b"x\nSales?$apply=aggregate(Amount with sum as Total)\n")?;
     let ran = outcome_of(&rt, alloc, &PLAIN, words.as_slice(), input)?;
@@ -562,12 +562,12 @@ const LOOPED: &[(&str, &str, &str)] = &[
 ];
 
 /// Compares the responses to requests over a model and its data.
-fn expect_answers<R: Threads + Sync + Abort>(
+fn expect_answers<'a, R: Threads + Sync + Abort>(
     rt: &R,
     alloc: Global,
-    model: &str,
-    data: &str,
-    answers: &[(&str, &str, &str)],
+    model: &'a str,
+    data: &'a str,
+    answers: &'a [(&'a str, &'a str, &'a str)],
 ) -> Result<(), Fail> {
     for (line, code, body) in answers {
         let case = Case {

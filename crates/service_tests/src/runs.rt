@@ -12,9 +12,11 @@ use std::sync::ledger::{Blank, Ledger};
 use std::test::Fail;
 use std::thread::Threads;
 
-/// What a run is given: the calls on the folder, the source and the sink with these numbers fail, where they are not 0.
+/// What a run is given: further words behind those that name the two files, and the calls on the folder, the source and the
+/// sink with these numbers fail, where they are not 0.
 #[derive(Clone, Copy)]
 pub(crate) struct Case<'a> {
+    pub(crate) words: &'a [&'a str],
     pub(crate) model: &'a str,
     pub(crate) data: &'a str,
     pub(crate) input: &'a [u8],
@@ -25,6 +27,7 @@ pub(crate) struct Case<'a> {
 }
 
 pub(crate) const PLAIN: Case<'static> = Case {
+    words: &[],
     model: MODEL,
     data: DATA,
     input: LINES,
@@ -50,10 +53,19 @@ pub(crate) fn only(alloc: Global, number: u64) -> Result<Vec<u64>, Fail> {
     Ok(numbers)
 }
 
-/// The words that name the two files.
-pub(crate) fn words(alloc: Global) -> Result<Vec<String>, Fail> {
-    let mut words = Vec::new(alloc);
-    for word in ["--model", "m", "--data", "d"] {
+/// Words as texts.
+pub(crate) fn texts(alloc: Global, words: &[&str]) -> Result<Vec<String>, Fail> {
+    let mut texts = Vec::new(alloc);
+    for word in words {
+        texts.push(String::from_str(alloc, word)?)?;
+    }
+    Ok(texts)
+}
+
+/// The words that name the two files, and those of the case.
+pub(crate) fn words(alloc: Global, case: &Case<'_>) -> Result<Vec<String>, Fail> {
+    let mut words = texts(alloc, &["--model", "m", "--data", "d"])?;
+    for word in case.words {
         words.push(String::from_str(alloc, word)?)?;
     }
     Ok(words)
@@ -135,6 +147,6 @@ pub(crate) fn outcome<R: Threads + Sync>(
     alloc: Global,
     case: &Case<'_>,
 ) -> Result<RunResult, Fail> {
-    let words = words(alloc)?;
+    let words = words(alloc, case)?;
     outcome_of(rt, alloc, case, words.as_slice(), case.input.to_vec(alloc)?)
 }

@@ -1,0 +1,35 @@
+-- What a refusal of custom aggregates says: the first of a model without a typed reading.
+use Rattle.std.specs.Prelude.{◌≡◌, ℕ, List, find, Some, ⊤}
+use Rattle.edm_model.specs.Models.{Model, Part}
+use Rattle.edm_model.specs.Models as seen
+use Rattle.edm_model.specs.LookUps.{IsType}
+use Rattle.edm_model.specs.IdLists.{custom_list}
+use Rattle.edm_model.specs.declared.parts.Custom.{Custom}
+use Rattle.context_typing.specs.Answers.{custom_of}
+use Rattle.context_typing.specs.Readings.{same_part}
+use Rattle.context_typing.specs.declared.definitions.CustomRefused.{CustomRefused}
+use Rattle.context_typing.specs.declared.definitions.CustomRefused.TheVariants as refused
+use Rattle.apply_load.specs.CustomReadings.{IsFirstUntyped}
+use Rattle.apply_load.specs.declared.customs.CustomStop.{CustomStop}
+use Rattle.apply_load.specs.declared.customs.CustomStop.TheVariants as stop
+
+-- the fact holds of the line of a refusal, if it is one
+abbrev pub IfRefused : CustomStop → (List ℕ → Type 0) → Type 0
+IfRefused stop.Memory P = ⊤
+IfRefused (stop.Refused line) P = P line.items
+
+-- a custom aggregate with its type, as the model has it
+abbrev pub owned : Custom → ℕ × seen.Custom
+owned u = (u.owner, custom_of u)
+
+-- the custom aggregate of this id is the first of the model that has no typed reading
+pub record IsFirstId (m : Model) (id : Part) : Type 0 where
+  pub custom : Custom
+  pub found : find (λ u. same_part u.id id) (custom_list m) ≡ Some custom
+  pub there : IsType m custom.owner
+  pub first : IsFirstUntyped m (owned custom)
+
+-- the same of the custom aggregate that a refusal names, if it names one
+abbrev pub NamesFirst : Model → CustomRefused → Type 0
+NamesFirst m (refused.At id) = IsFirstId m id
+NamesFirst m refused.Memory = ⊤

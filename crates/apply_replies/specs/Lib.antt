@@ -1,0 +1,4 @@
+pub mod OutputBytes
+pub mod Replies
+pub mod ReplyLaws
+pub mod Responses

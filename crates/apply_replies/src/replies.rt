@@ -1,0 +1,192 @@
+//! The reply to a line of the input.
+ghost use Rattle.std.specs.Prelude.{◌≡◌, ◌<◌, All, IfOk, Some, None, Err};
+ghost use Rattle.apply_ast.specs.Views.{pipe_of};
+ghost use Rattle.apply_grammar.specs.Requests.{asked_of};
+ghost use Rattle.edm_model.specs.LookUps.{IsSet};
+ghost use Rattle.edm_values.specs.Literals.{plain_text};
+ghost use Rattle.edm_data.specs.References.{key};
+ghost use Rattle.context_typing.specs.Answers.{IsTyping};
+ghost use Rattle.context_typing.specs.Readings.{readings};
+ghost use Rattle.context_typing.specs.Typing.{shape_of_set};
+ghost use Rattle.hier_states.specs.NamedHierarchies.{hierarchies};
+ghost use Rattle.hier_states.specs.States.{IsReadyAt};
+ghost use Rattle.apply_meaning.specs.Instances as instances;
+ghost use Rattle.apply_meaning.specs.Meaning.{mean};
+ghost use Rattle.apply_meaning.specs.MeaningLaws.{AllFit};
+ghost use Rattle.apply_replies.specs.Replies.{IsReply, IsResponse, IsTyped};
+ghost use Rattle.apply_replies.specs.Replies as spec;
+ghost use Rattle.apply_replies.specs.Responses.{Cycle, Syntax, refused};
+ghost use Rattle.apply_replies.specs.OutputBytes.{bytes_made};
+ghost use Rattle.line_stream.specs.Outputs.{bytes_of};
+
+use crate::responses::{
+    answered, cyclic, no_pipeline, not_built, not_found, out_of_memory, past_range, too_long,
+    untyped,
+};
+use apply_ast::Request;
+use apply_grammar::{GrammarRefused, read_request};
+use apply_load::{Store, identifier};
+use apply_meaning::{Row, RunRefused, Steps, data_is_loaded};
+use context_typing::{TypeRefused, Typed, type_pipe};
+use edm_data::EntityRef;
+use hier_states::first_cycle;
+use json_render::{RenderRefused, render};
+use line_stream::Output;
+use optimiser::Plan;
+use par_stages::Gate;
+use plan_run::run;
+use std::alloc::{AllocError, Global};
+use std::sync::ledger::Ledger;
+use std::thread::Threads;
+
+/// Into how many pieces the folds of a run are cut at most.
+const WORKERS: u32 = 1;
+
+/// The bytes of a response that was made, or that memory was wanting.
+fn made(response: Result<Output, AllocError>) -> Output
+    ensures { bytes_of result ≡ bytes_made response }
+{
+    match response {
+        Ok(output) => output,
+        Err(_) => Output::Constant(out_of_memory()),
+    }
+}
+
+/// The rows that a typed pipeline gives fit its shape.
+fn rows_fit(store: &Store, typed: &Typed, rows: &Vec<Row>)
+    requires set { IsSet store.now.world.model typed.now.set }
+    requires typing { IsTyping store.now.world.model (readings store.now.customs) typed.now }
+    requires mean { mean store.now.world (readings store.now.customs) (shape_of_set store.now.world.model typed.now.set) (pipe_of typed.now.pipe) (instances.rows store.now.world typed.now.set) ≡ Some rows.now.items }
+    ensures { AllFit store.now.world typed.now.shape rows.now.items }
+{
+    data_is_loaded(store.data());
+    let _customs = store.customs();
+}
+
+/// The body of the rows that a typed pipeline gives.
+fn body_of<R: Threads + Sync, G: Gate, L: Ledger>(
+    rt: &R,
+    alloc: Global,
+    store: &Store,
+    typed: Typed,
+    gate: &G,
+    steps: &mut Steps<L>,
+) -> Result<Vec<u8>, RunRefused>
+    requires set { IsSet store.now.world.model typed.set }
+    requires typing { IsTyping store.now.world.model (readings store.now.customs) typed }
+    requires ready { All (IsReadyAt store.now.world store.now.hiers) (hierarchies (pipe_of typed.pipe)) }
+    ensures ok { IfOk result (λ b. spec.answer_body store.now.world (readings store.now.customs) typed.set (pipe_of typed.pipe) typed.shape ≡ Some b.items) }
+    ensures range { result ≡ Err RunRefused.Range → spec.answer_body store.now.world (readings store.now.customs) typed.set (pipe_of typed.pipe) typed.shape ≡ None }
+{
+    let plan = Plan::written(typed);
+    let rows = run(
+        rt,
+        alloc,
+        store.data(),
+        store.customs(),
+        store.hiers(),
+        &plan,
+        WORKERS,
+        gate,
+        steps,
+    )?;
+    let typed = plan.typed();
+    rows_fit(store, typed, &rows);
+    match render(
+        alloc,
+        store.data(),
+        typed.set,
+        &typed.shape,
+        rows.as_slice(),
+    ) {
+        Ok(body) => Ok(body),
+        Err(RenderRefused::Range) => Err(RunRefused::Range),
+        Err(RenderRefused::Memory) => Err(RunRefused::Memory),
+    }
+}
+
+/// The response to a request that names a cyclic hierarchy with this node.
+fn cycle_response(alloc: Global, store: &Store, node: EntityRef) -> Result<Output, AllocError>
+    requires { IsSet store.now.world.model node.set }
+    ensures { IfOk result (λ r. bytes_of r ≡ refused (Cycle (plain_text (key store.now.world node)))) }
+{
+    let node = identifier(alloc, store.data(), node)?;
+    Ok(Output::Made(cyclic(alloc, node.as_str())?))
+}
+
+/// The response to a request that has this typing.
+fn typed_response<R: Threads + Sync, G: Gate, L: Ledger>(
+    rt: &R,
+    alloc: Global,
+    store: &Store,
+    request: &Request,
+    typed: Typed,
+    gate: &G,
+    steps: &mut Steps<L>,
+) -> Result<Output, AllocError>
+    requires set { IsSet store.now.world.model typed.set }
+    requires typing { IsTyping store.now.world.model (readings store.now.customs) typed }
+    requires pipe { pipe_of typed.pipe ≡ pipe_of request.now.pipe }
+    requires typed { IsTyped store.now.world (readings store.now.customs) (asked_of request.now) typed.set typed.shape }
+    ensures { IfOk result (λ r. IsResponse store.now.world (readings store.now.customs) (asked_of request.now) (bytes_of r)) }
+{
+    if request.explain {
+        return Ok(Output::Made(not_built(alloc)?));
+    }
+    if let Some(node) = first_cycle(store.data(), store.hiers(), &typed.pipe) {
+        return cycle_response(alloc, store, node);
+    }
+    match body_of(rt, alloc, store, typed, gate, steps) {
+        Ok(body) => answered(alloc, body),
+        Err(RunRefused::Range) => Ok(Output::Made(past_range(alloc)?)),
+        Err(RunRefused::Memory) => Err(AllocError),
+    }
+}
+
+/// The response to a request.
+fn response_to<R: Threads + Sync, G: Gate, L: Ledger>(
+    rt: &R,
+    alloc: Global,
+    store: &Store,
+    request: &Request,
+    gate: &G,
+    steps: &mut Steps<L>,
+) -> Result<Output, AllocError>
+    ensures { IfOk result (λ r. IsResponse store.now.world (readings store.now.customs) (asked_of request.now) (bytes_of r)) }
+{
+    let set_name = request.set.text();
+    let Some(set) = store.model().set_named(set_name) else {
+        return Ok(Output::Made(not_found(alloc, set_name)?));
+    };
+    match type_pipe(alloc, store.model(), store.customs(), set, &request.pipe) {
+        Ok(typed) => typed_response(rt, alloc, store, request, typed, gate, steps),
+        Err(TypeRefused::At(k)) => Ok(Output::Made(untyped(alloc, k)?)),
+        Err(TypeRefused::Memory) => Err(AllocError),
+    }
+}
+
+/// The response to a line that is no request from this step on.
+fn no_request(alloc: Global, step: u32) -> Result<Output, AllocError>
+    ensures { IfOk result (λ r. bytes_of r ≡ refused (Syntax step)) }
+{
+    Ok(Output::Made(no_pipeline(alloc, step)?))
+}
+
+/// The reply to a line that is not empty.
+pub fn reply_to<R: Threads + Sync, G: Gate, L: Ledger>(
+    rt: &R,
+    alloc: Global,
+    store: &Store,
+    line: &[u8],
+    gate: &G,
+    steps: &mut Steps<L>,
+) -> Output
+    ensures { IsReply store.now.world (readings store.now.customs) line.now (bytes_of result) }
+{
+    match read_request(alloc, line) {
+        Ok(request) => made(response_to(rt, alloc, store, &request, gate, steps)),
+        Err(GrammarRefused::TooLong) => Output::Constant(too_long()),
+        Err(GrammarRefused::Syntax(k)) => made(no_request(alloc, k)),
+        Err(GrammarRefused::Memory) => Output::Constant(out_of_memory()),
+    }
+}

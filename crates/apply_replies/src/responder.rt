@@ -1,0 +1,43 @@
+//! What answers the lines of a stream.
+ghost use Rattle.std.specs.Prelude.{◌≡◌};
+ghost use Rattle.line_stream.specs.Outputs.{bytes_of};
+ghost use Rattle.apply_replies.specs.Replies.{IsReplyOf};
+
+use crate::replies::reply_to;
+use apply_load::Store;
+use apply_meaning::Steps;
+use line_stream::Output;
+use par_stages::Gate;
+use std::alloc::Global;
+use std::sync::ledger::Ledger;
+use std::thread::Threads;
+
+/// Answers lines over a store. The gate is told of each piece of a fold that begins.
+#[derive(Drop)]
+pub struct Replies<'a, R, G> {
+    rt: &'a R,
+    alloc: Global,
+    store: &'a Store,
+    gate: &'a G,
+}
+
+impl<'a, R: Threads + Sync, G: Gate> Replies<'a, R, G> {
+    /// What answers lines over this store.
+    pub fn new(rt: &'a R, alloc: Global, store: &'a Store, gate: &'a G) -> Replies<'a, R, G>
+        ensures { result.store ≡ store.entry }
+    {
+        Replies {
+            rt,
+            alloc,
+            store,
+            gate,
+        }
+    }
+
+    /// The reply to a line that is not empty, ready to be written.
+    pub fn reply<L: Ledger>(&self, steps: &mut Steps<L>, line: &[u8]) -> Output
+        ensures { IsReplyOf self.now.store.now line.now (bytes_of result) }
+    {
+        reply_to(self.rt, self.alloc, self.store, line, self.gate, steps)
+    }
+}

@@ -1,0 +1,35 @@
+use Rattle.std.proofs.Common.{◌≡◌, ℕ, refl, ap, subst, Err, inl}
+use Rattle.apply_io.specs.Causes.{Rose}
+use Rattle.apply_service.proofs.Ends.{serve-refused, answers-of, breaks-of}
+use Rattle.apply_service.proofs.modes.serve_files.Goals as goal
+
+pub returns-in-Err : goal.returns-in-Err
+returns-in-Err g c = serve-refused _ _ _ _ _ _ _ _ c.in-Err.status refl c.in-Err.ensures.stop
+
+pub returns-in-Ok-answer_stream : goal.returns-in-Ok-answer_stream
+returns-in-Ok-answer_stream g c =
+    let over : c.new-replies.result.store.now ≡ c.in-Ok-load_or_refuse.store = ap (λ x. x.now) c.new-replies.ensures in
+    let held = ap g.K.Sink.held c.in-Ok-load_or_refuse.ensures.same in
+    (answers-of _ _ _ _ _ _ c.in-Ok-load_or_refuse.store c.new-replies.result.store.now _ over held c.in-Ok-load_or_refuse.ensures.ok c.in-Ok-answer_stream.ensures.ok, c.in-Ok-answer_stream.ensures.end)
+
+pub returns-in-Err-Read : goal.returns-in-Err-Read
+returns-in-Err-Read g c =
+    let over : c.new-replies.result.store.now ≡ c.in-Ok-load_or_refuse.store = ap (λ x. x.now) c.new-replies.ensures in
+    let held = ap g.K.Sink.held c.in-Ok-load_or_refuse.ensures.same in
+    let is = ap Err c.in-Err-Read.field-0-is in
+    inl (c.in-Err-Read.ensures.read_cause is, answers-of _ _ _ _ _ _ c.in-Ok-load_or_refuse.store c.new-replies.result.store.now _ over held c.in-Ok-load_or_refuse.ensures.ok (c.in-Err-Read.ensures.read is))
+
+pub returns-in-Err-Write : goal.returns-in-Err-Write
+returns-in-Err-Write g c =
+    let over : c.new-replies.result.store.now ≡ c.in-Ok-load_or_refuse.store = ap (λ x. x.now) c.new-replies.ensures in
+    let same = c.in-Ok-load_or_refuse.ensures.same in
+    let is = ap Err c.in-Err-Write.field-0-is in
+    let P : ℕ → Type 0 = λ n. Rose n (g.K.Sink.fault_count c.answer_stream.new.output) in
+    (subst P (ap g.K.Sink.fault_count same) (c.in-Err-Write.ensures.write_cause is), inl (breaks-of _ _ _ _ c.in-Ok-load_or_refuse.store c.new-replies.result.store.now _ over (ap g.K.Sink.held same) c.in-Ok-load_or_refuse.ensures.ok (c.in-Err-Write.ensures.write is)))
+
+pub returns : goal.returns
+returns g c =
+    let over : c.new-replies.result.store.now ≡ c.in-Ok-load_or_refuse.store = ap (λ x. x.now) c.new-replies.ensures in
+    let held = ap g.K.Sink.held c.in-Ok-load_or_refuse.ensures.same in
+    let is = ap Err c.in-Err-Limit.field-0-is in
+    answers-of _ _ _ _ _ _ c.in-Ok-load_or_refuse.store c.new-replies.result.store.now _ over held c.in-Ok-load_or_refuse.ensures.ok (c.in-Err-Limit.ensures.limit_passed is)

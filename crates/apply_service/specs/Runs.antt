@@ -1,0 +1,33 @@
+-- One run of the service, seen from outside.
+use Rattle.std.specs.Prelude.{ℕ, List}
+use Rattle.std.specs.declared.option.Option.{Option}
+use Rattle.apply_io.specs.Files.{Files}
+use Rattle.apply_service.specs.declared.status.Status.{Status}
+
+-- what is seen of a folder: its files, none where it does not tell them, and its count of faults before and after
+pub record FolderSeen : Type 0 where
+  pub files : Option Files
+  pub faults : ℕ
+  pub faults_after : ℕ
+
+-- what is seen of a source: the bytes that are left, none where it does not tell them, and its count of faults, before and after
+pub record SourceSeen : Type 0 where
+  pub left : Option (List ℕ)
+  pub left_after : Option (List ℕ)
+  pub faults : ℕ
+  pub faults_after : ℕ
+
+-- what is seen of a sink: the bytes that it holds, none where it does not tell them, and its count of faults, before and after
+pub record SinkSeen : Type 0 where
+  pub held : Option (List ℕ)
+  pub held_after : Option (List ℕ)
+  pub faults : ℕ
+  pub faults_after : ℕ
+
+-- what is seen of a run: the words, the folder, the source, the sink, and the status
+pub record Run : Type 0 where
+  pub words : List (List ℕ)
+  pub folder : FolderSeen
+  pub input : SourceSeen
+  pub output : SinkSeen
+  pub status : Status

@@ -1,0 +1,155 @@
+//! What each mode does.
+ghost use Rattle.std.specs.Prelude.{◌≡◌, ℕ, ◌<◌, ◌≤◌, ◌^◌, length, IfErr, IfOk};
+ghost use Rattle.apply_load.specs.Loads.{FilesMake, Loaded};
+ghost use Rattle.context_typing.specs.Readings.{readings};
+ghost use Rattle.apply_service.specs.Runs.{FolderSeen, SourceSeen, SinkSeen};
+ghost use Rattle.apply_service.specs.Outcomes.{LoadSays, ServeSays, CheckSays, GenSays};
+
+use crate::samples::answer_samples;
+use crate::status::Status;
+use crate::stream::{Stop, answer_stream};
+use apply_grammar::LINE_MAX;
+use apply_io::{Folder, Sink, Source};
+use apply_load::{FileNames, LoadStop, Store, check, load, load_generated};
+use apply_meaning::Steps;
+use apply_replies::Replies;
+use line_stream::{LineBuffer, write_output, write_whole};
+use par_stages::Gate;
+use std::alloc::Global;
+use std::sync::ledger::Ledger;
+use std::thread::Threads;
+
+/// How many bytes a read offers.
+const BUFFER: usize = 4096;
+
+/// Loads the two files, and writes the line of one that is refused.
+fn load_or_refuse<F: Folder, K: Sink>(
+    alloc: Global,
+    names: FileNames<'_>,
+    buffer: &mut [u8],
+    folder: &mut F,
+    output: &mut K,
+) -> Result<Store, Status>
+    requires { 0 < length buffer.old }
+    ensures ok { IfOk result (λ s. FilesMake (F.files folder.old) (record { model = names.entry.model.now; entities = names.entry.entities.now }) (Loaded s.world (readings s.customs))) }
+    ensures same { IfOk result (λ s. output.new ≡ output.old) }
+    ensures room { length buffer.new ≡ length buffer.old }
+    ensures stop { IfErr result (LoadSays
+        (record { files = F.files folder.old; faults = F.fault_count folder.old; faults_after = F.fault_count folder.new })
+        (record { held = K.held output.old; held_after = K.held output.new; faults = K.fault_count output.old; faults_after = K.fault_count output.new })
+        (record { model = names.entry.model.now; entities = names.entry.entities.now }) (F.is_steady folder.old) (output.new ≡ output.old)) }
+{
+    match load(alloc, folder, names, buffer) {
+        Ok(store) => Ok(store),
+        Err(LoadStop::Fault) => Err(Status::ReadFault),
+        Err(LoadStop::Memory) => Err(Status::Memory),
+        Err(LoadStop::Model(line)) => match write_output(output, &line) {
+            Ok(()) => Err(Status::ModelRefused),
+            Err(_) => Err(Status::WriteFault),
+        },
+        Err(LoadStop::Data(line)) => match write_whole(output, line.as_slice()) {
+            Ok(()) => Err(Status::DataRefused),
+            Err(_) => Err(Status::WriteFault),
+        },
+    }
+}
+
+/// Answers the lines of the input over two files, at most `limit` bytes.
+pub(crate) fn serve_files<R: Threads + Sync, F: Folder, S: Source, K: Sink, G: Gate, L: Ledger>(
+    rt: &R,
+    alloc: Global,
+    names: FileNames<'_>,
+    limit: u64,
+    folder: &mut F,
+    input: &mut S,
+    output: &mut K,
+    gate: &G,
+    steps: &mut Steps<L>,
+) -> Status
+    ensures { ServeSays
+        (record { files = F.files folder.old; faults = F.fault_count folder.old; faults_after = F.fault_count folder.new })
+        (record { left = S.left input.old; left_after = S.left input.new; faults = S.fault_count input.old; faults_after = S.fault_count input.new })
+        (record { held = K.held output.old; held_after = K.held output.new; faults = K.fault_count output.old; faults_after = K.fault_count output.new })
+        (record { model = names.entry.model.now; entities = names.entry.entities.now })
+        limit (F.is_steady folder.old) (input.new ≡ input.old) (output.new ≡ output.old) result }
+{
+    let Ok(mut line) = LineBuffer::new(alloc, LINE_MAX) else {
+        return Status::Memory;
+    };
+    let Ok(mut buffer) = vec![in alloc; 0u8; BUFFER] else {
+        return Status::Memory;
+    };
+    let store = match load_or_refuse(alloc, names, buffer.as_mut_slice(), folder, output) {
+        Ok(store) => store,
+        Err(status) => return status,
+    };
+    let replies = Replies::new(rt, alloc, &store, gate);
+    match answer_stream(
+        &replies,
+        steps,
+        limit,
+        buffer.as_mut_slice(),
+        &mut line,
+        input,
+        output,
+    ) {
+        Ok(()) => Status::Served,
+        Err(Stop::Read) => Status::ReadFault,
+        Err(Stop::Write) => Status::WriteFault,
+        Err(Stop::Limit) => Status::InputLimit,
+    }
+}
+
+/// Tells of two files whether they make a world, how many entities it has, and which hierarchies are cyclic.
+pub(crate) fn check_files<F: Folder, K: Sink>(
+    alloc: Global,
+    names: FileNames<'_>,
+    folder: &mut F,
+    output: &mut K,
+) -> Status
+    ensures { CheckSays
+        (record { files = F.files folder.old; faults = F.fault_count folder.old; faults_after = F.fault_count folder.new })
+        (record { held = K.held output.old; held_after = K.held output.new; faults = K.fault_count output.old; faults_after = K.fault_count output.new })
+        (record { model = names.entry.model.now; entities = names.entry.entities.now })
+        (F.is_steady folder.old) (output.new ≡ output.old) result }
+{
+    let Ok(mut buffer) = vec![in alloc; 0u8; BUFFER] else {
+        return Status::Memory;
+    };
+    let store = match load_or_refuse(alloc, names, buffer.as_mut_slice(), folder, output) {
+        Ok(store) => store,
+        Err(status) => return status,
+    };
+    let Ok(text) = check(alloc, &store) else {
+        return Status::Memory;
+    };
+    match write_whole(output, text.as_slice()) {
+        Ok(()) => Status::Served,
+        Err(_) => Status::WriteFault,
+    }
+}
+
+/// Answers the sample requests over the generated world of so many sales.
+pub(crate) fn answer_generated<R: Threads + Sync, K: Sink, G: Gate, L: Ledger>(
+    rt: &R,
+    alloc: Global,
+    count: u32,
+    output: &mut K,
+    gate: &G,
+    steps: &mut Steps<L>,
+) -> Status
+    requires some { 1 ≤ count }
+    requires few { count ≤ 200000 }
+    ensures { GenSays
+        (record { held = K.held output.old; held_after = K.held output.new; faults = K.fault_count output.old; faults_after = K.fault_count output.new })
+        count (output.new ≡ output.old) result }
+{
+    let Ok(store) = load_generated(alloc, count) else {
+        return Status::Memory;
+    };
+    let replies = Replies::new(rt, alloc, &store, gate);
+    match answer_samples(&replies, steps, output) {
+        Ok(()) => Status::Served,
+        Err(_) => Status::WriteFault,
+    }
+}

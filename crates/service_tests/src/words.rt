@@ -1,0 +1,101 @@
+//! The words of the command.
+use crate::runs::{PLAIN, outcome_of, texts};
+use crate::worlds::LINES;
+use apply_service::Status;
+use std::test::Fail;
+
+const NAMED: &[&str] = &["--model", "m", "--data", "d"];
+
+/// Words that do not meet the command, or whose values break a rule.
+const WRONG: &[&[&str]] = &[
+    &[],
+    &["--model", "m"],
+    &["--data", "d"],
+    &["--model", "m", "--data"],
+    &["--model", "m", "--data", "d", "x"],
+    &["--model", "m", "--model", "m", "--data", "d"],
+    &["--model", "m", "--data", "d", "--data", "d"],
+    &["--modle", "m", "--data", "d"],
+    &["--help"],
+    &["--model", "m", "--data", "d", "--help"],
+    &["serve", "--model", "m", "--data", "d"],
+    &["--model", "m", "--data", "d", "--workers"],
+    &["--model", "m", "--data", "d", "--workers", "0"],
+    &["--model", "m", "--data", "d", "--workers", "65"],
+    &["--model", "m", "--data", "d", "--workers", "+1"],
+    &["--model", "m", "--data", "d", "--workers", "-0"],
+    &["--model", "m", "--data", "d", "--workers=-1"],
+    &["--model", "m", "--data", "d", "--workers", ""],
+    &["--model", "m", "--data", "d", "--workers", " 1"],
+    &["--model", "m", "--data", "d", "--workers", "1x"],
+    &[
+        "--model",
+        "m",
+        "--data",
+        "d",
+        "--workers",
+        "4",
+        "--workers",
+        "4",
+    ],
+    &[
+        "--model",
+        "m",
+        "--data",
+        "d",
+        "--max-bytes",
+        "9223372036854775808",
+    ],
+    &[
+        "--model",
+        "m",
+        "--data",
+        "d",
+        "--max-bytes",
+        "99999999999999999999999999",
+    ],
+    &["--model", "m", "--data", "d", "--max-bytes", "1e3"],
+    &["--model", "m", "--data", "d", "--count", "0"],
+    &["--model", "m", "--data", "d", "--count", "200001"],
+    &["--model", "m", "--data", "d", "--plan", "optimized"],
+    &["--model", "m", "--data", "d", "--plan", ""],
+    &["--model", "m", "--data", "d", "--mode", "Serve"],
+    &["--mode", "serve"],
+    &["--mode", "check", "--model", "m"],
+    &["--mode", "gen", "--count", "200001"],
+    &["--mode", "gen", "--workers", "0"],
+    &["", ""],
+];
+
+/// Words behind those that name the two files, which meet the command.
+const RIGHT: &[&[&str]] = &[
+    &[],
+    &["--workers", "1"],
+    &["--workers", "64"],
+    &["--workers=0004"],
+    &["--max-bytes", "9223372036854775807"],
+    &["--count", "200000"],
+    &["--count", "1", "--plan", "written"],
+    &["--plan=optimised", "--mode", "serve"],
+];
+
+#[test]
+fn words_are_judged_before_anything_is_read(rt: HostRuntime) -> Result<(), Fail> {
+    let alloc = rt.alloc();
+    for wrong in WRONG {
+        let words = texts(alloc, wrong)?;
+        let ran = outcome_of(&rt, alloc, &PLAIN, words.as_slice(), LINES.to_vec(alloc)?)?;
+        assert_eq!(rt; ran.status, Status::Usage, "{wrong:?}");
+        assert_eq!(rt; ran.output.as_slice(), b"".as_slice());
+    }
+    for right in RIGHT {
+        for named_first in [true, false] {
+            let mut words = texts(alloc, if named_first { NAMED } else { right })?;
+            let mut others = texts(alloc, if named_first { right } else { NAMED })?;
+            words.append(&mut others)?;
+            let ran = outcome_of(&rt, alloc, &PLAIN, words.as_slice(), LINES.to_vec(alloc)?)?;
+            assert_eq!(rt; ran.status, Status::Served, "{right:?}");
+        }
+    }
+    Ok(())
+}
