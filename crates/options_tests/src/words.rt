@@ -1,0 +1,105 @@
+//! What words are read as, and what is told of wrong ones.
+use serve_options::{Mode, OptionsRefused, read_options, usage_text};
+use std::alloc::Global;
+use std::test::Fail;
+
+/// Wrong words, and what is told of them.
+const WRONG: &[(&[&str], &str)] = &[
+    (
+        &["--model", "m", "--data", "d", "--workers", "0"],
+        "error: --workers takes a whole number from 1 to 64, not \"0\"\n\nUsage: apply_serve [OPTIONS]\n\nFor more information, try '--help'.\n",
+    ),
+    (
+        &["--model", "m", "--data", "d", "--max-bytes", "+1"],
+        "error: --max-bytes takes a whole number from 0 to 9223372036854775807, not \"+1\"\n\nUsage: apply_serve [OPTIONS]\n\nFor more information, try '--help'.\n",
+    ),
+    (
+        &["--mode", "gen", "--count", "200001"],
+        "error: --count takes a whole number from 1 to 200000, not \"200001\"\n\nUsage: apply_serve [OPTIONS]\n\nFor more information, try '--help'.\n",
+    ),
+    (
+        &["--model", "m", "--data", "d", "--plan", "fast\n"],
+        "error: --plan takes written or optimised, not \"fast\\n\"\n\nUsage: apply_serve [OPTIONS]\n\nFor more information, try '--help'.\n",
+    ),
+    (
+        &["--mode", "Check"],
+        "error: --mode takes serve, check or gen, not \"Check\"\n\nUsage: apply_serve [OPTIONS]\n\nFor more information, try '--help'.\n",
+    ),
+    (
+        &["--mode", "check", "--model", "m"],
+        "error: mode check wants --model FILE and --data FILE\n\nUsage: apply_serve [OPTIONS]\n\nFor more information, try '--help'.\n",
+    ),
+    (
+        &[],
+        "error: mode serve wants --model FILE and --data FILE\n\nUsage: apply_serve [OPTIONS]\n\nFor more information, try '--help'.\n",
+    ),
+    (
+        &["--model", "m", "--model", "n", "--data", "d"],
+        "error: the argument '--model <FILE>' cannot be used multiple times\n\nUsage: apply_serve [OPTIONS]\n\nFor more information, try '--help'.\n",
+    ),
+];
+
+/// Words as texts.
+fn texts(alloc: Global, words: &[&str]) -> Result<Vec<String>, Fail> {
+    let mut texts = Vec::new(alloc);
+    for word in words {
+        texts.push(String::from_str(alloc, word)?)?;
+    }
+    Ok(texts)
+}
+
+#[test]
+fn wrong_words_are_told_what_to_mend(rt: HostRuntime) -> Result<(), Fail> {
+    let alloc = rt.alloc();
+    for (words, expected) in WRONG {
+        let words = texts(alloc, words)?;
+        match read_options(alloc, words.as_slice()) {
+            Ok(_) => assert_eq!(rt; true, false, "{expected}"),
+            Err(refused) => assert_eq!(rt; refused, OptionsRefused::Usage),
+        }
+        let text = usage_text(alloc, words.as_slice())?;
+        assert_eq!(rt; text.as_str(), *expected);
+    }
+    Ok(())
+}
+
+#[test]
+fn a_call_for_help_is_told_each_option(rt: HostRuntime) -> Result<(), Fail> {
+    let alloc = rt.alloc();
+    let words = texts(alloc, &["--help"])?;
+    let text = usage_text(alloc, words.as_slice())?;
+    for option in [
+        "--model <FILE>",
+        "--data <FILE>",
+        "--workers <N>",
+        "--max-bytes <N>",
+        "--plan <PLAN>",
+        "--mode <MODE>",
+        "--count <N>",
+    ] {
+        assert_eq!(rt; text.contains(option), true, "{option}");
+    }
+    Ok(())
+}
+
+#[test]
+fn options_that_are_not_given_have_their_defaults(rt: HostRuntime) -> Result<(), Fail> {
+    let alloc = rt.alloc();
+    let words = texts(alloc, &["--data", "d", "--model=m"])?;
+    match read_options(alloc, words.as_slice()) {
+        Ok(options) => {
+            assert_eq!(rt; options.workers, 4);
+            assert_eq!(rt; options.max_bytes, 1_073_741_824);
+            assert_eq!(rt; options.is_optimised, true);
+            match &options.mode {
+                Mode::Serve(files) => {
+                    assert_eq!(rt; files.model.as_str(), "m");
+                    assert_eq!(rt; files.entities.as_str(), "d");
+                }
+                _ => assert_eq!(rt; true, false),
+            }
+        }
+        Err(_) => assert_eq!(rt; true, false),
+    }
+    Ok(())
+}
