@@ -13,12 +13,12 @@ use hier_states::HierState;
 use std::alloc::{AllocError, Global};
 
 /// The number of entities, over all sets.
-fn entity_count(data: &Data) -> u128
-    ensures { result ≡ entity_total data.now }
+fn entity_count(loaded: &Data) -> u128
+    ensures { result ≡ entity_total loaded.now }
 {
     let mut total = 0;
-    for set in data.model().sets() {
-        total += u128::from(data.count(*set));
+    for set in loaded.model().sets() {
+        total += u128::from(loaded.count(*set));
     }
     total
 }
@@ -26,20 +26,20 @@ fn entity_count(data: &Data) -> u128
 /// Appends whether a hierarchy is cyclic.
 fn push_state(
     alloc: Global,
-    data: &Data,
+    loaded: &Data,
     id: HierId,
     state: &HierState,
     text: &mut Vec<u8>,
 ) -> Result<(), AllocError>
-    requires there { IsHierarchy data.now.model id }
-    requires state { IsStateOf data.now id state.now }
-    ensures { OnOk result (text.new.items ≡ text.old.items ++ state_text data.now id) }
+    requires there { IsHierarchy loaded.now.model id }
+    requires state { IsStateOf loaded.now id state.now }
+    ensures { OnOk result (text.new.items ≡ text.old.items ++ state_text loaded.now id) }
 {
     match state {
         HierState::Ready(_) => text.extend_from_slice(b" ok"),
         HierState::Cyclic(node) => {
-            let set = data.model().hier_set(id);
-            let node = identifier(alloc, data, EntityRef { set, at: *node })?;
+            let set = loaded.model().hier_set(id);
+            let node = identifier(alloc, loaded, EntityRef { set, at: *node })?;
             let node = json_text(alloc, node.as_str())?;
             text.extend_from_slice(b" cycle ")?;
             text.extend_from_slice(node.as_bytes())
@@ -50,23 +50,23 @@ fn push_state(
 /// Appends the line of a hierarchy.
 fn push_line(
     alloc: Global,
-    data: &Data,
+    loaded: &Data,
     id: HierId,
     state: &HierState,
     text: &mut Vec<u8>,
 ) -> Result<(), AllocError>
-    requires there { IsHierarchy data.now.model id }
-    requires state { IsStateOf data.now id state.now }
-    ensures { OnOk result (text.new.items ≡ text.old.items ++ hierarchy_line data.now id) }
+    requires there { IsHierarchy loaded.now.model id }
+    requires state { IsStateOf loaded.now id state.now }
+    ensures { OnOk result (text.new.items ≡ text.old.items ++ hierarchy_line loaded.now id) }
 {
-    let model = data.model();
+    let model = loaded.model();
     let _ = model.hier_parent(id);
     text.extend_from_slice(b"hierarchy ")?;
     let of = model.set_type(model.hier_set(id));
     text.extend_from_slice(model.type_name(of).as_bytes())?;
     text.extend_from_slice(b" ")?;
     text.extend_from_slice(model.hier_name(id).as_bytes())?;
-    push_state(alloc, data, id, state, text)?;
+    push_state(alloc, loaded, id, state, text)?;
     text.extend_from_slice(b"\n")
 }
 

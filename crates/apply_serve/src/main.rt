@@ -2,7 +2,7 @@
 //!
 //! `main` makes the real objects, calls [`apply_service::serve`] with the words after the program's name, tells on standard
 //! error what was wrong where something was, and ends with the number of the status. It stands on `apply_service` for the
-//! service, on `serve_options` for what is told of wrong words, and on `apply_io` for the objects.
+//! service, on `run_messages` for what standard error is told, and on `apply_io` for the objects.
 //!
 //! It promises that `run`, which makes the counter of steps, says of a run what `serve` says, and that the number that the
 //! program ends with is that of the status.
@@ -14,18 +14,20 @@ ghost use Rattle.apply_service.specs.ExitCodes.{exit_code};
 ghost use Rattle.apply_service.specs.Runs.{Run, FolderSeen, SourceSeen, SinkSeen};
 ghost use Rattle.apply_service.specs.Service.{Says};
 
-use apply_io::{DiskFolder, Folder, Sink, Source, StdSink, StdSource};
+use apply_io::{DiskFolder, Folder, MemFolder, Sink, Source, StdSink, StdSource};
 use apply_meaning::Steps;
 use apply_service::{Status, serve};
 use par_stages::NoGate;
-use serve_options::{Mode, read_options, usage_text};
-use std::alloc::Global;
+use run_messages::run_message;
+use serve_options::{Mode, read_options};
+use std::alloc::{AllocError, Global};
 use std::env::Env;
 use std::marker::Brand;
 use std::process::ExitCode;
+use std::rt::Files as HostFiles;
 use std::sync::ledger::{Blank, Ledger};
 use std::thread::Threads;
-use std::{env, io};
+use std::{env, fs, io};
 
 /// How a run of the service ended, and the number that tells it.
 #[derive(Clone, Copy, Debug)]
@@ -64,64 +66,90 @@ fn run<R: Threads + Sync, F: Folder, S: Source, K: Sink, L: Ledger>(
     }
 }
 
-/// Tells on standard error what is wrong with the words.
-fn explain_words<R: Eprint>(rt: &R, alloc: Global, words: &[String]) -> io::Result<()> {
-    match usage_text(alloc, words) {
+/// Tells on standard error how a run ended, where it did not end well.
+fn tell<R: Eprint>(rt: &R, message: Result<String, AllocError>) -> io::Result<()> {
+    match message {
+        Ok(text) if text.is_empty() => Ok(()),
         Ok(text) => eprintln!(rt; "{text}"),
         Err(_) => eprintln!(rt; "apply_serve: out of memory"),
     }
 }
 
-/// Tells on standard error what was wrong, where something was.
-fn explain<R: Eprint>(
-    rt: &R,
+/// Why the words were not read: how the program ends, and what standard error is told.
+#[derive(Clone, Copy)]
+struct Unread {
     status: Status,
-    model: &str,
-    data: &str,
-    failed_name: Option<&str>,
-    input_faults: u64,
-) -> io::Result<()> {
-    match status {
-        Status::Served => Ok(()),
-        Status::Usage => eprintln!(rt; "apply_serve: a word is no UTF-8 text"),
-        Status::ModelRefused => {
-            eprintln!(rt;
-                "apply_serve: the model file {model:?} is refused; standard output says why"
-            )
-        }
-        Status::DataRefused => {
-            eprintln!(rt;
-                "apply_serve: the data file {data:?} is refused; standard output says why"
-            )
-        }
-        Status::ReadFault => match failed_name {
-            Some(name) => eprintln!(rt; "apply_serve: the file {name:?} could not be read"),
-            None if input_faults > 0 => {
-                eprintln!(rt; "apply_serve: standard input could not be read")
-            }
-            None => eprintln!(rt; "apply_serve: a file could not be read"),
-        },
-        Status::WriteFault => eprintln!(rt; "apply_serve: standard output could not be written"),
-        Status::Memory => eprintln!(rt; "apply_serve: out of memory"),
-        Status::InputLimit => {
-            eprintln!(rt; "apply_serve: the input has more bytes than --max-bytes allows")
-        }
-    }
+    words: &'static str,
 }
 
-/// The words behind the program's name; or how the program ends where one is no UTF-8 text, or memory is wanting.
-fn words_of<R: Env + Alloc<A = Global>>(rt: &R) -> Result<Vec<String>, Status> {
+/// The words behind the program's name; or why they were not read.
+fn words_of<R: Env + Alloc<A = Global>>(rt: &R) -> Result<Vec<String>, Unread> {
+    let out_of_memory = Unread {
+        status: Status::Memory,
+        words: "out of memory",
+    };
     let args = match env::args(rt) {
         Ok(args) => args,
         Err(e) => match e.kind() {
-            io::ErrorKind::InvalidData => return Err(Status::Usage),
-            _ => return Err(Status::Memory),
+            io::ErrorKind::InvalidData => {
+                return Err(Unread {
+                    status: Status::Usage,
+                    words: "a word is no UTF-8 text",
+                });
+            }
+            _ => return Err(out_of_memory),
         },
     };
     match args.skip(1).collect(rt.alloc()) {
         Ok(words) => Ok(words),
-        Err(_) => Err(Status::Memory),
+        Err(_) => Err(out_of_memory),
     }
+}
+
+/// Whether a name is that of a regular file. A pipe or a device gives what it has once, and may be waited for.
+fn is_regular<R: HostFiles>(rt: &R, name: &str) -> bool {
+    match fs::metadata(rt, name) {
+        Ok(found) => found.is_file(),
+        Err(_) => false,
+    }
+}
+
+/// Whether what a refusal is about can be read again: the model file, and of a refused data file both.
+fn can_read_again<R: HostFiles>(rt: &R, alloc: Global, status: Status, words: &[String]) -> bool {
+    let Ok(options) = read_options(alloc, words) else {
+        return false;
+    };
+    match &options.mode {
+        Mode::Serve(files) | Mode::Check(files) => {
+            is_regular(rt, files.model.as_str())
+                && (status == Status::ModelRefused || is_regular(rt, files.entities.as_str()))
+        }
+        Mode::Gen(_) => false,
+    }
+}
+
+/// What standard error is told of a run.
+fn message_of<R: HostFiles>(
+    rt: &R,
+    alloc: Global,
+    status: Status,
+    words: &[String],
+    failed_name: Option<&str>,
+    is_input_failed: bool,
+) -> Result<String, AllocError> {
+    if can_read_again(rt, alloc, status, words) {
+        let mut anew = DiskFolder::new(rt);
+        return run_message(
+            alloc,
+            status,
+            words,
+            Some(&mut anew),
+            failed_name,
+            is_input_failed,
+        );
+    }
+    let none: Option<&mut MemFolder> = None;
+    run_message(alloc, status, words, none, failed_name, is_input_failed)
 }
 
 /// Serves over the real objects, and tells on standard error what was wrong.
@@ -129,9 +157,9 @@ fn main(rt: HostRuntime) -> ExitCode {
     let alloc = rt.alloc();
     let words = match words_of(&rt) {
         Ok(words) => words,
-        Err(status) => {
-            let _ = explain(&rt, status, "", "", None, 0);
-            return ExitCode::from(status.number());
+        Err(unread) => {
+            let _ = eprintln!(&rt; "apply_serve: {}", unread.words);
+            return ExitCode::from(unread.status.number());
         }
     };
     let mut folder = DiskFolder::new(&rt);
@@ -146,25 +174,14 @@ fn main(rt: HostRuntime) -> ExitCode {
         &mut output,
         Blank::new(1),
     );
-    let _ = match (ended.status, read_options(alloc, words.as_slice())) {
-        (Status::Usage, _) => explain_words(&rt, alloc, words.as_slice()),
-        (status, Ok(options)) => {
-            let (model, data) = match &options.mode {
-                Mode::Serve(files) | Mode::Check(files) => {
-                    (files.model.as_str(), files.entities.as_str())
-                }
-                Mode::Gen(_) => ("", ""),
-            };
-            explain(
-                &rt,
-                status,
-                model,
-                data,
-                folder.failed_name(),
-                input.faults(),
-            )
-        }
-        (status, Err(_)) => explain(&rt, status, "", "", folder.failed_name(), input.faults()),
-    };
+    let message = message_of(
+        &rt,
+        alloc,
+        ended.status,
+        words.as_slice(),
+        folder.failed_name(),
+        input.faults() > 0,
+    );
+    let _ = tell(&rt, message);
     ExitCode::from(ended.number)
 }

@@ -1,36 +1,26 @@
 -- The number of sales that mode gen is asked for is within its limits.
-use Rattle.std.proofs.Common.{◌≡◌, ◌∙◌, ℕ, ◌≤◌, ◌-◌, ◌^◌, ◌&&◌, Bool, true, false, List, None, Some, refl, ap, arith, codes}
-use Rattle.std.specs.Prelude.{if◌then◌else◌, Option, nat_le, option_and_then, option_map, unwrap_or}
+use Rattle.std.proofs.Common.{◌≡◌, ◌∙◌, ℕ, ◌≤◌, ◌-◌, ◌^◌, ◌&&◌, Bool, true, false, List, None, Some, ap, arith, codes}
+use Rattle.std.specs.Prelude.{if◌then◌else◌, Option, nat_le, option_map, unwrap_or}
 use Rattle.std.specs.Str.Parse.{digits_value}
 use Rattle.std.proofs.lemmas.Bool.Decides.{nat_tests}
 use Rattle.edm_values.specs.Lists.{same_text}
+use Rattle.edm_values.proofs.OptionFacts.{and_3, chained, if_else-parts, mapped, some_value}
 use Rattle.edm_values.specs.Literals.{is_digits}
 use Rattle.serve_options.specs.Options.{OptionValues, Settings, Serve, Check, Gen, number_or, number_within, plan_named, settings_of, mode_named, both_files, over_files}
 use Rattle.serve_options.specs.Command.{settings_in, option_values}
-
-and_then-some : {A B : Type 0} (f : A → Option B) (o : Option A) (y : B) → option_and_then f o ≡ Some y → (x : A) × (o ≡ Some x) × (f x ≡ Some y)
-and_then-some f None y e = absurd cc
-and_then-some f (Some x) y e = (x, refl, e)
-
-map-some : {A B : Type 0} (f : A → B) (o : Option A) (y : B) → option_map f o ≡ Some y → (x : A) × (o ≡ Some x) × (f x ≡ y)
-map-some f None y e = absurd cc
-map-some f (Some x) y e = (x, refl, cc)
 
 -- ---- the number
 
 abbrev Within : ℕ → ℕ → ℕ → Type 0
 Within low high n = (low ≤ n) × (n ≤ high)
 
-within-by : (low high d n : ℕ) (a b c : Bool) → b ≡ nat_le low d → c ≡ nat_le d high → (if a && b && c then Some d else None) ≡ Some n → Within low high n
-within-by low high d n true true true e f g =
-    let same : d ≡ n = cc in
-    (grind (arith, nat_tests, e, same), grind (arith, nat_tests, f, same))
-within-by low high d n true true false e f g = absurd cc
-within-by low high d n true false c e f g = absurd cc
-within-by low high d n false b c e f g = absurd cc
-
 number_within-some : (low high : ℕ) (t : List ℕ) (n : ℕ) → number_within low high t ≡ Some n → Within low high n
-number_within-some low high t n e = within-by low high (digits_value 10 t) n (is_digits t) (nat_le low (digits_value 10 t)) (nat_le (digits_value 10 t) high) refl refl e
+number_within-some low high t n e =
+    let d = digits_value 10 t in
+    let tests = if_else-parts (is_digits t && nat_le low d && nat_le d high) (Some d) n e in
+    let parts = and_3 (is_digits t) (nat_le low d) (nat_le d high) tests.0 in
+    let same : d ≡ n = some_value tests.1 in
+    (grind (arith, nat_tests, parts.1, same), grind (arith, nat_tests, parts.2, same))
 
 number_or-some : (default low high : ℕ) (o : Option (List ℕ)) (n : ℕ) → low ≤ default → default ≤ high → number_or default low high o ≡ Some n → Within low high n
 number_or-some default low high None n a b e = let same : default ≡ n = cc in (omega (arith, a, same), omega (arith, b, same))
@@ -58,12 +48,12 @@ gen-named v count n t e = gen-by v count n (same_text t (codes "serve")) (same_t
 -- the number of sales that the words ask for
 pub gen-within : (words : List (List ℕ)) (s : Settings) (n : ℕ) → settings_in words ≡ Some s → s.mode ≡ Gen n → (1 ≤ n) × (n ≤ 200000)
 gen-within words s n asks mode =
-    let values = and_then-some settings_of (option_values words) s asks in
-    let workers = and_then-some _ (number_or 4 1 64 (values.0).workers) s values.2 in
-    let bytes = and_then-some _ (number_or 1073741824 0 (2 ^ 63 - 1) (values.0).max_bytes) s workers.2 in
-    let count = and_then-some _ (number_or 1000 1 200000 (values.0).count) s bytes.2 in
-    let plan = and_then-some _ (plan_named (unwrap_or (values.0).plan (codes "optimised"))) s count.2 in
-    let made = map-some _ (mode_named values.0 count.0 (unwrap_or (values.0).mode (codes "serve"))) s plan.2 in
+    let values = chained settings_of (option_values words) s asks in
+    let workers = chained _ (number_or 4 1 64 (values.0).workers) s values.2 in
+    let bytes = chained _ (number_or 1073741824 0 (2 ^ 63 - 1) (values.0).max_bytes) s workers.2 in
+    let count = chained _ (number_or 1000 1 200000 (values.0).count) s bytes.2 in
+    let plan = chained _ (plan_named (unwrap_or (values.0).plan (codes "optimised"))) s count.2 in
+    let made = mapped _ (mode_named values.0 count.0 (unwrap_or (values.0).mode (codes "serve"))) s plan.2 in
     let is : made.0 ≡ Gen n = ap (λ (x : Settings). x.mode) made.2 ∙ mode in
     let same : count.0 ≡ n = gen-named values.0 count.0 n (unwrap_or (values.0).mode (codes "serve")) (made.1 ∙ ap Some is) in
     let within = number_or-some 1000 1 200000 (values.0).count count.0 (omega arith) (omega arith) count.1 in

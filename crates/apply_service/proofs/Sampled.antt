@@ -2,7 +2,7 @@
 use Rattle.std.proofs.Common.{◌≡◌, ℕ, zero, suc, ◌<◌, arith, map, take, drop, get_or, length, List, [], ◌∷◌, ◌++◌, refl, sym, ap, subst, ◌∙◌, append_assoc}
 use Rattle.std.specs.Prelude.{flat_map}
 use Rattle.std.specs.declared.option.Option.{Option}
-use Rattle.std.proofs.KnownBytes.{Appends-nil, Appends-trans}
+use Rattle.std.proofs.KnownBytes.{Appends-trans}
 use Rattle.std.proofs.lemmas.Grind.{flat_map-append}
 use Rattle.std.proofs.lemmas.List.{append-nil}
 use Rattle.line_stream.specs.Lines.{shown}
@@ -29,9 +29,6 @@ abbrev pub shown_all : List (List ℕ) → List (List ℕ)
 shown_all = flat_map shown
 
 module _ (is_reply : List ℕ → List ℕ → Type 0) where
-  pub Writes-none : (a : Option (List ℕ)) → Writes is_reply [] a a
-  Writes-none a = record { written = []; appended = Appends-nil a; replies = refl }
-
   pub Writes-more : (a b c : Option (List ℕ)) (ls : List (List ℕ)) (l : List ℕ) → Writes is_reply (shown_all ls) a b → Writes is_reply (shown l) b c → Writes is_reply (shown_all (ls ++ l ∷ [])) a c
   Writes-more a b c ls l h k = record {
     written = h.written ++ k.written;

@@ -36,7 +36,7 @@ impl From<AllocError> for RowsRefused {
 }
 
 /// The value that an entity gives a property, where it is one of the property; an absent member counts as null.
-fn property_value<'a>(
+pub fn property_value<'a>(
     alloc: Global,
     model: &Model,
     p: PropId,
@@ -58,7 +58,7 @@ fn property_value<'a>(
 }
 
 /// Whether a member of an entity names a property, or is an annotation.
-fn is_known_member(model: &Model, t: TypeId, name: &String, value: &Json) -> bool
+pub fn is_known_member(model: &Model, t: TypeId, name: &String, value: &Json) -> bool
     requires { IsType model.now t }
     ensures { result ≡ file.is_known_member (properties_of model.now t) (string_bytes name.now, view value.now) }
 {
@@ -158,7 +158,7 @@ pub(crate) fn set_rows(
 }
 
 /// The items of a set's array; a set that the file does not name has none.
-pub(crate) fn set_items<'a>(model: &Model, s: SetId, root: &'a Json) -> &'a [Json]
+pub fn set_items<'a>(model: &Model, s: SetId, root: &'a Json) -> &'a [Json]
     requires { IsSet model.now s }
     ensures { option_map (file.array_in (view root.now)) (slice_get model.now.sets s) ≡ Some (map view result.now) }
 {

@@ -34,6 +34,7 @@ ghost use Rattle.std.specs.Prelude.{◌≡◌};
 pub use data::Data;
 use edm_model::SetId;
 use edm_values::Text;
+pub use entities::{is_known_member, property_value, set_items};
 pub use load::{DATA_LIMIT, read_data};
 use std::alloc::{AllocError, AllocFailed};
 use std::marker::Model;

@@ -10,14 +10,14 @@ use edm_values::{EdmType, PRECISION_MAX, SCALE_MAX};
 use serde_json::Value;
 
 /// The name of a property's type.
-pub(crate) fn kind_name(property: &Value) -> &str
+pub fn kind_name(property: &Value) -> &str
     ensures { result.now ≡ spec.kind_name (view property.now) }
 {
     text_at_or("Edm.String", "$Type", property)
 }
 
 /// Whether the property is a decimal.
-pub(crate) fn is_decimal_property(property: &Value) -> bool
+pub fn is_decimal_property(property: &Value) -> bool
     ensures { result ≡ spec.is_decimal_property (view property.now) }
 {
     kind_name(property) == "Edm.Decimal"
@@ -40,7 +40,7 @@ fn whole_between(low: u8, high: u8, value: &Value) -> Option<u8>
 }
 
 /// The precision, from 1 to 18; 18 where the file gives none.
-fn precision_of(property: &Value) -> Option<u8>
+pub fn precision_of(property: &Value) -> Option<u8>
     ensures { result ≡ spec.precision_of (view property.now) }
 {
     match property.get("$Precision") {
@@ -50,7 +50,7 @@ fn precision_of(property: &Value) -> Option<u8>
 }
 
 /// The scale, from 0 to 9.
-fn scale_of(property: &Value) -> Option<u8>
+pub fn scale_of(property: &Value) -> Option<u8>
     ensures { result ≡ spec.scale_of (view property.now) }
 {
     match property.get("$Scale") {
@@ -97,14 +97,14 @@ pub fn is_nullable(property: &Value) -> bool
 }
 
 /// Whether keys may have the type.
-pub(crate) fn is_key_kind(kind: EdmType) -> bool
+pub fn is_key_kind(kind: EdmType) -> bool
     ensures { result ≡ spec.is_key_kind kind }
 {
     matches!(kind, EdmType::Int | EdmType::Text | EdmType::Day)
 }
 
 /// Whether a property has one of the five types.
-pub(crate) fn has_property_type(property: &Value) -> bool
+pub fn has_property_type(property: &Value) -> bool
     ensures { result ≡ spec.has_property_type (view property.now) }
 {
     is_object_of(
@@ -116,7 +116,7 @@ pub(crate) fn has_property_type(property: &Value) -> bool
 }
 
 /// Whether only a decimal has a scale or a precision.
-pub(crate) fn has_scale_in_place(property: &Value) -> bool
+pub fn has_scale_in_place(property: &Value) -> bool
     ensures { result ≡ spec.has_scale_in_place (view property.now) }
 {
     is_decimal_property(property) || (lacks("$Scale", property) && lacks("$Precision", property))

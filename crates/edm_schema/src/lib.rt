@@ -13,14 +13,14 @@
 //! in byte order of names.
 #![tactic(auto)]
 
-mod kinds;
-mod links;
-mod members;
+pub mod kinds;
+pub mod links;
+pub mod members;
 mod named;
-mod names;
-mod rules;
-mod schema;
-mod tree;
+pub mod names;
+pub mod rules;
+pub mod schema;
+pub mod tree;
 
 pub use kinds::{is_nullable, kind_of};
 pub use links::type_place;

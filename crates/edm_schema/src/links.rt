@@ -41,7 +41,7 @@ fn leads_to(schema: &Schema<'_>, k: usize, value: &Value) -> bool
 }
 
 /// The type of the property of this name.
-fn property_kind(entity_type: &TypeTree<'_>, name: &str) -> Option<EdmType>
+pub fn property_kind(entity_type: &TypeTree<'_>, name: &str) -> Option<EdmType>
     requires { IsTypeTree entity_type.now }
     ensures { result ≡ spec.property_kind (tree_of entity_type.now) name.now }
 {
@@ -52,7 +52,12 @@ fn property_kind(entity_type: &TypeTree<'_>, name: &str) -> Option<EdmType>
 }
 
 /// Whether a single-valued navigation property of the type has this name and leads to the type at this place.
-fn is_reference_to(schema: &Schema<'_>, k: usize, entity_type: &TypeTree<'_>, name: &str) -> bool
+pub fn is_reference_to(
+    schema: &Schema<'_>,
+    k: usize,
+    entity_type: &TypeTree<'_>,
+    name: &str,
+) -> bool
     requires schema { IsSchema schema.now }
     requires entity_type { IsTypeTree entity_type.now }
     ensures { result ≡ spec.is_reference_to (root_of schema.now) k (tree_of entity_type.now) name.now }
@@ -64,7 +69,7 @@ fn is_reference_to(schema: &Schema<'_>, k: usize, entity_type: &TypeTree<'_>, na
 }
 
 /// Whether both are types, and of one kind.
-fn are_of_one_kind(a: Option<EdmType>, b: Option<EdmType>) -> bool
+pub fn are_of_one_kind(a: Option<EdmType>, b: Option<EdmType>) -> bool
     ensures { result ≡ spec.are_of_one_kind a b }
 {
     match (a, b) {
@@ -121,7 +126,7 @@ fn has_partner(schema: &Schema<'_>, k: usize, target: &TypeTree<'_>, navigation:
 }
 
 /// Whether a navigation property leads to an entity type and is of one of the two forms.
-pub(crate) fn is_navigable(
+pub fn is_navigable(
     schema: &Schema<'_>,
     k: usize,
     entity_type: &TypeTree<'_>,
@@ -145,7 +150,7 @@ pub(crate) fn is_navigable(
 }
 
 /// Whether a recursive hierarchy names the key and a single-valued navigation property to the same type.
-pub(crate) fn is_hierarchy(
+pub fn is_hierarchy(
     schema: &Schema<'_>,
     k: usize,
     entity_type: &TypeTree<'_>,
@@ -163,7 +168,7 @@ pub(crate) fn is_hierarchy(
 }
 
 /// Whether an entity set is a collection of an entity type of the schema.
-pub(crate) fn is_entity_set(schema: &Schema<'_>, set: &Value) -> bool
+pub fn is_entity_set(schema: &Schema<'_>, set: &Value) -> bool
     requires { IsSchema schema.now }
     ensures { result ≡ spec.is_entity_set (root_of schema.now) (view set.now) }
 {

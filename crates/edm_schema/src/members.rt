@@ -30,7 +30,7 @@ impl Named for Member<'_> {
 }
 
 /// The members of an object stand in byte order of their names.
-pub(crate) fn stand_in_order(value: &Value)
+pub fn stand_in_order(value: &Value)
     ensures { AreOrdered (map (λ m. m.0) (members_in (view value.now))) }
 {
     match value.as_object() {
@@ -42,7 +42,7 @@ pub(crate) fn stand_in_order(value: &Value)
 }
 
 /// The members of an object; of anything else, none.
-pub(crate) fn members_of<'v>(alloc: Global, value: &'v Value) -> Result<Vec<Member<'v>>, AllocError>
+pub fn members_of<'v>(alloc: Global, value: &'v Value) -> Result<Vec<Member<'v>>, AllocError>
     ensures { IfOk result (λ v. map member_seen v.items ≡ members_in (view value.now)) }
 {
     let mut found = Vec::new(alloc);
@@ -56,14 +56,14 @@ pub(crate) fn members_of<'v>(alloc: Global, value: &'v Value) -> Result<Vec<Memb
 }
 
 /// Whether it is an object of this kind.
-pub(crate) fn is_object_of_kind(kind: &str, value: &Value) -> bool
+pub fn is_object_of_kind(kind: &str, value: &Value) -> bool
     ensures { result ≡ spec.is_object_of_kind kind.now (view value.now) }
 {
     value.is_object() && is_text_at("$Kind", kind, value)
 }
 
 /// Whether it is a property.
-pub(crate) fn is_property(value: &Value) -> bool
+pub fn is_property(value: &Value) -> bool
     ensures { result ≡ spec.is_property (view value.now) }
 {
     value.is_object()
@@ -74,7 +74,7 @@ pub(crate) fn is_property(value: &Value) -> bool
 }
 
 /// Whether it is a navigation property.
-pub(crate) fn is_navigation(value: &Value) -> bool
+pub fn is_navigation(value: &Value) -> bool
     ensures { result ≡ spec.is_navigation (view value.now) }
 {
     is_object_of_kind("NavigationProperty", value)
@@ -82,10 +82,7 @@ pub(crate) fn is_navigation(value: &Value) -> bool
 
 /// The properties and navigation properties among the members of an entity type.
 #[tactic(auto, using(crate::proofs::Mapped::filter_mapped))]
-pub(crate) fn own_members<'v>(
-    alloc: Global,
-    members: &[Member<'v>],
-) -> Result<Vec<Member<'v>>, AllocError>
+pub fn own_members<'v>(alloc: Global, members: &[Member<'v>]) -> Result<Vec<Member<'v>>, AllocError>
     ensures { IfOk result (λ v. map member_seen v.items ≡ filter (λ m. spec.is_own m.0) (map member_seen members.now)) }
 {
     members
@@ -97,7 +94,7 @@ pub(crate) fn own_members<'v>(
 
 /// The properties among these.
 #[tactic(auto, using(crate::proofs::Mapped::filter_mapped))]
-pub(crate) fn properties_among<'v>(
+pub fn properties_among<'v>(
     alloc: Global,
     own: &[Member<'v>],
 ) -> Result<Vec<Member<'v>>, AllocError>
@@ -111,7 +108,7 @@ pub(crate) fn properties_among<'v>(
 
 /// The navigation properties among these.
 #[tactic(auto, using(crate::proofs::Mapped::filter_mapped))]
-pub(crate) fn navigations_among<'v>(
+pub fn navigations_among<'v>(
     alloc: Global,
     own: &[Member<'v>],
 ) -> Result<Vec<Member<'v>>, AllocError>
@@ -124,7 +121,7 @@ pub(crate) fn navigations_among<'v>(
 }
 
 /// The members that are of the term, by their qualifiers.
-pub(crate) fn qualified_members<'v>(
+pub fn qualified_members<'v>(
     alloc: Global,
     term: &str,
     members: &[Member<'v>],
@@ -144,7 +141,7 @@ pub(crate) fn qualified_members<'v>(
 
 /// The members that are read.
 #[tactic(auto, using(crate::proofs::Mapped::filter_mapped))]
-pub(crate) fn read_members<'v>(
+pub fn read_members<'v>(
     alloc: Global,
     members: &[Member<'v>],
 ) -> Result<Vec<Member<'v>>, AllocError>
@@ -159,7 +156,7 @@ pub(crate) fn read_members<'v>(
 
 /// The objects of this kind among these.
 #[tactic(auto, using(crate::proofs::Mapped::filter_mapped))]
-pub(crate) fn objects_among<'v>(
+pub fn objects_among<'v>(
     alloc: Global,
     kind: &str,
     read: &[Member<'v>],
@@ -174,10 +171,7 @@ pub(crate) fn objects_among<'v>(
 
 /// All of these but the kind.
 #[tactic(auto, using(crate::proofs::Mapped::filter_mapped))]
-pub(crate) fn besides_kind<'v>(
-    alloc: Global,
-    read: &[Member<'v>],
-) -> Result<Vec<Member<'v>>, AllocError>
+pub fn besides_kind<'v>(alloc: Global, read: &[Member<'v>]) -> Result<Vec<Member<'v>>, AllocError>
     ensures { IfOk result (λ v. map member_seen v.items ≡ filter (λ m. not (same_text m.0 (codes "$Kind"))) (map member_seen read.now)) }
 {
     read.iter()
@@ -187,7 +181,7 @@ pub(crate) fn besides_kind<'v>(
 }
 
 /// The one member of a list of exactly one.
-pub(crate) fn only<'v>(members: &[Member<'v>]) -> Option<Member<'v>>
+pub fn only<'v>(members: &[Member<'v>]) -> Option<Member<'v>>
     ensures { option_map member_seen result ≡ tree.only (map member_seen members.now) }
 {
     match members {
@@ -219,7 +213,7 @@ pub fn constraint(navigation: &Value) -> Option<Member<'_>>
 }
 
 /// The value of the member of this name.
-pub(crate) fn named<'v>(members: &[Member<'v>], name: &str) -> Option<&'v Value>
+pub fn named<'v>(members: &[Member<'v>], name: &str) -> Option<&'v Value>
     requires { AreOrdered (map (λ m. m.name.now) members.now) }
     ensures { option_map (λ v. view v.now) result ≡ spec.named (map member_seen members.now) name.now }
 {

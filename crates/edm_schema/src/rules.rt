@@ -23,7 +23,7 @@ use serde_json::Value;
 use std::alloc::{AllocError, Global};
 
 /// Whether the parts of a text between its points are simple identifiers.
-fn are_names(text: &str) -> bool
+pub fn are_names(text: &str) -> bool
     ensures { result ≡ list_all names.is_name (slice_split is_point text.now) }
 {
     text.split('.').all(|part| is_name(part))
@@ -42,7 +42,7 @@ fn has_one_schema(root: &Value) -> bool
 }
 
 /// Whether a member of the schema is not read, or an entity type or a container.
-fn is_schema_member(member: Member<'_>) -> bool
+pub fn is_schema_member(member: Member<'_>) -> bool
     ensures { let m = member_seen member.entry in result ≡ (spec.is_unread m.0 || spec.is_object_of_kind (codes "EntityType") m.1 || spec.is_object_of_kind (codes "EntityContainer") m.1) }
 {
     is_unread(member.name)
@@ -72,7 +72,7 @@ fn has_one_container(schema: &Schema<'_>) -> bool
 }
 
 /// Whether `$Key` is an array of one string.
-fn has_key_name(entity_type: &Value) -> bool
+pub fn has_key_name(entity_type: &Value) -> bool
     ensures { result ≡ passes_at (codes "$Key") (λ k. is_some (only_string k)) (view entity_type.now) }
 {
     match entity_type.get("$Key") {
@@ -105,7 +105,7 @@ fn has_one_key(t: &TypeTree<'_>) -> bool
 }
 
 /// Whether a member of a type is its key or a term, or a property or a navigation property.
-fn is_type_member(member: Member<'_>) -> bool
+pub fn is_type_member(member: Member<'_>) -> bool
     ensures { let m = member_seen member.entry in result ≡ (not (spec.is_own m.0) || spec.is_property m.1 || spec.is_navigation m.1) }
 {
     !is_own(member.name) || is_property(member.value) || is_navigation(member.value)
@@ -192,7 +192,7 @@ pub fn method_at(name: &str, value: &Value) -> Option<Method>
 }
 
 /// Whether the member stands and is an array of at least one string.
-fn is_list_of_strings_at(name: &str, value: &Value) -> bool
+pub fn is_list_of_strings_at(name: &str, value: &Value) -> bool
     ensures { result ≡ passes_at name.now spec.is_list_of_strings (view value.now) }
 {
     match value.get(name) {
@@ -202,7 +202,7 @@ fn is_list_of_strings_at(name: &str, value: &Value) -> bool
 }
 
 /// Whether there are paths of groups with an outer method, or neither.
-fn has_groups_or_none(definition: &Value) -> bool
+pub fn has_groups_or_none(definition: &Value) -> bool
     ensures { result ≡ spec.has_groups_or_none (view definition.now) }
 {
     (lacks("Per", definition) && lacks("Then", definition))
@@ -220,7 +220,7 @@ fn is_definition(definition: &Value) -> bool
 }
 
 /// Whether the custom aggregate of this name stands in the type, and no property or navigation property has the name.
-fn is_custom_name(t: &TypeTree<'_>, name: &str) -> bool
+pub fn is_custom_name(t: &TypeTree<'_>, name: &str) -> bool
     requires { IsTypeTree t.now }
     ensures { result ≡ spec.is_custom_name (tree_of t.now) name.now }
 {
@@ -275,7 +275,7 @@ fn has_types(schema: &Schema<'_>) -> bool
 }
 
 /// Whether the name is of the term only with a simple identifier as its qualifier.
-fn is_simply_qualified(term: &str, name: &str) -> bool
+pub fn is_simply_qualified(term: &str, name: &str) -> bool
     ensures { result ≡ spec.is_simply_qualified term.now name.now }
 {
     match qualifier(term, name) {
@@ -285,7 +285,7 @@ fn is_simply_qualified(term: &str, name: &str) -> bool
 }
 
 /// Whether the name of a member of a type is a simple identifier or has one as its qualifier.
-fn has_simple_name(name: &str) -> bool
+pub fn has_simple_name(name: &str) -> bool
     ensures { result ≡ ((not (spec.is_own name.now) || names.is_name name.now) && spec.is_simply_qualified spec.hierarchy_term name.now && spec.is_simply_qualified spec.aggregate_term name.now && spec.is_simply_qualified spec.definition_term name.now) }
 {
     (!is_own(name) || is_name(name))
@@ -340,7 +340,7 @@ fn has_names(schema: &Schema<'_>) -> bool
 }
 
 /// How many sets lead to each entity type.
-fn set_counts(alloc: Global, schema: &Schema<'_>) -> Result<Vec<usize>, AllocError>
+pub fn set_counts(alloc: Global, schema: &Schema<'_>) -> Result<Vec<usize>, AllocError>
     requires { IsSchema schema.now }
     ensures { let d = root_of schema.now in IfOk result (λ v. v.items ≡ map (λ k. count_by (λ m. spec.leads_to d k m.1) (spec.set_members d)) (places (length (spec.type_members d)))) }
 {

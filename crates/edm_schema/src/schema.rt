@@ -67,7 +67,7 @@ fn cut_at_last_point(text: &str) -> (&str, &str)
 }
 
 /// The namespace of the schema.
-pub(crate) fn namespace(root: &Value) -> &str
+pub fn namespace(root: &Value) -> &str
     ensures { result.now ≡ spec.namespace (view root.now) }
 {
     let (before, _) = cut_at_last_point(text_at("$EntityContainer", root));
@@ -75,7 +75,7 @@ pub(crate) fn namespace(root: &Value) -> &str
 }
 
 /// The name of the entity container.
-pub(crate) fn container_name(root: &Value) -> &str
+pub fn container_name(root: &Value) -> &str
     ensures { result.now ≡ after_last is_point (spec.container_path (view root.now)) }
 {
     let (_, after) = cut_at_last_point(text_at("$EntityContainer", root));

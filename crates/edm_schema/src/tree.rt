@@ -9,7 +9,7 @@ use crate::names::{is_one_of, is_unread};
 use serde_json::Value;
 
 /// Whether it is this string.
-pub(crate) fn is_text(text: &str, value: &Value) -> bool
+pub fn is_text(text: &str, value: &Value) -> bool
     ensures { result ≡ spec.is_text text.now (view value.now) }
 {
     match value.as_str() {
@@ -19,14 +19,14 @@ pub(crate) fn is_text(text: &str, value: &Value) -> bool
 }
 
 /// Whether it is true.
-pub(crate) fn is_true(value: &Value) -> bool
+pub fn is_true(value: &Value) -> bool
     ensures { result ≡ spec.is_true (view value.now) }
 {
     value.as_bool().unwrap_or(false)
 }
 
 /// The text of a string member, or the one that stands in its place.
-pub(crate) fn text_at_or<'v>(other: &'v str, name: &str, value: &'v Value) -> &'v str
+pub fn text_at_or<'v>(other: &'v str, name: &str, value: &'v Value) -> &'v str
     ensures { result.now ≡ spec.text_at_or other.now name.now (view value.now) }
 {
     match value.get(name) {
@@ -46,14 +46,14 @@ pub fn text_at<'v>(name: &str, value: &'v Value) -> &'v str
 }
 
 /// Whether there is no such member.
-pub(crate) fn lacks(name: &str, value: &Value) -> bool
+pub fn lacks(name: &str, value: &Value) -> bool
     ensures { result ≡ spec.lacks name.now (view value.now) }
 {
     value.get(name).is_none()
 }
 
 /// Whether it is an object in which every member that is read has one of these names.
-pub(crate) fn is_object_of(names: &[&str], value: &Value) -> bool
+pub fn is_object_of(names: &[&str], value: &Value) -> bool
     ensures { result ≡ file.is_object_of (map (λ n. n.now) names.now) (view value.now) }
 {
     let Some(members) = value.as_object() else {
@@ -68,7 +68,7 @@ pub(crate) fn is_object_of(names: &[&str], value: &Value) -> bool
 }
 
 /// Whether the member is a string where it stands.
-pub(crate) fn is_string_if_there(name: &str, value: &Value) -> bool
+pub fn is_string_if_there(name: &str, value: &Value) -> bool
     ensures { result ≡ spec.passes_if_at name.now spec.is_string (view value.now) }
 {
     match value.get(name) {
@@ -78,7 +78,7 @@ pub(crate) fn is_string_if_there(name: &str, value: &Value) -> bool
 }
 
 /// Whether the member is true or false where it stands.
-pub(crate) fn is_boolean_if_there(name: &str, value: &Value) -> bool
+pub fn is_boolean_if_there(name: &str, value: &Value) -> bool
     ensures { result ≡ spec.passes_if_at name.now spec.is_boolean (view value.now) }
 {
     match value.get(name) {
@@ -88,7 +88,7 @@ pub(crate) fn is_boolean_if_there(name: &str, value: &Value) -> bool
 }
 
 /// Whether the member stands and is a string.
-pub(crate) fn is_string_at(name: &str, value: &Value) -> bool
+pub fn is_string_at(name: &str, value: &Value) -> bool
     ensures { result ≡ spec.passes_at name.now spec.is_string (view value.now) }
 {
     match value.get(name) {
@@ -98,7 +98,7 @@ pub(crate) fn is_string_at(name: &str, value: &Value) -> bool
 }
 
 /// Whether the member stands and is an object.
-pub(crate) fn is_object_at(name: &str, value: &Value) -> bool
+pub fn is_object_at(name: &str, value: &Value) -> bool
     ensures { result ≡ spec.passes_at name.now spec.is_object (view value.now) }
 {
     match value.get(name) {
@@ -108,7 +108,7 @@ pub(crate) fn is_object_at(name: &str, value: &Value) -> bool
 }
 
 /// Whether the member stands and is this string.
-pub(crate) fn is_text_at(name: &str, text: &str, value: &Value) -> bool
+pub fn is_text_at(name: &str, text: &str, value: &Value) -> bool
     ensures { result ≡ spec.passes_at name.now (spec.is_text text.now) (view value.now) }
 {
     match value.get(name) {
@@ -129,7 +129,7 @@ pub fn is_true_at(name: &str, value: &Value) -> bool
 
 /// The one string of an array of exactly one.
 #[tactic(auto, using(crate::proofs::Items::items))]
-pub(crate) fn only_string(value: &Value) -> Option<&str>
+pub fn only_string(value: &Value) -> Option<&str>
     ensures { option_map (λ s. s.now) result ≡ spec.only_string (view value.now) }
 {
     match value.as_array() {
@@ -143,7 +143,7 @@ pub(crate) fn only_string(value: &Value) -> Option<&str>
 
 /// Whether it is an array of at least one string.
 #[tactic(auto, using(crate::proofs::Items::items))]
-pub(crate) fn is_list_of_strings(value: &Value) -> bool
+pub fn is_list_of_strings(value: &Value) -> bool
     ensures { result ≡ file.is_list_of_strings (view value.now) }
 {
     match value.as_array() {

@@ -7,35 +7,47 @@ use std::test::Fail;
 const WRONG: &[(&[&str], &str)] = &[
     (
         &["--model", "m", "--data", "d", "--workers", "0"],
-        "error: --workers takes a whole number from 1 to 64, not \"0\"\n\nUsage: apply_serve [OPTIONS]\n\nFor more information, try '--help'.\n",
+        "apply_serve: --workers takes a whole number from 1 to 64, not \"0\"; see apply_serve --help",
     ),
     (
         &["--model", "m", "--data", "d", "--max-bytes", "+1"],
-        "error: --max-bytes takes a whole number from 0 to 9223372036854775807, not \"+1\"\n\nUsage: apply_serve [OPTIONS]\n\nFor more information, try '--help'.\n",
+        "apply_serve: --max-bytes takes a whole number from 0 to 9223372036854775807, not \"+1\"; see apply_serve --help",
     ),
     (
         &["--mode", "gen", "--count", "200001"],
-        "error: --count takes a whole number from 1 to 200000, not \"200001\"\n\nUsage: apply_serve [OPTIONS]\n\nFor more information, try '--help'.\n",
+        "apply_serve: --count takes a whole number from 1 to 200000, not \"200001\"; see apply_serve --help",
     ),
     (
         &["--model", "m", "--data", "d", "--plan", "fast\n"],
-        "error: --plan takes written or optimised, not \"fast\\n\"\n\nUsage: apply_serve [OPTIONS]\n\nFor more information, try '--help'.\n",
+        "apply_serve: --plan takes written or optimised, not \"fast\\n\"; see apply_serve --help",
     ),
     (
         &["--mode", "Check"],
-        "error: --mode takes serve, check or gen, not \"Check\"\n\nUsage: apply_serve [OPTIONS]\n\nFor more information, try '--help'.\n",
+        "apply_serve: --mode takes serve, check or gen, not \"Check\"; see apply_serve --help",
     ),
     (
         &["--mode", "check", "--model", "m"],
-        "error: mode check wants --model FILE and --data FILE\n\nUsage: apply_serve [OPTIONS]\n\nFor more information, try '--help'.\n",
+        "apply_serve: mode check wants --model FILE and --data FILE; see apply_serve --help",
     ),
     (
         &[],
-        "error: mode serve wants --model FILE and --data FILE\n\nUsage: apply_serve [OPTIONS]\n\nFor more information, try '--help'.\n",
+        "apply_serve: mode serve wants --model FILE and --data FILE; see apply_serve --help",
     ),
     (
         &["--model", "m", "--model", "n", "--data", "d"],
-        "error: the argument '--model <FILE>' cannot be used multiple times\n\nUsage: apply_serve [OPTIONS]\n\nFor more information, try '--help'.\n",
+        "apply_serve: the argument '--model <FILE>' cannot be used multiple times; see apply_serve --help",
+    ),
+    (
+        &["--model", "m", "--data"],
+        "apply_serve: a value is required for '--data <FILE>' but none was supplied; see apply_serve --help",
+    ),
+    (
+        &["--modle", "m"],
+        "apply_serve: unexpected argument '--modle' found; tip: a similar argument exists: '--mode'; see apply_serve --help",
+    ),
+    (
+        &["m\u{1b}[31m\n\nUsage: x"],
+        "apply_serve: unexpected argument 'm\\u001b[31m\\n\\nUsage: x' found; see apply_serve --help",
     ),
 ];
 

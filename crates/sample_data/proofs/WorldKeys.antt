@@ -58,8 +58,8 @@ module _ (c g n : ℕ) (amounts : ℕ → Value) (buyers sellers : ℕ → ℕ) 
   no_earlier_key zero q h = let within : q < c = omega (arith, made_length customer c) in no_earlier customer 1 c q within (λ j less. names_differ 67 q j (omega arith) less)
   no_earlier_key (suc zero) q h = let within : q < g = omega (arith, made_length org g) in no_earlier org 0 g q within (λ j less. names_differ 79 q j (omega arith) less)
   no_earlier_key (suc (suc zero)) q h =
-      let row = sale_row amounts buyers sellers in
-      let within : q < n = omega (arith, made_length row n) in no_earlier row 2 n q within (λ j less. numbers_differ q j less)
+      let sold = sale_row amounts buyers sellers in
+      let within : q < n = omega (arith, made_length sold n) in no_earlier sold 2 n q within (λ j less. numbers_differ q j less)
   no_earlier_key (suc (suc (suc s))) q h = absurd (omega arith)
 
   -- the keys of each set differ

@@ -4,8 +4,8 @@
 //! `--max-bytes N`, `--plan written|optimised`, `--mode serve|check|gen` and `--count N`, each at most once.
 //! [`usage_text`] says what is wrong with words that it refuses.
 //!
-//! The crate stands on `clap`, which reads the words as one command without subcommands, and on `edm_values` for texts and
-//! digits. It promises that the answer is the one of `settings_in` in `specs/Command.antt`: options come exactly where
+//! The crate stands on `clap`, which reads the words as one command without subcommands, on `edm_values` for texts and
+//! digits, and on `quoted_text` for words that are shown. It promises that the answer is the one of `settings_in` in `specs/Command.antt`: options come exactly where
 //! `clap`'s statement of the command takes the words and their values keep the rules of `settings_of` in
 //! `specs/Options.antt`, and only want of memory may come in place of an answer. The wording of `usage_text` is shown by
 //! tests only.
@@ -102,16 +102,15 @@ pub fn read_options(alloc: Global, words: &[String]) -> Result<Options, OptionsR
     Ok(asked.own(alloc)?)
 }
 
-/// What is wrong with words that [`read_options`] refuses by `Usage`, as text for the standard error: what `clap` says, with
-/// the help text for a call for help, or which rule a value breaks. For words that name a run it is empty. Control characters
-/// of the words are written out, so that they can't disturb a terminal. That it comes is proved; what it says is shown by
-/// tests only.
+/// What is wrong with words that [`read_options`] refuses by `Usage`, in one line without an end: what `clap` says, or which
+/// rule a value breaks; for a call for help the help text. For words that name a run it is empty. Characters of the words that
+/// a terminal would obey stand there by their numbers. That it comes is proved; what it says is shown by tests only.
 pub fn usage_text(alloc: Global, words: &[String]) -> Result<String, AllocError> {
     match given_values(alloc, words) {
         Ok(given) => match check_values(given) {
             Ok(_) => Ok(String::new(alloc)),
             Err(problem) => problem_text(alloc, &problem),
         },
-        Err(error) => refusal_text(alloc, &error),
+        Err(error) => refusal_text(alloc, words, &error),
     }
 }

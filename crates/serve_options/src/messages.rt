@@ -1,55 +1,88 @@
 //! The texts for words that are refused.
 use crate::rules::Problem;
-use crate::words::command;
+use crate::words::given_values;
 use clap::Error;
 use clap::error::ErrorKind;
+use quoted_text::{escaped, quoted};
 use std::alloc::{AllocError, Global};
-use std::fmt;
 
-impl fmt::Display for Problem<'_> {
-    fn fmt<W: fmt::Write>(&self, f: &mut fmt::Formatter<W>) -> fmt::Result {
-        match self {
-            Problem::Number {
-                option,
-                least,
-                most,
-                given,
-            } => write!(
-                f,
-                "{option} takes a whole number from {least} to {most}, not {given:?}"
-            ),
-            Problem::Plan(given) => write!(f, "--plan takes written or optimised, not {given:?}"),
-            Problem::Mode(given) => write!(f, "--mode takes serve, check or gen, not {given:?}"),
-            Problem::Files(mode) => write!(f, "mode {mode} wants --model FILE and --data FILE"),
-        }
-    }
+/// A line that says what is wrong with the words.
+fn line(alloc: Global, problem: &str) -> Result<String, AllocError> {
+    format!(in alloc; "apply_serve: {problem}; see apply_serve --help")
 }
 
-/// The text with each control character but the ends of lines written out, so that it can't disturb a terminal.
-fn quiet(alloc: Global, text: &str) -> Result<String, AllocError> {
-    let mut quiet = String::new(alloc);
-    for c in text.chars() {
-        if c.is_control() && c != '\n' {
-            write!(quiet, "\\u{{{:x}}}", c as u32)?;
-        } else {
-            quiet.push(c)?;
-        }
-    }
-    Ok(quiet)
-}
-
-/// What `clap` says of words that do not meet the command.
-pub(crate) fn refusal_text(alloc: Global, error: &Error) -> Result<String, AllocError> {
-    if error.kind() == ErrorKind::OutOfMemory {
-        return Err(AllocError);
-    }
-    let text = format!(in alloc; "{error}")?;
-    quiet(alloc, text.as_str())
-}
-
-/// Which rule a value breaks, and how the command is used.
+/// Which rule a value breaks.
 pub(crate) fn problem_text(alloc: Global, problem: &Problem<'_>) -> Result<String, AllocError> {
-    let mut command = command(alloc)?;
-    let usage = command.render_usage()?;
-    format!(in alloc; "error: {problem}\n\n{usage}\n\nFor more information, try '--help'.\n")
+    let text = match problem {
+        Problem::Number {
+            option,
+            least,
+            most,
+            given,
+        } => {
+            let given = quoted(alloc, given)?;
+            format!(in alloc; "{option} takes a whole number from {least} to {most}, not {given}")?
+        }
+        Problem::Plan(given) => {
+            let given = quoted(alloc, given)?;
+            format!(in alloc; "--plan takes written or optimised, not {given}")?
+        }
+        Problem::Mode(given) => {
+            let given = quoted(alloc, given)?;
+            format!(in alloc; "--mode takes serve, check or gen, not {given}")?
+        }
+        Problem::Files(mode) => {
+            format!(in alloc; "mode {mode} wants --model FILE and --data FILE")?
+        }
+    };
+    line(alloc, text.as_str())
+}
+
+/// The words as they may be shown on a terminal. No option has a name that this changes, so what is wrong with the words is
+/// wrong with these.
+fn shown_words(alloc: Global, words: &[String]) -> Result<Vec<String>, AllocError> {
+    let mut shown = Vec::with_capacity(alloc, words.len())?;
+    for word in words {
+        shown.push(escaped(alloc, word.as_str())?)?;
+    }
+    Ok(shown)
+}
+
+/// What stands in a text of `clap` before the usage and the hint at `--help`, in one line without the word `error`.
+fn joined(alloc: Global, text: &str) -> Result<String, AllocError> {
+    let mut out = String::new(alloc);
+    for line in text.lines() {
+        let line = line.trim();
+        if line.starts_with("Usage:") || line.starts_with("For more information") {
+            break;
+        }
+        if line.is_empty() {
+            continue;
+        }
+        if !out.is_empty() {
+            out.push_str("; ")?;
+        }
+        out.push_str(line.strip_prefix("error: ").unwrap_or(line))?;
+    }
+    Ok(out)
+}
+
+/// What `clap` says of words that do not meet the command; for a call for help the help text.
+pub(crate) fn refusal_text(
+    alloc: Global,
+    words: &[String],
+    error: &Error,
+) -> Result<String, AllocError> {
+    match error.kind() {
+        ErrorKind::OutOfMemory => return Err(AllocError),
+        ErrorKind::DisplayHelp => return format!(in alloc; "{error}"),
+        _ => {}
+    }
+    let shown = shown_words(alloc, words)?;
+    let text = match given_values(alloc, shown.as_slice()) {
+        Ok(_) => String::from_str(alloc, "the words do not meet the command")?,
+        Err(error) => format!(in alloc; "{error}")?,
+    };
+    let problem = joined(alloc, text.as_str())?;
+    line(alloc, problem.as_str())
 }

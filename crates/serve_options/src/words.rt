@@ -51,12 +51,14 @@ pub(crate) fn command<'a>(alloc: Global) -> Result<Command<'a>, AllocError>
     let with_model = with_option(alloc, bare, "model", "FILE", model)?;
     let entities = "The data file, for modes serve and check";
     let with_entities = with_option(alloc, with_model, "data", "FILE", entities)?;
-    let workers = "How many threads work on a request, from 1 to 64 [default: 4]";
+    let workers =
+        "How many workers a request may have, from 1 to 64; one is used as yet [default: 4]";
     let with_workers = with_option(alloc, with_entities, "workers", "N", workers)?;
     let max_bytes =
         "How many bytes of input are taken, from 0 to 9223372036854775807 [default: 1073741824]";
     let with_max_bytes = with_option(alloc, with_workers, "max-bytes", "N", max_bytes)?;
-    let plan = "How a pipeline runs: written or optimised [default: optimised]";
+    let plan =
+        "How a pipeline runs: written or optimised; both run what was written as yet [default: optimised]";
     let with_plan = with_option(alloc, with_max_bytes, "plan", "PLAN", plan)?;
     let mode = "What is done: serve, check or gen [default: serve]";
     let with_mode = with_option(alloc, with_plan, "mode", "MODE", mode)?;

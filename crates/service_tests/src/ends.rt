@@ -1,10 +1,10 @@
 //! How runs end: limits, faults, and what reads offer.
 ghost use Rattle.std.specs.Prelude.{None};
 
-use crate::runs::{Case, PLAIN, outcome, outcome_of, outcome_over, texts, words};
-use crate::worlds::{FIRST, RESPONSES};
+use crate::worlds::{FIRST, PLAIN, RESPONSES};
 use apply_io::{Failed, Source};
 use apply_service::Status;
+use run_support::{Case, outcome, outcome_of, outcome_over, texts, words};
 use std::test::Fail;
 
 #[test]

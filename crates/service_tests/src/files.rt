@@ -1,7 +1,7 @@
 //! Refused files and custom aggregates, each with its line.
-use crate::runs::{Case, PLAIN, outcome};
-use crate::worlds::{DATA, DEFINITION, MODEL, ORGS};
+use crate::worlds::{DATA, DEFINITION, MODEL, ORGS, PLAIN};
 use apply_service::Status;
+use run_support::{Case, outcome};
 use std::test::Fail;
 use test_support::samples::{SALES_DATA, SAMPLE};
 

@@ -1,6 +1,6 @@
 //! Tests of the service: the worked rows through `serve` (`apply_service`), over objects in memory.
 //!
-//! `worlds` has the files and lines that tests share and `runs` runs the service over them; `lines` has requests with their
+//! `worlds` has the files and lines that tests share, and `run_support` runs the service over them; `lines` has requests with their
 //! responses, `files` refused files with their lines, `words` the words of the command, `modes` what each mode writes, and
 //! `ends` how runs end.
 #![tactic(auto)]
@@ -13,8 +13,6 @@ mod files;
 mod lines;
 #[cfg(test)]
 mod modes;
-#[cfg(test)]
-mod runs;
 #[cfg(test)]
 mod words;
 #[cfg(test)]

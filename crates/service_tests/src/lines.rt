@@ -1,7 +1,7 @@
 //! Lines of requests and their responses.
-use crate::runs::{Case, PLAIN, outcome, outcome_of, words};
-use crate::worlds::{FIRST, RESPONSES};
+use crate::worlds::{FIRST, PLAIN, RESPONSES};
 use apply_service::Status;
+use run_support::{Case, outcome, outcome_of, words};
 use std::alloc::Global;
 use std::process::Abort;
 use std::test::Fail;

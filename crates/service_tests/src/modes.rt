@@ -1,6 +1,7 @@
 //! What each mode writes, and that workers and the plan change nothing.
-use crate::runs::{Case, PLAIN, outcome, outcome_of, texts};
+use crate::worlds::PLAIN;
 use apply_service::Status;
+use run_support::{Case, outcome, outcome_of, texts};
 use std::test::Fail;
 use test_support::samples::{CYCLE_DATA, SALES_DATA, SAMPLE};
 

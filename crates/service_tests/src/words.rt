@@ -1,7 +1,7 @@
 //! The words of the command.
-use crate::runs::{PLAIN, outcome_of, texts};
-use crate::worlds::LINES;
+use crate::worlds::{LINES, PLAIN};
 use apply_service::Status;
+use run_support::{outcome_of, texts};
 use std::test::Fail;
 
 const NAMED: &[&str] = &["--model", "m", "--data", "d"];

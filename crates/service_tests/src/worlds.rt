@@ -1,4 +1,5 @@
 //! Model files, data files, lines of requests and responses that tests share.
+use run_support::Case;
 
 /// One entity set with a key and an amount.
 pub(crate) const MODEL: &str =
@@ -26,3 +27,15 @@ pub(crate) const FIRST: &[u8] =
 /// The definition of the sample's custom aggregate.
 pub(crate) const DEFINITION: &str =
     "{\"Of\":\"Amount\",\"With\":\"sum\",\"Per\":[\"CustomerID\"],\"Then\":\"max\"}";
+
+/// A run over one set of sales, whose calls all succeed.
+pub(crate) const PLAIN: Case<'static> = Case {
+    words: &[],
+    model: MODEL,
+    data: DATA,
+    input: LINES,
+    most: 4096,
+    folder_fails: 0,
+    input_fails: 0,
+    output_fails: 0,
+};

@@ -1,0 +1,4 @@
+pub mod FileLaws
+pub mod Searches
+pub mod SetKeys
+pub mod ShapeFaults

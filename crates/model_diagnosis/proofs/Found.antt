@@ -1,0 +1,87 @@
+-- What fails a test stands among the members that are searched, so the part that it belongs to is at fault.
+use Rattle.std.proofs.Common.{◌≡◌, ℕ, ◌<◌, Bool, true, false, not, List, [], map, length, get_or, Some, sym, ◌∙◌, ap, subst, codes}
+use Rattle.std.specs.Prelude.{◌&&◌, Option, option_map, unwrap_or, slice_get}
+use Rattle.std.specs.List.{list_any, Contains}
+use Rattle.std.proofs.lemmas.List.{get_or-map}
+use Rattle.std.proofs.lemmas.Option.{slice_get-map, slice_get-get_or, get_or_from_slice_get}
+use Rattle.std.proofs.lemmas.List.Folds.{list_any_at}
+use Rattle.serde_json.specs.Data.{Data}
+use Rattle.edm_values.specs.Lists.{same_text, places, is_some_and}
+use Rattle.edm_values.proofs.SameTexts.{text-self}
+use Rattle.edm_schema.specs.JsonTrees as tree
+use Rattle.edm_schema.specs.JsonTrees.{lacks}
+use Rattle.edm_schema.specs.ModelTrees.{type_members, type_place, type_tree}
+use Rattle.edm_schema.specs.MemberLists.{type_seen, tree_of, root_of, IsSchema}
+use Rattle.edm_schema.specs.declared.schema.TypeTree.{TypeTree}
+use Rattle.edm_schema.specs.declared.schema.Schema.{Schema}
+use Rattle.edm_schema.proofs.Counted.{mapped_place}
+use Rattle.edm_schema.proofs.Mapped.{length-mapped, list_any-map}
+use Rattle.edm_schema.proofs.SchemaParts.{tree_at}
+use Rattle.model_diagnosis.specs.declared.faults.TypeFault.{TypeFault}
+use Rattle.model_diagnosis.specs.declared.faults.ReferenceTest.{ReferenceTest}
+use Rattle.model_diagnosis.specs.declared.faults.CollectionTest.{CollectionTest}
+use Rattle.model_diagnosis.specs.Faults.{some_at, type_name, is_type_fault, passes_reference, passes_collection, fails_reference, fails_collection}
+use Rattle.model_diagnosis.proofs.Tests.{and_from, any_place}
+
+-- a test that one of what is searched passes
+pub any_seen : {X : Type 0} (f : X → tree.Member) (p : tree.Member → Bool) (items : List X) (ms : List tree.Member) (i : ℕ) (x : X) → map f items ≡ ms → i < length items → x ≡ get_or items i x → p (f x) ≡ true → list_any p ms ≡ true
+any_seen f p items ms i x same within is passes =
+    subst (λ (ys : List tree.Member). list_any p ys ≡ true) same (list_any-map p f items ∙ list_any_at (λ y. p (f y)) items i x within (ap (λ y. p (f y)) (sym is) ∙ passes))
+
+-- what is searched has a member of this one's name that passes
+pub some_seen : {X : Type 0} (f : X → tree.Member) (has : Data → Bool) (items : List X) (ms : List tree.Member) (i : ℕ) (x : X) → map f items ≡ ms → i < length items → x ≡ get_or items i x → has (f x).1 ≡ true → some_at (f x).0 has ms ≡ true
+some_seen f has items ms i x same within is passes =
+    any_seen f (λ m. same_text m.0 (f x).0 && has m.1) items ms i x same within is (and_from (same_text (f x).0 (f x).0) (has (f x).1) (text-self (f x).0) passes)
+
+-- an item that is searched is among the members
+pub among_seen : {X : Type 0} (f : X → tree.Member) (items : List X) (ms : List tree.Member) (i : ℕ) (x : X) → map f items ≡ ms → i < length items → x ≡ get_or items i x → Contains ms (f x)
+among_seen f items ms i x same within is =
+    subst (λ (ys : List tree.Member). Contains ys (f x)) same (i, subst (λ n. i < n) (sym (length-mapped f items)) within, get_or-map f items i x (f x) within ∙ ap f (sym is))
+
+-- of these members one of this one's name passes
+pub some_among : (has : Data → Bool) (ms : List tree.Member) (m : tree.Member) → Contains ms m → has m.1 ≡ true → some_at m.0 has ms ≡ true
+some_among has ms m at passes =
+    list_any_at (λ n. same_text n.0 m.0 && has n.1) ms at.0 m at.1 (ap (λ (n : tree.Member). same_text n.0 m.0 && has n.1) at.2 ∙ and_from (same_text m.0 m.0) (has m.1) (text-self m.0) passes)
+
+-- ---- entity types
+
+name_at : (s : Schema) → IsSchema s → (k : ℕ) (t : TypeTree) → t ≡ get_or s.types.items k t → k < length s.types.items → type_name (root_of s) k ≡ t.name.now
+name_at s h k t is within =
+    ap (λ (ms : List tree.Member). unwrap_or (option_map (λ m. m.0) (slice_get ms k)) []) (sym h.types)
+    ∙ (ap (λ (o : Option tree.Member). unwrap_or (option_map (λ m. m.0) o) []) (slice_get-map type_seen s.types.items k ∙ ap (option_map type_seen) (slice_get-get_or s.types.items k t within))
+    ∙ ap (λ (u : TypeTree). u.name.now) (sym is))
+
+-- there are as many types
+pub as_many : (s : Schema) → IsSchema s → length (type_members (root_of s)) ≡ length s.types.items
+as_many s h = sym (sym (length-mapped type_seen s.types.items) ∙ ap length h.types)
+
+-- a test that a type passes at its place
+pub any_type : (s : Schema) → IsSchema s → (p : ℕ → Bool) (k : ℕ) (t : TypeTree) → t ≡ get_or s.types.items k t → k < length s.types.items → p k ≡ true → list_any (λ j. same_text (type_name (root_of s) j) t.name.now && p j) (places (length (type_members (root_of s)))) ≡ true
+any_type s h p k t is within passes =
+    any_place (λ j. same_text (type_name (root_of s) j) t.name.now && p j) (length (type_members (root_of s))) k
+    (subst (λ n. k < n) (sym (as_many s h)) within)
+    (and_from (same_text (type_name (root_of s) k) t.name.now) (p k) (ap (λ n. same_text n t.name.now) (name_at s h k t is within) ∙ text-self t.name.now) passes)
+
+-- a fault of a type that stands at a place of the file
+pub type_fault : (s : Schema) → IsSchema s → (k : ℕ) (t : TypeTree) (f : TypeFault) → t ≡ get_or s.types.items k t → k < length s.types.items → is_type_fault (root_of s) k (tree_of t) f ≡ true → list_any (λ j. same_text (type_name (root_of s) j) t.name.now && is_type_fault (root_of s) j (type_tree (root_of s) j) f) (places (length (type_members (root_of s)))) ≡ true
+type_fault s h k t f is within fault =
+    any_type s h (λ j. is_type_fault (root_of s) j (type_tree (root_of s) j) f) k t is within (ap (λ u. is_type_fault (root_of s) k u f) (sym (tree_at s h k t is within)) ∙ fault)
+
+-- ---- navigations
+
+-- a single-valued navigation to this target that fails a test
+pub reference_fails : (d t target n : Data) (p : ℕ) (test : ReferenceTest) → Some p ≡ type_place d n → target ≡ type_tree d p → lacks (codes "$Collection") n ≡ true → passes_reference test t target n ≡ false → fails_reference d t test n ≡ true
+reference_fails d t target n p test place is one fails =
+    and_from (lacks (codes "$Collection") n) _ one (subst (λ (o : Option ℕ). is_some_and (λ q. not (passes_reference test t (type_tree d q) n)) o ≡ true) place (ap not (ap (λ u. passes_reference test t u n) (sym is) ∙ fails)))
+
+-- a collection-valued navigation to this target that fails a test
+pub collection_fails : (d : Data) (k : ℕ) (target n : Data) (p : ℕ) (test : CollectionTest) → Some p ≡ type_place d n → target ≡ type_tree d p → lacks (codes "$Collection") n ≡ false → passes_collection test d k target n ≡ false → fails_collection d k test n ≡ true
+collection_fails d k target n p test place is many fails =
+    and_from (not (lacks (codes "$Collection") n)) _ (ap not many) (subst (λ (o : Option ℕ). is_some_and (λ q. not (passes_collection test d k (type_tree d q) n)) o ≡ true) place (ap not (ap (λ u. passes_collection test d k u n) (sym is) ∙ fails)))
+
+-- ---- counts
+
+-- what a list of what a function gives at each place has at one of them
+pub count_at : (f : ℕ → ℕ) (n k : ℕ) (xs : List ℕ) (x : ℕ) → xs ≡ map f (places n) → k < n → x ≡ get_or xs k x → x ≡ f k
+count_at f n k xs x same below is =
+    is ∙ (ap (λ ys. get_or ys k x) same ∙ get_or_from_slice_get (map f (places n)) k (f k) x (mapped_place f n k below))

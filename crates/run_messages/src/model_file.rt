@@ -1,0 +1,216 @@
+//! What is wrong with a model file.
+use crate::customs::custom_reason;
+use crate::json_text::json_reason;
+use crate::rules::{
+    Demand, collection_demand, container_demand, definition_demand, hierarchy_demand, key_demand,
+    property_demand, reference_demand, root_demand, set_demand,
+};
+use crate::values::{kind_words, shown_text};
+use edm_model::MODEL_LIMIT;
+use edm_schema::read_schema;
+use model_diagnosis::{Fault, TypeFault, first_fault};
+use serde_json::Value;
+use std::alloc::{AllocError, Global};
+
+/// A part that is at fault by its kind and its name, and what it has to be.
+fn demanded(alloc: Global, kind: &str, name: &str, demand: Demand) -> Result<String, AllocError> {
+    let name = shown_text(alloc, name)?;
+    let Demand { rule, words } = demand;
+    format!(in alloc; "{kind} {name}: {words} (rule {rule})")
+}
+
+/// A part that has a member which no rule names.
+fn unknown_member(
+    alloc: Global,
+    kind: &str,
+    name: &str,
+    other: &str,
+    rule: u8,
+) -> Result<String, AllocError> {
+    let name = shown_text(alloc, name)?;
+    let other = shown_text(alloc, other)?;
+    format!(in alloc; "{kind} {name} may not have a member {other} (rule {rule})")
+}
+
+/// A name that is no simple identifier.
+fn unnamed(alloc: Global, kind: &str, name: &str) -> Result<String, AllocError> {
+    demanded(
+        alloc,
+        kind,
+        name,
+        Demand {
+            rule: 10,
+            words: "its name must be a simple identifier: at most 128 letters A to Z and a to z, digits and _, not beginning with a digit, and no reserved word (docs/grammar.md)",
+        },
+    )
+}
+
+/// What is at fault in the navigation properties of an entity type.
+fn navigation_text(alloc: Global, fault: &TypeFault<'_>) -> Result<Option<String>, AllocError> {
+    let kind = "navigation property";
+    Ok(Some(match fault {
+        TypeFault::Target(name) => demanded(
+            alloc,
+            kind,
+            name,
+            Demand {
+                rule: 6,
+                words: "\"$Type\" must be the namespace, a point and the name of an entity type of the schema",
+            },
+        )?,
+        TypeFault::Reference(name, test) => {
+            demanded(alloc, kind, name, reference_demand(*test))?
+        }
+        TypeFault::ReferenceMember(name, other) => unknown_member(alloc, kind, name, other, 7)?,
+        TypeFault::Collection(name, test) => demanded(alloc, kind, name, collection_demand(*test))?,
+        TypeFault::CollectionMember(name, other) => unknown_member(alloc, kind, name, other, 8)?,
+        _ => return Ok(None),
+    }))
+}
+
+/// What is at fault in the hierarchies and custom aggregates of an entity type.
+fn term_text(alloc: Global, fault: &TypeFault<'_>) -> Result<Option<String>, AllocError> {
+    Ok(Some(match fault {
+        TypeFault::Hierarchy(name, test) => {
+            demanded(alloc, "recursive hierarchy", name, hierarchy_demand(*test))?
+        }
+        TypeFault::HierarchyMember(name, other) => {
+            unknown_member(alloc, "recursive hierarchy", name, other, 11)?
+        }
+        TypeFault::Aggregate(name) => demanded(
+            alloc,
+            "custom aggregate",
+            name,
+            Demand {
+                rule: 12,
+                words: "its value must be a string",
+            },
+        )?,
+        TypeFault::Definition(name, test) => {
+            demanded(alloc, "custom aggregate", name, definition_demand(*test))?
+        }
+        TypeFault::DefinitionMember(name, other) => {
+            unknown_member(alloc, "definition of custom aggregate", name, other, 13)?
+        }
+        _ => return Ok(None),
+    }))
+}
+
+/// What is at fault in what an entity type has of its own.
+fn own_text(alloc: Global, fault: &TypeFault<'_>) -> Result<String, AllocError> {
+    match fault {
+        TypeFault::Member(name) => demanded(
+            alloc,
+            "member",
+            name,
+            Demand {
+                rule: 4,
+                words: "it must be an object, with no \"$Kind\" or with \"$Kind\" \"Property\" or \"NavigationProperty\"",
+            },
+        ),
+        TypeFault::Property(name, test) => {
+            demanded(alloc, "property", name, property_demand(*test))
+        }
+        TypeFault::PropertyMember(name, other) => {
+            unknown_member(alloc, "property", name, other, 4)
+        }
+        TypeFault::Key(test) => {
+            let Demand { rule, words } = key_demand(*test);
+            format!(in alloc; "{words} (rule {rule})")
+        }
+        TypeFault::Name(name) => unnamed(alloc, "member", name),
+        _ => Ok(String::new(alloc)),
+    }
+}
+
+/// What is at fault in an entity type.
+fn type_text(alloc: Global, name: &str, fault: &TypeFault<'_>) -> Result<String, AllocError> {
+    let name = shown_text(alloc, name)?;
+    let text = match navigation_text(alloc, fault)? {
+        Some(text) => text,
+        None => match term_text(alloc, fault)? {
+            Some(text) => text,
+            None => own_text(alloc, fault)?,
+        },
+    };
+    format!(in alloc; "entity type {name}: {text}")
+}
+
+/// What is at fault in the root and the members of the schema.
+fn outer_text(alloc: Global, fault: &Fault<'_>) -> Result<String, AllocError> {
+    match fault {
+        Fault::Root(test) => {
+            let Demand { rule, words } = root_demand(*test);
+            format!(in alloc; "{words} (rule {rule})")
+        }
+        Fault::RootMember(name) => demanded(
+            alloc,
+            "member",
+            name,
+            Demand {
+                rule: 1,
+                words: "the root may have \"$Version\", \"$EntityContainer\" and one schema",
+            },
+        ),
+        Fault::SchemaMember(name) => demanded(
+            alloc,
+            "member",
+            name,
+            Demand {
+                rule: 2,
+                words: "it must be an object of \"$Kind\" \"EntityType\" or \"EntityContainer\"",
+            },
+        ),
+        Fault::Containers(test) => {
+            let Demand { rule, words } = container_demand(*test);
+            format!(in alloc; "{words} (rule {rule})")
+        }
+        _ => Ok(String::new(alloc)),
+    }
+}
+
+/// What is at fault, as a text.
+fn fault_text(alloc: Global, fault: &Fault<'_>) -> Result<String, AllocError> {
+    match fault {
+        Fault::Type(name, fault) => type_text(alloc, name, fault),
+        Fault::Set(name, test) => demanded(alloc, "entity set", name, set_demand(*test)),
+        Fault::SetMember(name, other) => unknown_member(alloc, "entity set", name, other, 9),
+        Fault::SetCount(name) => demanded(
+            alloc,
+            "entity type",
+            name,
+            Demand {
+                rule: 9,
+                words: "the container must have exactly one entity set of it",
+            },
+        ),
+        Fault::TypeName(name) => unnamed(alloc, "entity type", name),
+        Fault::SetName(name) => unnamed(alloc, "entity set", name),
+        _ => outer_text(alloc, fault),
+    }
+}
+
+/// What is wrong with a JSON tree as a model file.
+fn tree_reason(alloc: Global, bytes: &[u8], root: &Value) -> Result<Option<String>, AllocError> {
+    if !root.is_object() {
+        let kind = kind_words(root);
+        return Ok(Some(format!(in alloc; "the file holds {kind}, and must hold an object")?));
+    }
+    let schema = read_schema(alloc, root)?;
+    match first_fault(alloc, &schema)? {
+        Some(fault) => Ok(Some(fault_text(alloc, &fault)?)),
+        None => custom_reason(alloc, bytes),
+    }
+}
+
+/// What is wrong with the bytes of a model file, in one line without an end; nothing where nothing is found.
+pub(crate) fn model_reason(alloc: Global, bytes: &[u8]) -> Result<Option<String>, AllocError> {
+    if bytes.len() > MODEL_LIMIT {
+        return Ok(Some(format!(in alloc; "the file has more than {MODEL_LIMIT} bytes")?));
+    }
+    match Value::from_slice(alloc, bytes) {
+        Ok(root) => tree_reason(alloc, bytes, &root),
+        Err(error) if error.is_memory() => Err(AllocError),
+        Err(error) => Ok(Some(json_reason(alloc, bytes, &error)?)),
+    }
+}

@@ -1,0 +1,140 @@
+//! Runs of the service over objects in memory.
+ghost use Rattle.std.specs.Prelude.{◌≡◌, ◌<◌};
+
+use apply_io::{Folder, MemFolder, MemSink, MemSource, Sink, Source};
+use apply_meaning::Steps;
+use apply_service::{Status, serve};
+use par_stages::NoGate;
+use std::alloc::Global;
+use std::marker::Brand;
+use std::sync::ledger::{Blank, Ledger};
+use std::test::Fail;
+use std::thread::Threads;
+
+/// What a run is given: further words behind those that name the two files, and the calls on the folder, the source and the
+/// sink with these numbers fail, where they are not 0.
+#[derive(Clone, Copy)]
+pub struct Case<'a> {
+    pub words: &'a [&'a str],
+    pub model: &'a str,
+    pub data: &'a str,
+    pub input: &'a [u8],
+    pub most: usize,
+    pub folder_fails: u64,
+    pub input_fails: u64,
+    pub output_fails: u64,
+}
+
+/// How a run ended, and what it wrote.
+#[derive(Drop)]
+pub struct RunResult {
+    pub status: Status,
+    pub output: Vec<u8>,
+}
+
+/// The number alone, or nothing for 0.
+pub fn only(alloc: Global, number: u64) -> Result<Vec<u64>, Fail> {
+    let mut numbers = Vec::new(alloc);
+    if number > 0 {
+        numbers.push(number)?;
+    }
+    Ok(numbers)
+}
+
+/// Words as texts.
+pub fn texts(alloc: Global, words: &[&str]) -> Result<Vec<String>, Fail> {
+    let mut texts = Vec::new(alloc);
+    for word in words {
+        texts.push(String::from_str(alloc, word)?)?;
+    }
+    Ok(texts)
+}
+
+/// The words that name the two files, and those of the case.
+pub fn words(alloc: Global, case: &Case<'_>) -> Result<Vec<String>, Fail> {
+    let mut words = texts(alloc, &["--model", "m", "--data", "d"])?;
+    for word in case.words {
+        words.push(String::from_str(alloc, word)?)?;
+    }
+    Ok(words)
+}
+
+/// The two files of a case.
+pub fn files(alloc: Global, case: &Case<'_>) -> Result<Vec<(String, Vec<u8>)>, Fail> {
+    let mut files = Vec::new(alloc);
+    files.push((
+        String::from_str(alloc, "m")?,
+        case.model.as_bytes().to_vec(alloc)?,
+    ))?;
+    files.push((
+        String::from_str(alloc, "d")?,
+        case.data.as_bytes().to_vec(alloc)?,
+    ))?;
+    Ok(files)
+}
+
+/// Serves with a new counter of steps.
+fn serve_counted<R: Threads + Sync, F: Folder, S: Source, K: Sink, L: Ledger>(
+    rt: &R,
+    alloc: Global,
+    words: &[String],
+    folder: &mut F,
+    input: &mut S,
+    output: &mut K,
+    blank: Blank,
+) -> Status
+    requires name { blank.name ≡ L.name }
+    requires parts { blank.parts ≡ L.parts }
+    requires some { 0 < blank.parts }
+{
+    let mut steps = Steps::<L>::new(blank);
+    serve(rt, alloc, words, folder, input, output, &NoGate, &mut steps)
+}
+
+/// Runs the service over a source.
+pub fn outcome_over<R: Threads + Sync, S: Source>(
+    rt: &R,
+    alloc: Global,
+    case: &Case,
+    words: &[String],
+    input: &mut S,
+) -> Result<RunResult, Fail> {
+    let mut folder = MemFolder::new(files(alloc, case)?, only(alloc, case.folder_fails)?);
+    let most = case.most.max(1);
+    let mut output = MemSink::new(alloc, 4096, most, only(alloc, case.output_fails)?)?;
+    let status = serve_counted::<_, _, _, _, Brand>(
+        rt,
+        alloc,
+        words,
+        &mut folder,
+        input,
+        &mut output,
+        Blank::new(1),
+    );
+    Ok(RunResult {
+        status,
+        output: output.bytes().to_vec(alloc)?,
+    })
+}
+
+/// Runs the service over bytes of the input.
+pub fn outcome_of<R: Threads + Sync>(
+    rt: &R,
+    alloc: Global,
+    case: &Case<'_>,
+    words: &[String],
+    input: Vec<u8>,
+) -> Result<RunResult, Fail> {
+    let mut input = MemSource::new(input, case.most.max(1), only(alloc, case.input_fails)?);
+    outcome_over(rt, alloc, case, words, &mut input)
+}
+
+/// Runs the service over the case's input.
+pub fn outcome<R: Threads + Sync>(
+    rt: &R,
+    alloc: Global,
+    case: &Case<'_>,
+) -> Result<RunResult, Fail> {
+    let words = words(alloc, case)?;
+    outcome_of(rt, alloc, case, words.as_slice(), case.input.to_vec(alloc)?)
+}
