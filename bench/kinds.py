@@ -1,35 +1,25 @@
-#!/usr/bin/env python3
-"""Measures how long the service takes to answer a request of each kind that is built, beside SQLite.
+"""The requests that `bench/measure` and `bench/compare` time: what they are, over which sales, and how one answer is timed.
 
-    bench/answers [--groupings | --joins | --hierarchies] [--program FILE] [--counts N,N,..] [--requests NAME,NAME,..] [--times K]
+A request is a line, or a pipeline over the sales, beside a statement of SQLite that is meant to say the same. The kinds
+differ in the numbers of sales over which they are timed. Rows and joins take time that grows with the rows that they
+read and make. Groupings search a table of keys from its front, so that their time grows with the rows times the groups;
+`group_keys` has a group for each sale. Recursive rollups go through the rows once for each node that is shown.
 
-The program is crates/apply_serve/out/apply_serve unless another is named; `rt run` in crates/apply_serve makes it.
-For each count the script writes the sales world of `bench/load` with so many sales, and for each request prints the bytes
-of its body, the seconds of one answer, the megabytes of body a second, and the seconds that SQLite takes for a statement
-that means the same, on the same data and machine, all of its rows fetched. The time of an answer is that of a run over
-K + 1 copies of the line less that of a run over one, by K, each the best of three runs. SQLite has the data in memory,
-amounts as whole hundredths, and its time is the best of five.
-
-Without a flag the requests are those whose time grows with the rows, at 50,000 sales and more, and so are the joins,
-concatenations and selections of `--joins`. With `--groupings` they are groupings, at 2,000 and 4,000 sales: a table of
-keys is searched from its front, so that their time grows with the rows times the groups. `group_keys` has a group for
-each sale. With `--hierarchies` they are climbs, traversals and recursive rollups, at 10,000 and 20,000 sales, with an
-organisation for each 200: a recursive rollup goes through the rows once for each node that is shown.
+The time of an answer is that of a run over K + 1 copies of the line less that of a run over one, by K, each the best of
+three runs.
 """
 import argparse
 import importlib.machinery
 import importlib.util
-import json
 import os
 import pathlib
-import sqlite3
 import subprocess
 import sys
 import tempfile
 import time
 
 HERE = pathlib.Path(__file__).resolve().parent
-REQUESTS = {
+ROWS = {
     "sum": ("aggregate(Amount with sum as T,$count as N)", "select sum(amount), count(*) from sales"),
     "least_and_distinct": (
         "aggregate(Amount with min as L,Amount with max as M,OrgID with countdistinct as D)",
@@ -72,6 +62,7 @@ GROUPINGS = {
         "groupby((Customer/Country),aggregate(Amount with sum as T))",
         "select c.country, sum(amount) from sales join customers c on c.id = customer group by c.country",
     ),
+    "custom": ("aggregate(Best)", "select max(t) from (select sum(amount) as t from sales group by customer)"),
     "group_keys": ("groupby((ID))", "select id from sales group by id"),
     "group_tops": (
         "groupby((CustomerID),orderby(Amount desc)/top(3))",
@@ -156,18 +147,64 @@ HIERARCHIES = {
     ),
 }
 
+# each kind with its requests and the numbers of sales
+KINDS = {
+    "rows": (ROWS, "50000,100000,200000"),
+    "groupings": (GROUPINGS, "2000,4000"),
+    "joins": (JOINS, "50000,100000,200000"),
+    "hierarchies": (HIERARCHIES, "10000,20000"),
+}
 
-def line_of(text):
-    """The line of a request, which is over the sales where it is a pipeline alone."""
-    return text if "?$apply=" in text else "Sales?$apply=" + text
 
-
-def load_bench():
-    """The module of `bench/load`, which makes the world."""
+def load_script():
+    """The module of `bench/load`, which makes the world and measures loads."""
     loader = importlib.machinery.SourceFileLoader("load", str(HERE / "load"))
     module = importlib.util.module_from_spec(importlib.util.spec_from_loader("load", loader))
     loader.exec_module(module)
     return module
+
+
+def read_words(text):
+    """The words of a command, with its help."""
+    words = argparse.ArgumentParser(description=text, formatter_class=argparse.RawDescriptionHelpFormatter)
+    words.add_argument("--program", default=str(HERE.parent / "crates/apply_serve/out/apply_serve"))
+    words.add_argument("--kinds", default=",".join(KINDS), help="which kinds of requests (all)")
+    words.add_argument("--counts", help="over how many sales, in place of the kinds' own numbers")
+    words.add_argument("--requests", help="which requests of these kinds, by name (all)")
+    words.add_argument("--times", type=int, default=4, help="K, see above (4)")
+    given = words.parse_args()
+    for kind in given.kinds.split(","):
+        if kind not in KINDS:
+            words.error("no kind %s; there are %s" % (kind, ", ".join(KINDS)))
+    names = [name for kind in given.kinds.split(",") for name in KINDS[kind][0]]
+    for name in given.requests.split(",") if given.requests else []:
+        if name not in names:
+            words.error("no request %s; there are %s" % (name, ", ".join(names)))
+    given.program = os.path.abspath(given.program)
+    if not os.access(given.program, os.X_OK):
+        sys.exit("no program at %s: `rt run` in crates/apply_serve makes it" % given.program)
+    return given
+
+
+def worlds(given):
+    """For each number of sales: that number, a folder with the model and the data, and the requests, each a name, a line
+    and a statement."""
+    asked = {}
+    for kind in given.kinds.split(","):
+        known, counts = KINDS[kind]
+        for count in map(int, (given.counts or counts).split(",")):
+            for name, (request, statement) in known.items():
+                if not given.requests or name in given.requests.split(","):
+                    line = request if "?$apply=" in request else "Sales?$apply=" + request
+                    asked.setdefault(count, []).append((name, line, statement))
+    sales_world = load_script().sales_world
+    with tempfile.TemporaryDirectory() as made:
+        folder = pathlib.Path(made)
+        for count in sorted(asked):
+            model, data, _, _ = sales_world(count, 8, "whole")
+            (folder / "model.json").write_text(model)
+            (folder / "data.json").write_text("{%s}" % data)
+            yield count, folder, asked[count]
 
 
 def run(program, folder, line, count):
@@ -179,80 +216,8 @@ def run(program, folder, line, count):
 
 
 def answer(program, folder, line, times):
-    """The code, the bytes of the body, and the seconds of one answer."""
+    """The code, the body, and the seconds of one answer."""
     one, out = min((run(program, folder, line, 1) for _ in range(3)), key=lambda r: r[0])
     many, _ = min((run(program, folder, line, times + 1) for _ in range(3)), key=lambda r: r[0])
-    code, size = out.split(b"\n", 1)[0].split()
-    return int(code), int(size), max(0.0, (many - one) / times)
-
-
-def tables(data):
-    """SQLite in memory with the rows of a data file."""
-    world = json.loads(data)
-    base = sqlite3.connect(":memory:")
-    base.executescript(
-        "create table customers(id text primary key, country text);"
-        "create table sales(id integer primary key, amount integer, customer text, org text);"
-        "create table orgs(id text primary key, parent text);"
-        "create index parents on orgs(parent);"
-    )
-    base.executemany("insert into orgs values(?,?)", [(o["ID"], o.get("ParentID")) for o in world["Orgs"]])
-    base.executemany("insert into customers values(?,?)", [(c["ID"], c["Country"]) for c in world["Customers"]])
-    rows = [(s["ID"], int(s["Amount"].replace(".", "")), s["CustomerID"], s["OrgID"]) for s in world["Sales"]]
-    base.executemany("insert into sales values(?,?,?,?)", rows)
-    base.execute("analyze")
-    return base
-
-
-def statement(base, text):
-    """The seconds that SQLite takes for a statement."""
-    best = float("inf")
-    for _ in range(5):
-        start = time.perf_counter()
-        base.execute(text).fetchall()
-        best = min(best, time.perf_counter() - start)
-    return best
-
-
-def main():
-    words = argparse.ArgumentParser(description=__doc__, formatter_class=argparse.RawDescriptionHelpFormatter)
-    words.add_argument("--program", default=str(HERE.parent / "crates/apply_serve/out/apply_serve"))
-    kind = words.add_mutually_exclusive_group()
-    kind.add_argument("--groupings", action="store_true")
-    kind.add_argument("--joins", action="store_true")
-    kind.add_argument("--hierarchies", action="store_true")
-    words.add_argument("--counts")
-    words.add_argument("--requests")
-    words.add_argument("--times", type=int, default=4)
-    given = words.parse_args()
-    known = GROUPINGS if given.groupings else JOINS if given.joins else HIERARCHIES if given.hierarchies else REQUESTS
-    counts = given.counts or ("2000,4000" if given.groupings else "10000,20000" if given.hierarchies else "50000,100000,200000")
-    names = given.requests.split(",") if given.requests else list(known)
-    unknown = [name for name in names if name not in known]
-    if unknown:
-        sys.exit("no request %s; there are %s" % (", ".join(unknown), ", ".join(known)))
-    program = os.path.abspath(given.program)
-    if not os.access(program, os.X_OK):
-        sys.exit("no program at %s: `rt run` in crates/apply_serve makes it" % program)
-    world = load_bench().sales_world
-    print("%-18s %8s %5s %11s %9s %9s %9s" % ("request", "sales", "code", "bytes", "seconds", "MB/s", "SQLite s"))
-    right = True
-    with tempfile.TemporaryDirectory() as made:
-        folder = pathlib.Path(made)
-        for count in map(int, counts.split(",")):
-            model, data, _, _ = world(count, 8, "whole")
-            data = "{%s}" % data
-            (folder / "model.json").write_text(model)
-            (folder / "data.json").write_text(data)
-            base = tables(data)
-            for name in names:
-                request, text = known[name]
-                code, size, seconds = answer(program, folder, line_of(request), given.times)
-                right &= code == 200
-                rate = size / seconds / 1e6 if seconds > 0 else 0.0
-                print("%-18s %8d %5d %11d %9.4f %9.1f %9.4f" % (name, count, code, size, seconds, rate, statement(base, text)), flush=True)
-    sys.exit(0 if right else 1)
-
-
-if __name__ == "__main__":
-    main()
+    head, body = out.split(b"\n", 1)
+    return int(head.split()[0]), body[:-1], max(0.0, (many - one) / times)
