@@ -1,3 +1,4 @@
 pub mod CommandLaws
 pub mod NumberLaws
 mod OptionRows
+pub mod UsageLaws

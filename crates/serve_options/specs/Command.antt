@@ -3,7 +3,8 @@ use Rattle.std.specs.Prelude.{ℕ, List, [], ◌∷◌, codes, Option, Some, Non
 use Rattle.std.specs.declared.alloc.Global.{Global}
 use Rattle.clap.specs.Walk.{Row, Rule, first_of}
 use Rattle.clap.specs.Simple.{App, matches_of, new_app, new_rule, on_top, with_rule}
-use Rattle.clap.specs.Kinds.{Kinds}
+use Rattle.clap.specs.Kinds.{IsAmong, Kinds}
+use Rattle.clap.specs.declared.error.kind.ErrorKind.TheVariants.{DisplayHelp}
 use Rattle.clap.specs.Faults.{fault_of}
 use Rattle.serve_options.specs.Options.{OptionValues, Settings, settings_of}
 
@@ -52,3 +53,7 @@ settings_in words = option_and_then settings_of (option_values words)
 -- the words as texts
 abbrev pub texts_of : List (String Global) → List (List ℕ)
 texts_of words = map string_bytes words
+
+-- whether the words ask for help, which is then what keeps them from naming a run
+abbrev pub AsksHelp : List (List ℕ) → Type 0
+AsksHelp words = IsAmong DisplayHelp (fault_of serve_app words)

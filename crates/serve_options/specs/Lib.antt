@@ -1,3 +1,4 @@
 pub mod Command
 pub mod Options
 pub mod Seen
+pub mod Usage

@@ -5,18 +5,21 @@
 //! [`usage_text`] says what is wrong with words that it refuses.
 //!
 //! The crate stands on `clap`, which reads the words as one command without subcommands, on `edm_values` for texts and
-//! digits, and on `quoted_text` for words that are shown. It promises that the answer is the one of `settings_in` in `specs/Command.antt`: options come exactly where
-//! `clap`'s statement of the command takes the words and their values keep the rules of `settings_of` in
-//! `specs/Options.antt`, and only want of memory may come in place of an answer. The wording of `usage_text` is shown by
-//! tests only.
+//! digits, and on `quoted_text` for words that are shown. It promises that the answer is the one of `settings_in` in
+//! `specs/Command.antt`: options come exactly where `clap`'s statement of the command takes the words and their values keep
+//! the rules of `settings_of` in `specs/Options.antt`, and only want of memory may come in place of an answer. Of wrong words
+//! that do not ask for help [`usage_text`] has one line in the form of `specs/Usage.antt`, in which nothing is left that a
+//! terminal would obey; what problem it tells is shown by tests only.
 //!
 //! `words` has the command and the values in the words, `rules` the rules on the values, `messages` the texts.
 #![tactic(auto)]
 
-ghost use Rattle.std.specs.Prelude.{◌≡◌, ◌≢◌, IfOk, IsErrOf, Some, None};
+ghost use Rattle.std.specs.Prelude.{◌≡◌, ◌≢◌, [], IfOk, IsErrOf, Some, None, string_bytes};
 ghost use Rattle.clap.specs.Values.{kind_of};
-ghost use Rattle.serve_options.specs.Command.{settings_in, texts_of};
+ghost use Rattle.quoted_text.specs.Quoted.{IsPrintable};
+ghost use Rattle.serve_options.specs.Command.{AsksHelp, settings_in, texts_of};
 ghost use Rattle.serve_options.specs.Seen.{settings_seen};
+ghost use Rattle.serve_options.specs.Usage.{IsUsageLine};
 
 mod messages;
 mod rules;
@@ -104,8 +107,12 @@ pub fn read_options(alloc: Global, words: &[String]) -> Result<Options, OptionsR
 
 /// What is wrong with words that [`read_options`] refuses by `Usage`, in one line without an end: what `clap` says, or which
 /// rule a value breaks; for a call for help the help text. For words that name a run it is empty. Characters of the words that
-/// a terminal would obey stand there by their numbers. That it comes is proved; what it says is shown by tests only.
-pub fn usage_text(alloc: Global, words: &[String]) -> Result<String, AllocError> {
+/// a terminal would obey stand there by their numbers. The problem's wording is shown by tests only.
+pub fn usage_text(alloc: Global, words: &[String]) -> Result<String, AllocError>
+    ensures named { settings_in (texts_of words.now) ≢ None → IfOk result (λ t. string_bytes t ≡ []) }
+    ensures line { settings_in (texts_of words.now) ≡ None → ¬ (AsksHelp (texts_of words.now)) → IfOk result (λ t. IsUsageLine (string_bytes t)) }
+    ensures printable { ¬ (AsksHelp (texts_of words.now)) → IfOk result (λ t. IsPrintable (string_bytes t)) }
+{
     match given_values(alloc, words) {
         Ok(given) => match check_values(given) {
             Ok(_) => Ok(String::new(alloc)),

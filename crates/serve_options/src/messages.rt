@@ -1,18 +1,28 @@
 //! The texts for words that are refused.
+ghost use Rattle.std.specs.Prelude.{◌≡◌, ◌≢◌, IfOk, IsErr, string_bytes};
+ghost use Rattle.clap.specs.Values.{kind_of};
+ghost use Rattle.clap.specs.declared.error.kind.ErrorKind.TheVariants.{DisplayHelp, OutOfMemory};
+ghost use Rattle.serve_options.specs.Usage.{IsUsageLine, usage_line};
+
 use crate::rules::Problem;
 use crate::words::given_values;
 use clap::Error;
 use clap::error::ErrorKind;
-use quoted_text::{escaped, quoted};
+use quoted_text::{escaped, printable, quoted};
 use std::alloc::{AllocError, Global};
 
 /// A line that says what is wrong with the words.
-fn line(alloc: Global, problem: &str) -> Result<String, AllocError> {
+fn line(alloc: Global, problem: &str) -> Result<String, AllocError>
+    ensures { IfOk result (λ t. string_bytes t ≡ usage_line problem.now) }
+{
+    let problem = printable(alloc, problem)?;
     format!(in alloc; "apply_serve: {problem}; see apply_serve --help")
 }
 
 /// Which rule a value breaks.
-pub(crate) fn problem_text(alloc: Global, problem: &Problem<'_>) -> Result<String, AllocError> {
+pub(crate) fn problem_text(alloc: Global, problem: &Problem<'_>) -> Result<String, AllocError>
+    ensures { IfOk result (λ t. IsUsageLine (string_bytes t)) }
+{
     let text = match problem {
         Problem::Number {
             option,
@@ -72,7 +82,10 @@ pub(crate) fn refusal_text(
     alloc: Global,
     words: &[String],
     error: &Error,
-) -> Result<String, AllocError> {
+) -> Result<String, AllocError>
+    ensures line { kind_of error.now ≢ DisplayHelp → IfOk result (λ t. IsUsageLine (string_bytes t)) }
+    ensures memory { kind_of error.now ≡ OutOfMemory → IsErr result }
+{
     match error.kind() {
         ErrorKind::OutOfMemory => return Err(AllocError),
         ErrorKind::DisplayHelp => return format!(in alloc; "{error}"),

@@ -4,8 +4,8 @@ ghost use Rattle.clap.specs.Walk.{rows_of, rule_of};
 ghost use Rattle.clap.specs.Simple.{app_of, with_rule};
 ghost use Rattle.clap.specs.Matches.{found_of};
 ghost use Rattle.clap.specs.Values.{kind_of};
-ghost use Rattle.clap.specs.declared.error.kind.ErrorKind.TheVariants.{OutOfMemory};
-ghost use Rattle.serve_options.specs.Command.{option_rule, option_values, serve_app, texts_of, values_in};
+ghost use Rattle.clap.specs.declared.error.kind.ErrorKind.TheVariants.{DisplayHelp, OutOfMemory};
+ghost use Rattle.serve_options.specs.Command.{AsksHelp, option_rule, option_values, serve_app, texts_of, values_in};
 ghost use Rattle.serve_options.specs.Seen.{values_seen};
 
 use clap::{Arg, ArgMatches, Command, Error};
@@ -86,6 +86,7 @@ fn found_values<'a>(matches: &ArgMatches<'a>) -> Given<'a>
 pub(crate) fn given_values<'a>(alloc: Global, words: &'a [String]) -> Result<Given<'a>, Error>
     ensures ok { IfOk result (λ g. option_values (texts_of words.entry.now) ≡ Some (values_seen g)) }
     ensures err { IfErr result (λ e. kind_of e ≢ OutOfMemory → option_values (texts_of words.entry.now) ≡ None) }
+    ensures help { IfErr result (λ e. kind_of e ≡ DisplayHelp → AsksHelp (texts_of words.entry.now)) }
 {
     let command = command(alloc)?;
     match command.try_get_matches_from(words) {

@@ -5,7 +5,7 @@ use Rattle.clap.specs.Matches.{found_of}
 use Rattle.clap.specs.Simple.{App, is_simple, matches_of}
 use Rattle.clap.specs.Walk.{rows_of}
 use Rattle.serve_options.specs.Command.{serve_app, texts_of, values_in, values_unless}
-use Rattle.serve_options.proofs.CommandLaws.{is_free, is_plain, refused}
+use Rattle.serve_options.proofs.CommandLaws.{asked, is_free, is_plain, refused}
 use Rattle.serve_options.proofs.words.given_values.Goals as goal
 
 pub returns-in-Ok-clause-ok : goal.returns-in-Ok-clause-ok
@@ -23,3 +23,10 @@ returns-in-Err-clause-err c = λ other.
     let kind = c.in-Err.ensures.kinds (ap is_simple_and_free command_is ∙ is_free) in
     refused (fault_of serve_app texts) c.in-Err.error (values_in (matches_of serve_app texts))
     (subst (λ (a : App). HasKind (fault_of a texts) c.in-Err.error) command_is kind) other
+
+pub returns-in-Err-clause-help : goal.returns-in-Err-clause-help
+returns-in-Err-clause-help c = λ is_help.
+    let command_is = c.in_ok-command.ensures in
+    let texts = texts_of c.args.words.now in
+    let kind = c.in-Err.ensures.kinds (ap is_simple_and_free command_is ∙ is_free) in
+    asked (fault_of serve_app texts) c.in-Err.error (subst (λ (a : App). HasKind (fault_of a texts) c.in-Err.error) command_is kind) is_help
