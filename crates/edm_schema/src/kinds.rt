@@ -104,7 +104,7 @@ pub fn is_key_kind(kind: EdmType) -> bool
 }
 
 /// Whether a property has one of the five types.
-pub fn has_property_type(property: &Value) -> bool
+pub(crate) fn has_property_type(property: &Value) -> bool
     ensures { result ≡ spec.has_property_type (view property.now) }
 {
     is_object_of(

@@ -126,7 +126,7 @@ fn has_partner(schema: &Schema<'_>, k: usize, target: &TypeTree<'_>, navigation:
 }
 
 /// Whether a navigation property leads to an entity type and is of one of the two forms.
-pub fn is_navigable(
+pub(crate) fn is_navigable(
     schema: &Schema<'_>,
     k: usize,
     entity_type: &TypeTree<'_>,
@@ -150,7 +150,7 @@ pub fn is_navigable(
 }
 
 /// Whether a recursive hierarchy names the key and a single-valued navigation property to the same type.
-pub fn is_hierarchy(
+pub(crate) fn is_hierarchy(
     schema: &Schema<'_>,
     k: usize,
     entity_type: &TypeTree<'_>,
@@ -168,7 +168,7 @@ pub fn is_hierarchy(
 }
 
 /// Whether an entity set is a collection of an entity type of the schema.
-pub fn is_entity_set(schema: &Schema<'_>, set: &Value) -> bool
+pub(crate) fn is_entity_set(schema: &Schema<'_>, set: &Value) -> bool
     requires { IsSchema schema.now }
     ensures { result ≡ spec.is_entity_set (root_of schema.now) (view set.now) }
 {

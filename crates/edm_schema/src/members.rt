@@ -30,7 +30,7 @@ impl Named for Member<'_> {
 }
 
 /// The members of an object stand in byte order of their names.
-pub fn stand_in_order(value: &Value)
+pub(crate) fn stand_in_order(value: &Value)
     ensures { AreOrdered (map (λ m. m.0) (members_in (view value.now))) }
 {
     match value.as_object() {
@@ -42,7 +42,7 @@ pub fn stand_in_order(value: &Value)
 }
 
 /// The members of an object; of anything else, none.
-pub fn members_of<'v>(alloc: Global, value: &'v Value) -> Result<Vec<Member<'v>>, AllocError>
+pub(crate) fn members_of<'v>(alloc: Global, value: &'v Value) -> Result<Vec<Member<'v>>, AllocError>
     ensures { IfOk result (λ v. map member_seen v.items ≡ members_in (view value.now)) }
 {
     let mut found = Vec::new(alloc);
@@ -56,14 +56,14 @@ pub fn members_of<'v>(alloc: Global, value: &'v Value) -> Result<Vec<Member<'v>>
 }
 
 /// Whether it is an object of this kind.
-pub fn is_object_of_kind(kind: &str, value: &Value) -> bool
+pub(crate) fn is_object_of_kind(kind: &str, value: &Value) -> bool
     ensures { result ≡ spec.is_object_of_kind kind.now (view value.now) }
 {
     value.is_object() && is_text_at("$Kind", kind, value)
 }
 
 /// Whether it is a property.
-pub fn is_property(value: &Value) -> bool
+pub(crate) fn is_property(value: &Value) -> bool
     ensures { result ≡ spec.is_property (view value.now) }
 {
     value.is_object()
@@ -74,7 +74,7 @@ pub fn is_property(value: &Value) -> bool
 }
 
 /// Whether it is a navigation property.
-pub fn is_navigation(value: &Value) -> bool
+pub(crate) fn is_navigation(value: &Value) -> bool
     ensures { result ≡ spec.is_navigation (view value.now) }
 {
     is_object_of_kind("NavigationProperty", value)
@@ -82,7 +82,10 @@ pub fn is_navigation(value: &Value) -> bool
 
 /// The properties and navigation properties among the members of an entity type.
 #[tactic(auto, using(crate::proofs::Mapped::filter_mapped))]
-pub fn own_members<'v>(alloc: Global, members: &[Member<'v>]) -> Result<Vec<Member<'v>>, AllocError>
+pub(crate) fn own_members<'v>(
+    alloc: Global,
+    members: &[Member<'v>],
+) -> Result<Vec<Member<'v>>, AllocError>
     ensures { IfOk result (λ v. map member_seen v.items ≡ filter (λ m. spec.is_own m.0) (map member_seen members.now)) }
 {
     members
@@ -94,7 +97,7 @@ pub fn own_members<'v>(alloc: Global, members: &[Member<'v>]) -> Result<Vec<Memb
 
 /// The properties among these.
 #[tactic(auto, using(crate::proofs::Mapped::filter_mapped))]
-pub fn properties_among<'v>(
+pub(crate) fn properties_among<'v>(
     alloc: Global,
     own: &[Member<'v>],
 ) -> Result<Vec<Member<'v>>, AllocError>
@@ -108,7 +111,7 @@ pub fn properties_among<'v>(
 
 /// The navigation properties among these.
 #[tactic(auto, using(crate::proofs::Mapped::filter_mapped))]
-pub fn navigations_among<'v>(
+pub(crate) fn navigations_among<'v>(
     alloc: Global,
     own: &[Member<'v>],
 ) -> Result<Vec<Member<'v>>, AllocError>
@@ -121,7 +124,7 @@ pub fn navigations_among<'v>(
 }
 
 /// The members that are of the term, by their qualifiers.
-pub fn qualified_members<'v>(
+pub(crate) fn qualified_members<'v>(
     alloc: Global,
     term: &str,
     members: &[Member<'v>],
@@ -141,7 +144,7 @@ pub fn qualified_members<'v>(
 
 /// The members that are read.
 #[tactic(auto, using(crate::proofs::Mapped::filter_mapped))]
-pub fn read_members<'v>(
+pub(crate) fn read_members<'v>(
     alloc: Global,
     members: &[Member<'v>],
 ) -> Result<Vec<Member<'v>>, AllocError>
@@ -156,7 +159,7 @@ pub fn read_members<'v>(
 
 /// The objects of this kind among these.
 #[tactic(auto, using(crate::proofs::Mapped::filter_mapped))]
-pub fn objects_among<'v>(
+pub(crate) fn objects_among<'v>(
     alloc: Global,
     kind: &str,
     read: &[Member<'v>],
@@ -171,7 +174,10 @@ pub fn objects_among<'v>(
 
 /// All of these but the kind.
 #[tactic(auto, using(crate::proofs::Mapped::filter_mapped))]
-pub fn besides_kind<'v>(alloc: Global, read: &[Member<'v>]) -> Result<Vec<Member<'v>>, AllocError>
+pub(crate) fn besides_kind<'v>(
+    alloc: Global,
+    read: &[Member<'v>],
+) -> Result<Vec<Member<'v>>, AllocError>
     ensures { IfOk result (λ v. map member_seen v.items ≡ filter (λ m. not (same_text m.0 (codes "$Kind"))) (map member_seen read.now)) }
 {
     read.iter()

@@ -5,13 +5,13 @@ ghost use Rattle.edm_values.specs.Lists as lists;
 ghost use Rattle.edm_schema.specs.ModelTrees as spec;
 
 /// A recursive hierarchy, before `#` and its qualifier.
-pub const HIERARCHY_TERM: &str = "@Org.OData.Aggregation.V1.RecursiveHierarchy#";
+pub(crate) const HIERARCHY_TERM: &str = "@Org.OData.Aggregation.V1.RecursiveHierarchy#";
 
 /// A custom aggregate.
-pub const AGGREGATE_TERM: &str = "@Org.OData.Aggregation.V1.CustomAggregate#";
+pub(crate) const AGGREGATE_TERM: &str = "@Org.OData.Aggregation.V1.CustomAggregate#";
 
 /// The definition of a custom aggregate.
-pub const DEFINITION_TERM: &str = "@Local.Apply.V1.Definition#";
+pub(crate) const DEFINITION_TERM: &str = "@Local.Apply.V1.Definition#";
 
 /// Whether the name holds `@`.
 pub fn is_annotation(name: &str) -> bool
@@ -21,14 +21,14 @@ pub fn is_annotation(name: &str) -> bool
 }
 
 /// What follows the front of a text that begins with it.
-pub fn after<'t>(front: &str, text: &'t str) -> Option<&'t str>
+pub(crate) fn after<'t>(front: &str, text: &'t str) -> Option<&'t str>
     ensures { option_map (λ r. r.now) result ≡ (if starts_with nat_eq text.now front.now then Some (drop (length front.now) text.now) else None) }
 {
     text.strip_prefix(front)
 }
 
 /// The text after the term, if the name is of the term and no annotation of such an annotation.
-pub fn qualifier<'n>(term: &str, name: &'n str) -> Option<&'n str>
+pub(crate) fn qualifier<'n>(term: &str, name: &'n str) -> Option<&'n str>
     ensures { option_map (λ q. q.now) result ≡ (if spec.is_of_term term.now name.now then Some (spec.qualifier term.now name.now) else None) }
 {
     match after(term, name) {
@@ -44,7 +44,7 @@ pub fn qualifier<'n>(term: &str, name: &'n str) -> Option<&'n str>
 }
 
 /// Whether the name is of the term.
-pub fn is_of_term(term: &str, name: &str) -> bool
+pub(crate) fn is_of_term(term: &str, name: &str) -> bool
     ensures { result ≡ spec.is_of_term term.now name.now }
 {
     match qualifier(term, name) {
@@ -54,7 +54,7 @@ pub fn is_of_term(term: &str, name: &str) -> bool
 }
 
 /// Whether the name is of one of the three terms.
-pub fn is_known_term(name: &str) -> bool
+pub(crate) fn is_known_term(name: &str) -> bool
     ensures { result ≡ spec.is_known_term name.now }
 {
     is_of_term(HIERARCHY_TERM, name)
@@ -81,7 +81,7 @@ pub fn is_unread(name: &str) -> bool
 }
 
 /// Whether it is the name of a property or navigation of an entity type.
-pub fn is_own(name: &str) -> bool
+pub(crate) fn is_own(name: &str) -> bool
     ensures { result ≡ spec.is_own name.now }
 {
     !is_unread(name) && !matches!(name, "$Kind" | "$Key") && !is_known_term(name)

@@ -192,7 +192,7 @@ pub fn method_at(name: &str, value: &Value) -> Option<Method>
 }
 
 /// Whether the member stands and is an array of at least one string.
-pub fn is_list_of_strings_at(name: &str, value: &Value) -> bool
+pub(crate) fn is_list_of_strings_at(name: &str, value: &Value) -> bool
     ensures { result ≡ passes_at name.now spec.is_list_of_strings (view value.now) }
 {
     match value.get(name) {
@@ -220,7 +220,7 @@ fn is_definition(definition: &Value) -> bool
 }
 
 /// Whether the custom aggregate of this name stands in the type, and no property or navigation property has the name.
-pub fn is_custom_name(t: &TypeTree<'_>, name: &str) -> bool
+pub(crate) fn is_custom_name(t: &TypeTree<'_>, name: &str) -> bool
     requires { IsTypeTree t.now }
     ensures { result ≡ spec.is_custom_name (tree_of t.now) name.now }
 {
@@ -275,7 +275,7 @@ fn has_types(schema: &Schema<'_>) -> bool
 }
 
 /// Whether the name is of the term only with a simple identifier as its qualifier.
-pub fn is_simply_qualified(term: &str, name: &str) -> bool
+pub(crate) fn is_simply_qualified(term: &str, name: &str) -> bool
     ensures { result ≡ spec.is_simply_qualified term.now name.now }
 {
     match qualifier(term, name) {

@@ -19,14 +19,14 @@ pub fn is_text(text: &str, value: &Value) -> bool
 }
 
 /// Whether it is true.
-pub fn is_true(value: &Value) -> bool
+pub(crate) fn is_true(value: &Value) -> bool
     ensures { result ≡ spec.is_true (view value.now) }
 {
     value.as_bool().unwrap_or(false)
 }
 
 /// The text of a string member, or the one that stands in its place.
-pub fn text_at_or<'v>(other: &'v str, name: &str, value: &'v Value) -> &'v str
+pub(crate) fn text_at_or<'v>(other: &'v str, name: &str, value: &'v Value) -> &'v str
     ensures { result.now ≡ spec.text_at_or other.now name.now (view value.now) }
 {
     match value.get(name) {
@@ -53,7 +53,7 @@ pub fn lacks(name: &str, value: &Value) -> bool
 }
 
 /// Whether it is an object in which every member that is read has one of these names.
-pub fn is_object_of(names: &[&str], value: &Value) -> bool
+pub(crate) fn is_object_of(names: &[&str], value: &Value) -> bool
     ensures { result ≡ file.is_object_of (map (λ n. n.now) names.now) (view value.now) }
 {
     let Some(members) = value.as_object() else {
@@ -129,7 +129,7 @@ pub fn is_true_at(name: &str, value: &Value) -> bool
 
 /// The one string of an array of exactly one.
 #[tactic(auto, using(crate::proofs::Items::items))]
-pub fn only_string(value: &Value) -> Option<&str>
+pub(crate) fn only_string(value: &Value) -> Option<&str>
     ensures { option_map (λ s. s.now) result ≡ spec.only_string (view value.now) }
 {
     match value.as_array() {
@@ -143,7 +143,7 @@ pub fn only_string(value: &Value) -> Option<&str>
 
 /// Whether it is an array of at least one string.
 #[tactic(auto, using(crate::proofs::Items::items))]
-pub fn is_list_of_strings(value: &Value) -> bool
+pub(crate) fn is_list_of_strings(value: &Value) -> bool
     ensures { result ≡ file.is_list_of_strings (view value.now) }
 {
     match value.as_array() {
