@@ -29,7 +29,7 @@ use Rattle.custom_readings.specs.Readings.{AreRead, HasNoReading, IsRead}
 use Rattle.custom_readings.proofs.ReadLists.{first-ids}
 use Rattle.apply_load.specs.CustomReadings.{IsTypedReading, AreCustoms, IsFirstUntyped}
 use Rattle.apply_load.specs.LoadStops.{CustomStopSays}
-use Rattle.apply_load.specs.FirstCustoms.{IfRefused, IsFirstId, NamesFirst, owned}
+use Rattle.apply_load.specs.FirstCustoms.{HasReading, IfRefused, IsFirstId, NamesFirst, owned}
 use Rattle.apply_load.specs.RefusedFiles.{custom_line}
 use Rattle.apply_load.specs.declared.customs.CustomStop.{CustomStop}
 use Rattle.apply_load.specs.declared.customs.CustomStop.TheVariants as stop
@@ -94,6 +94,7 @@ module _ (m : Model) where
     is : custom.id ≡ id
     entry : IsEntry m custom
     untyped : (s : Reading) → ¬ IsTypedReading m (owned custom) s
+    read : HasReading (owned custom)
 
   first-at : (us : List Custom) (list : List ReadCustom) (id : Part) → All (IsEntry m) us → AllZip IsRead (take (length list) us) list → option_map (λ r. r.id) (find (λ r. is_none (read_kind m r)) list) ≡ Some id → FirstAt us id
   first-at us [] id es z e = none_or id e
@@ -110,6 +111,7 @@ module _ (m : Model) where
         is = sym z.0.id ∙ some_value f;
         entry = All-head (IsEntry m) u us es;
         untyped = no-kind-reading u r (All-head (IsEntry m) u us es) z.0 k;
+        read = (_, _, z.0.texts);
       }
       by more (Some k) h f =
           let rest = more f in
@@ -122,6 +124,7 @@ module _ (m : Model) where
             is = rest.is;
             entry = rest.entry;
             untyped = rest.untyped;
+            read = rest.read;
           }
 
   first-from : (place : ℕ) (before : Customs) (u : Custom) → AllZip (IsTypedReading m) (map owned (take place (custom_list m))) before → slice_get (custom_list m) place ≡ Some u → ((s : Reading) → ¬ IsTypedReading m (owned u) s) → IsFirstUntyped m (owned u)
@@ -221,6 +224,7 @@ module _ (m : Model) where
           found = v.1;
           there = entry.there;
           first = subst P same (first-from f.place f.before f.custom f.typed f.stands f.untyped);
+          read = subst HasReading same f.read;
         }
 
     pub names-first : (X : Type 0) (r : CustomRefused) → IfUntyped {X = X} (Err r) (λ id. option_map (λ r. r.id) (find (λ r. is_none (read_kind m r)) list) ≡ Some id) → NamesFirst m r

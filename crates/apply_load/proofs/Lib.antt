@@ -1,4 +1,4 @@
-mod FirstCustoms
+pub mod FirstCustoms
 mod Beside
 mod CustomsRead
 mod Fronts

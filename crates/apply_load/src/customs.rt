@@ -5,8 +5,8 @@ ghost use Rattle.edm_model.specs.IdLists.{custom_list};
 ghost use Rattle.edm_model.specs.LookUps.{IsType, type_name};
 ghost use Rattle.context_typing.specs.Readings.{readings, AreTypedOver, same_part};
 ghost use Rattle.context_typing.specs.Typing.{customs_typed};
-ghost use Rattle.apply_load.specs.CustomReadings.{AreCustoms};
-ghost use Rattle.apply_load.specs.FirstCustoms.{IfRefused, NamesFirst};
+ghost use Rattle.apply_load.specs.CustomReadings.{AreCustoms, IsFirstUntyped};
+ghost use Rattle.apply_load.specs.FirstCustoms.{IfNames, IfRefused, NamesFirst, SaysWhy, owned};
 ghost use Rattle.apply_load.specs.LoadStops.{CustomStopSays};
 ghost use Rattle.apply_load.specs.RefusedFiles as spec;
 
@@ -16,7 +16,17 @@ use custom_readings::read_customs;
 use edm_model::{Custom, CustomId, Model};
 use std::alloc::Global;
 
-/// Why the custom aggregates of a model are not typed.
+/// Why the custom aggregates of a model are not typed: memory ran out, or the first that has no typed reading.
+#[derive(Clone, Copy)]
+pub enum CustomFault<'m> {
+    Memory,
+    /// Its texts have no reading.
+    Unread(&'m Custom),
+    /// Its reading has no typing.
+    Untyped(&'m Custom),
+}
+
+/// The same, with what the service answers.
 #[derive(Debug, Drop)]
 pub enum CustomStop {
     /// Memory ran out.
@@ -39,6 +49,46 @@ fn custom_of(m: &Model, id: CustomId) -> Option<&Custom>
     m.customs().iter().find(|custom| has_id(custom, id))
 }
 
+/// The custom aggregate that has no typing.
+fn untyped<'m>(m: &'m Model, refused: &CustomRefused) -> CustomFault<'m>
+    requires { NamesFirst m.now refused.now }
+    ensures there { IfNames result (λ u. IsType m.now u.owner) }
+    ensures first { IfNames result (λ u. IsFirstUntyped m.now (owned u)) }
+    ensures why { SaysWhy result }
+{
+    match refused {
+        CustomRefused::At(id) => match custom_of(m, *id) {
+            Some(custom) => CustomFault::Untyped(custom),
+            None => unreachable!(),
+        },
+        CustomRefused::Memory => CustomFault::Memory,
+    }
+}
+
+/// The custom aggregates of a model, each with its typing, or the first that has no typed reading.
+pub fn judge_customs<'m>(alloc: Global, m: &'m Model) -> Result<Customs, CustomFault<'m>>
+    ensures all { IfOk result (λ c. AreCustoms m.now (readings c)) }
+    ensures typed { IfOk result (AreTypedOver m.now) }
+    ensures whole { IfOk result (λ c. IsTrue (customs_typed m.now (readings c))) }
+    ensures there { IfErr result (λ f. IfNames f (λ u. IsType m.now u.owner)) }
+    ensures first { IfErr result (λ f. IfNames f (λ u. IsFirstUntyped m.now (owned u))) }
+    ensures why { IfErr result SaysWhy }
+{
+    let _sets = m.sets();
+    let customs = m.customs();
+    let Ok(list) = read_customs(alloc, m) else {
+        return Err(CustomFault::Memory);
+    };
+    let read = list.len();
+    match type_customs(alloc, m, list) {
+        Ok(typed) => match customs.get(read) {
+            Some(unread) => Err(CustomFault::Unread(unread)),
+            None => Ok(typed),
+        },
+        Err(refused) => Err(untyped(m, &refused)),
+    }
+}
+
 /// The refusal of a custom aggregate.
 fn refusal(alloc: Global, m: &Model, custom: &Custom) -> CustomStop
     requires { IsType m.now custom.now.owner }
@@ -50,38 +100,27 @@ fn refusal(alloc: Global, m: &Model, custom: &Custom) -> CustomStop
     }
 }
 
-/// The refusal of the custom aggregate that has no typing.
-fn untyped(alloc: Global, m: &Model, refused: &CustomRefused) -> CustomStop
-    requires { NamesFirst m.now refused.now }
+/// What the service answers where the custom aggregates are not typed.
+fn stop_of(alloc: Global, m: &Model, fault: CustomFault<'_>) -> CustomStop
+    requires there { IfNames fault (λ u. IsType m.now u.owner) }
+    requires first { IfNames fault (λ u. IsFirstUntyped m.now (owned u)) }
     ensures { CustomStopSays m.now result }
 {
-    match refused {
-        CustomRefused::At(id) => match custom_of(m, *id) {
-            Some(custom) => refusal(alloc, m, custom),
-            None => unreachable!(),
-        },
-        CustomRefused::Memory => CustomStop::Memory,
+    match fault {
+        CustomFault::Memory => CustomStop::Memory,
+        CustomFault::Unread(custom) | CustomFault::Untyped(custom) => refusal(alloc, m, custom),
     }
 }
 
-/// The custom aggregates of a model, each with its typing.
-pub fn judge_customs(alloc: Global, m: &Model) -> Result<Customs, CustomStop>
+/// The custom aggregates of a model, each with its typing, or what the service answers.
+pub(crate) fn load_customs(alloc: Global, m: &Model) -> Result<Customs, CustomStop>
     ensures all { IfOk result (λ c. AreCustoms m.now (readings c)) }
     ensures typed { IfOk result (AreTypedOver m.now) }
     ensures whole { IfOk result (λ c. IsTrue (customs_typed m.now (readings c))) }
     ensures stop { IfErr result (CustomStopSays m.now) }
 {
-    let _sets = m.sets();
-    let customs = m.customs();
-    let Ok(list) = read_customs(alloc, m) else {
-        return Err(CustomStop::Memory);
-    };
-    let read = list.len();
-    match type_customs(alloc, m, list) {
-        Ok(typed) => match customs.get(read) {
-            Some(unread) => Err(refusal(alloc, m, unread)),
-            None => Ok(typed),
-        },
-        Err(refused) => Err(untyped(alloc, m, &refused)),
+    match judge_customs(alloc, m) {
+        Ok(customs) => Ok(customs),
+        Err(fault) => Err(stop_of(alloc, m, fault)),
     }
 }

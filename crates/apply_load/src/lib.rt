@@ -25,9 +25,9 @@ mod refusals;
 mod store;
 
 pub use checking::check;
+pub use customs::{CustomFault, judge_customs};
 pub use file::{FileFault, read_file};
 pub use generated::load_generated;
 pub use identifiers::identifier;
 pub use loading::{FileNames, LoadStop, load};
-pub use refusals::json_text;
 pub use store::Store;

@@ -8,7 +8,7 @@ ghost use Rattle.context_typing.specs.Readings.{readings};
 ghost use Rattle.apply_load.specs.Loads.{Loaded, Missing, FilesMake, MakesModel, MakesWorld, Lacks};
 ghost use Rattle.apply_load.specs.LoadStops.{ModelStopSays, DataStopSays, LoadStopSays};
 
-use crate::customs::{CustomStop, judge_customs};
+use crate::customs::{CustomStop, load_customs};
 use crate::file::{FileFault, read_file};
 use crate::refusals::{data_line, set_names};
 use crate::store::Store;
@@ -148,7 +148,7 @@ pub fn load<F: Folder>(
         Err(ModelStop::Memory) => return Err(LoadStop::Memory),
         Err(ModelStop::Refused(line)) => return Err(LoadStop::Model(Output::Constant(line))),
     };
-    let customs = match judge_customs(alloc, &model) {
+    let customs = match load_customs(alloc, &model) {
         Ok(customs) => customs,
         Err(CustomStop::Memory) => return Err(LoadStop::Memory),
         Err(CustomStop::Refused(line)) => return Err(LoadStop::Model(Output::Made(line))),

@@ -32,7 +32,7 @@ fn name_of(names: &[String], set: SetId) -> &str
 }
 
 /// A name as a JSON string.
-pub fn json_text(alloc: Global, name: &str) -> Result<String, AllocError>
+pub(crate) fn json_text(alloc: Global, name: &str) -> Result<String, AllocError>
     ensures { IfOk result (λ s. string_bytes s ≡ json_string name.now) }
 {
     json!(in alloc; name)?.to_string(alloc)

@@ -6,18 +6,18 @@ pub returns-in-Err-Refused-clause-stop : goal.returns-in-Err-Refused-clause-stop
 returns-in-Err-Refused-clause-stop g c =
     rw c.in-Err-Refused.line-is (FilesMake-refused_model _ None _ _ (rw c.in-Err-Refused.field-0-is at c.in-Err-Refused.ensures.stop))
 
-pub returns-in-Err-Refused-judge_customs-clause-stop : goal.returns-in-Err-Refused-judge_customs-clause-stop
-returns-in-Err-Refused-judge_customs-clause-stop g c =
-    rw c.in-Err-Refused-judge_customs.line-is (FilesMake-refused_custom _ None _ _ _ c.in-Ok.ensures.ok (rw c.in-Err-Refused-judge_customs.field-0-is at c.in-Err-Refused-judge_customs.ensures.stop))
+pub returns-in-Err-Refused-load_customs-clause-stop : goal.returns-in-Err-Refused-load_customs-clause-stop
+returns-in-Err-Refused-load_customs-clause-stop g c =
+    rw c.in-Err-Refused-load_customs.line-is (FilesMake-refused_custom _ None _ _ _ c.in-Ok.ensures.ok (rw c.in-Err-Refused-load_customs.field-0-is at c.in-Err-Refused-load_customs.ensures.stop))
 
 pub returns-in-Err-Fault-load_data-clause-steady : goal.returns-in-Err-Fault-load_data-clause-steady
 returns-in-Err-Fault-load_data-clause-steady g c =
-    λ e steady. FilesMake-no_data _ _ _ _ _ c.in-Ok.ensures.keeps c.in-Ok.ensures.ok c.in-Ok-judge_customs.ensures.all (c.in-Err-Fault-load_data.ensures.steady (ap Err c.in-Err-Fault-load_data.field-0-is) (c.in-Ok.ensures.steady_still steady))
+    λ e steady. FilesMake-no_data _ _ _ _ _ c.in-Ok.ensures.keeps c.in-Ok.ensures.ok c.in-Ok-load_customs.ensures.all (c.in-Err-Fault-load_data.ensures.steady (ap Err c.in-Err-Fault-load_data.field-0-is) (c.in-Ok.ensures.steady_still steady))
 
 pub returns-in-Err-Refused-load_data-clause-stop : goal.returns-in-Err-Refused-load_data-clause-stop
 returns-in-Err-Refused-load_data-clause-stop g c =
-    rw c.in-Err-Refused-load_data.line-is (FilesMake-refused_data _ _ _ _ _ c.in-Ok.ensures.keeps c.in-Ok.ensures.ok c.in-Ok-judge_customs.ensures.all _ (rw c.in-Err-Refused-load_data.field-0-is at c.in-Err-Refused-load_data.ensures.stop))
+    rw c.in-Err-Refused-load_data.line-is (FilesMake-refused_data _ _ _ _ _ c.in-Ok.ensures.keeps c.in-Ok.ensures.ok c.in-Ok-load_customs.ensures.all _ (rw c.in-Err-Refused-load_data.field-0-is at c.in-Err-Refused-load_data.ensures.stop))
 
 pub returns-in-Ok-hier_states-clause-ok : goal.returns-in-Ok-hier_states-clause-ok
 returns-in-Ok-hier_states-clause-ok g c =
-    rw c.new.ensures (FilesMake-world _ _ _ _ _ c.in-Ok.ensures.keeps c.in-Ok.ensures.ok c.in-Ok-judge_customs.ensures.all _ c.in-Ok-load_data.ensures.ok)
+    rw c.new.ensures (FilesMake-world _ _ _ _ _ c.in-Ok.ensures.keeps c.in-Ok.ensures.ok c.in-Ok-load_customs.ensures.all _ c.in-Ok-load_data.ensures.ok)
