@@ -7,11 +7,8 @@ use Rattle.std.specs.List.{slice_get, find, list_any, list_all, position, flat_m
 use Rattle.std.proofs.lemmas.Bool.{cases_lt, false≢true}
 use Rattle.std.proofs.lemmas.List.{map-append, take-map, take_all}
 use Rattle.std.proofs.lemmas.List.Folds.{list_any-append, list_any_more}
-use Rattle.std.proofs.lemmas.Simd.{map-map}
 use Rattle.std.proofs.lemmas.Option.{slice_get-map, slice_get-get_or, none-some}
 use Rattle.serde_json.specs.Data.{Data}
-use Rattle.serde_json.specs.View.{view}
-use Rattle.serde_json.specs.declared.value.Value.{Value as Json}
 use Rattle.edm_values.specs.Lists.{places, all_some, is_some_and}
 use Rattle.edm_values.specs.declared.Value.{Value}
 use Rattle.edm_values.specs.Values.{is_null, same_value, value_in}
@@ -19,7 +16,7 @@ use Rattle.edm_values.proofs.OptionFacts.{all_some-parts, if_else-parts}
 use Rattle.edm_values.proofs.SearchFacts.{cons-head, cons-tail}
 use Rattle.edm_model.specs.JsonTrees.{is_object, members_in}
 use Rattle.edm_model.specs.Models.{Property, Navigation, EntitySet, Model, Part}
-use Rattle.edm_model.specs.LookUps.{IsSet, IsProperty, properties_of, property_at, navigation_on, dependent_of, key_of, key_at, set_type, set_of_type, navigations_of, parts}
+use Rattle.edm_model.specs.LookUps.{IsSet, IsProperty, properties_of, property_at, navigation_on, dependent_of, key_of, key_at, set_type, set_of_type, navigations_of}
 use Rattle.edm_model.specs.Soundness.{IsSound}
 use Rattle.edm_data.specs.Worlds.{World, Entity, entity_at, all_places}
 use Rattle.edm_data.specs.References.{entities_of, property, key, keys_of, by_key, referred}
@@ -29,7 +26,8 @@ use Rattle.edm_data.proofs.KeyOrderLemmas.{is_some-position}
 use Rattle.edm_data.proofs.ReferenceLemmas.{type_same, navs_same}
 use Rattle.edm_data.proofs.RelationLemmas.{or_none}
 use Rattle.edm_data.proofs.SeenKeys.{list_any-map}
-use Rattle.data_diagnosis.specs.EntityFaults.{key_in, same_key, items_in_set, has_key, reference_in, misses}
+use Rattle.data_diagnosis.specs.EntityFaults.{key_in, same_key, earlier_place, items_in_set, has_key, reference_in, misses, misses_one}
+use Rattle.data_diagnosis.specs.FileLaws.{KeysAreOfEntities, EarlierKeysAreOfEntities, NavigationsDangle, MissingReferencesDangle}
 
 -- ---- places of which none passes
 
@@ -178,18 +176,16 @@ module _ (m : Model) (d : Data) (sound : IsSound m) (entities : AreEntities m d)
   has_key-here : (s : ℕ) (v : Value) → IsSet m s → has_key m d s (Some v) ≡ list_any (same_value v) (keys_of (world m d) s)
   has_key-here s v there = sym (list_any-map (key_in m s) (same_key (Some v)) (items_in_set m d s)) ∙ ap (list_any (same_key (Some v))) (keys-are s there) ∙ list_any-map Some (same_key (Some v)) (keys_of (world m d) s)
 
-  earlier-is : (s k : ℕ) (xs : List Json) (x : Json) → IsSet m s → option_map (array_in d) (slice_get m.sets s) ≡ Some (map view xs) → slice_get xs k ≡ Some x → is_some (option_and_then (λ x. position (λ y. same_key (key_in m s (view x)) (key_in m s (view y))) (take k xs)) (slice_get xs k)) ≡ has_earlier_key (world m d) (entity_at s k)
-  earlier-is s k xs x there read at =
+  earlier-is : (s k : ℕ) (x : Data) → IsSet m s → slice_get (items_in_set m d s) k ≡ Some x → is_some (earlier_place m s (items_in_set m d s) k) ≡ has_earlier_key (world m d) (entity_at s k)
+  earlier-is s k x there at =
       let w = world m d in
       let v = key w (entity_at s k) in
-      let items : items_in_set m d s ≡ map view xs = ap (λ o. unwrap_or o []) read in
-      let item : slice_get (items_in_set m d s) k ≡ Some (view x) = ap (λ l. slice_get l k) items ∙ slice_get-map view xs k ∙ ap (option_map view) at in
-      let keys : map (λ y. key_in m s (view y)) xs ≡ map Some (keys_of w s) = sym (map-map (key_in m s) view xs) ∙ ap (map (key_in m s)) (sym items) ∙ keys-are s there in
-      let front : map (λ y. key_in m s (view y)) (take k xs) ≡ map Some (take k (keys_of w s)) = sym (take-map (λ y. key_in m s (view y)) k xs) ∙ ap (take k) keys ∙ take-map Some k (keys_of w s) in
-      ap (λ o. is_some (option_and_then (λ x. position (λ y. same_key (key_in m s (view x)) (key_in m s (view y))) (take k xs)) o)) at
-      ∙ is_some-position (λ y. same_key (key_in m s (view x)) (key_in m s (view y))) (take k xs)
-      ∙ ap (λ a. list_any (λ y. same_key a (key_in m s (view y))) (take k xs)) (key-is s k (view x) there item)
-      ∙ sym (list_any-map (λ y. key_in m s (view y)) (same_key (Some v)) (take k xs))
+      let xs = items_in_set m d s in
+      let front : map (key_in m s) (take k xs) ≡ map Some (take k (keys_of w s)) = sym (take-map (key_in m s) k xs) ∙ ap (take k) (keys-are s there) ∙ take-map Some k (keys_of w s) in
+      ap (λ o. is_some (option_and_then (λ x. position (λ y. same_key (key_in m s x) (key_in m s y)) (take k xs)) o)) at
+      ∙ is_some-position (λ y. same_key (key_in m s x) (key_in m s y)) (take k xs)
+      ∙ ap (λ a. list_any (λ y. same_key a (key_in m s y)) (take k xs)) (key-is s k x there at)
+      ∙ sym (list_any-map (key_in m s) (same_key (Some v)) (take k xs))
       ∙ ap (list_any (same_key (Some v))) front
       ∙ list_any-map Some (same_key (Some v)) (take k (keys_of w s))
 
@@ -219,7 +215,7 @@ module _ (m : Model) (d : Data) (sound : IsSound m) (entities : AreEntities m d)
         sought : (not (is_null value) && not (has_key m d t (Some value))) ≡ (not (is_null value) && is_none (if is_null value then None else by_key w t value))
         sought = elim (is_null value) as (λ b. (not b && not (has_key m d t (Some value))) ≡ (not b && is_none (if b then None else by_key w t value))) [ true ↦ refl | false ↦ ap not (has_key-here t value (sound.type_sets v.target (sound.targets n v nav)) ∙ sym (is_some-position (same_value value) (keys_of w t)) ∙ none-position (position (same_value value) (keys_of w t))) ]
 
-  dangling-is : (s k : ℕ) (x : Data) → IsSet m s → slice_get (items_in_set m d s) k ≡ Some x → list_any (misses m d x) (parts (set_type m s) (length (navigations_of m (set_type m s)))) ≡ is_dangling (world m d) (entity_at s k)
+  dangling-is : (s k : ℕ) (x : Data) → IsSet m s → slice_get (items_in_set m d s) k ≡ Some x → misses_one m d s x ≡ is_dangling (world m d) (entity_at s k)
   dangling-is s k x there at =
       let t = set_type m s in
       list_any-map (λ j. record { of = t; at = j }) (misses m d x) (places (length (navigations_of m t)))
@@ -229,25 +225,25 @@ module _ (m : Model) (d : Data) (sound : IsSound m) (entities : AreEntities m d)
 -- ---- where a file has a world
 
 -- the key of an item is that of the entity at its place
-pub key-of_entity : (m : Model) (d : Data) (w : World) (s k : ℕ) (x : Data) → IsSound m → entities_in_tree m d ≡ World' w → IsSet m s → slice_get (items_in_set m d s) k ≡ Some x → key_in m s x ≡ Some (key w (entity_at s k))
-key-of_entity m d w s k x sound read there at =
+pub key-of_entity : KeysAreOfEntities
+key-of_entity m d w e x sound read there at =
     let is = is_read m d w read in
-    subst (λ w. key_in m s x ≡ Some (key w (entity_at s k))) is.1 (key-is m d sound is.0 s k x there at)
+    subst (λ w. key_in m e.set x ≡ Some (key w e)) is.1 (key-is m d sound is.0 e.set e.at x there at)
 
 -- an item has the key of an earlier one exactly where the key of the entity at its place stands earlier
-pub earlier-of_entity : (m : Model) (d : Data) (w : World) (s k : ℕ) (xs : List Json) (x : Json) → IsSound m → entities_in_tree m d ≡ World' w → IsSet m s → option_map (array_in d) (slice_get m.sets s) ≡ Some (map view xs) → slice_get xs k ≡ Some x → is_some (option_and_then (λ x. position (λ y. same_key (key_in m s (view x)) (key_in m s (view y))) (take k xs)) (slice_get xs k)) ≡ has_earlier_key w (entity_at s k)
-earlier-of_entity m d w s k xs x sound read there items at =
+pub earlier-of_entity : EarlierKeysAreOfEntities
+earlier-of_entity m d w e x sound read there at =
     let is = is_read m d w read in
-    earlier-is m d sound is.0 s k xs x there items at ∙ ap (λ w. has_earlier_key w (entity_at s k)) is.1
+    earlier-is m d sound is.0 e.set e.at x there at ∙ ap (λ w. has_earlier_key w e) is.1
 
 -- an item refers by a navigation to a key that is not there exactly where the entity at its place does
-pub misses-of_entity : (m : Model) (d : Data) (w : World) (s k : ℕ) (x : Data) (n : Part) (v : Navigation) → IsSound m → entities_in_tree m d ≡ World' w → IsSet m s → slice_get (items_in_set m d s) k ≡ Some x → n.of ≡ set_type m s → navigation_on m n ≡ Some v → misses m d x n ≡ dangles w (entity_at s k) v
-misses-of_entity m d w s k x n v sound read there at of nav =
+pub misses-of_entity : NavigationsDangle
+misses-of_entity m d w e x n v sound read there at of nav =
     let is = is_read m d w read in
-    misses-is m d sound is.0 s k x n v there at of nav ∙ ap (λ w. dangles w (entity_at s k) v) is.1
+    misses-is m d sound is.0 e.set e.at x n v there at of nav ∙ ap (λ w. dangles w e v) is.1
 
 -- an item refers to a key that is not there exactly where the entity at its place does
-pub dangling-of_entity : (m : Model) (d : Data) (w : World) (s k : ℕ) (x : Data) → IsSound m → entities_in_tree m d ≡ World' w → IsSet m s → slice_get (items_in_set m d s) k ≡ Some x → list_any (misses m d x) (parts (set_type m s) (length (navigations_of m (set_type m s)))) ≡ is_dangling w (entity_at s k)
-dangling-of_entity m d w s k x sound read there at =
+pub dangling-of_entity : MissingReferencesDangle
+dangling-of_entity m d w e x sound read there at =
     let is = is_read m d w read in
-    dangling-is m d sound is.0 s k x there at ∙ ap (λ w. is_dangling w (entity_at s k)) is.1
+    dangling-is m d sound is.0 e.set e.at x there at ∙ ap (λ w. is_dangling w e) is.1

@@ -11,7 +11,7 @@ use Rattle.edm_values.specs.Lists.{all_some, same_text}
 use Rattle.edm_values.proofs.SameTexts.{text-self}
 use Rattle.edm_model.specs.Models.{Model}
 use Rattle.edm_model.specs.LookUps.{properties_of}
-use Rattle.edm_model.specs.JsonTrees.{Member, member_list, members_in}
+use Rattle.edm_model.specs.JsonTrees.{Member, is_object, member_list, members_in}
 use Rattle.edm_data.specs.DataFile.{is_known_member, property_value, entity_of}
 
 -- ---- one property
@@ -62,7 +62,7 @@ values-all f (p ∷ ps) = front (f p) (map f ps) ∙ ap (λ b. is_some (f p) && 
 -- ---- members
 
 -- no member is unknown
-members-known : (p : Member → Bool) (ms : List Member) → find (λ e. not (p e)) ms ≡ None → list_all p ms ≡ true
+pub members-known : (p : Member → Bool) (ms : List Member) → find (λ e. not (p e)) ms ≡ None → list_all p ms ≡ true
 members-known p [] h = refl
 members-known p (e ∷ ms) h = (elim (p e) as (λ b. cond (not b) (Some e) (find (λ e. not (p e)) ms) ≡ None → (b && list_all p ms) ≡ true) [ true ↦ λ h. members-known p ms h | false ↦ λ h. cc ]) h
 
@@ -72,14 +72,14 @@ members-unknown p [] n h = cc
 members-unknown p (e ∷ ms) n h = (elim (p e) as (λ b. option_map (λ e. e.0) (cond (not b) (Some e) (find (λ e. not (p e)) ms)) ≡ Some n → (b && list_all p ms) ≡ false) [ true ↦ λ h. members-unknown p ms n h | false ↦ λ h. refl ]) h
 
 -- the member that is named is unknown
-unknown-named : (p : Member → Bool) (ms : List Member) (n : List ℕ) → option_map (λ e. e.0) (find (λ e. not (p e)) ms) ≡ Some n → list_any (λ e. same_text e.0 n && not (p e)) ms ≡ true
+pub unknown-named : (p : Member → Bool) (ms : List Member) (n : List ℕ) → option_map (λ e. e.0) (find (λ e. not (p e)) ms) ≡ Some n → list_any (λ e. same_text e.0 n && not (p e)) ms ≡ true
 unknown-named p [] n h = cc
 unknown-named p (e ∷ ms) n h = (elim (p e) as (λ b. option_map (λ e. e.0) (cond (not b) (Some e) (find (λ e. not (p e)) ms)) ≡ Some n → ((same_text e.0 n && not b) || list_any (λ e. same_text e.0 n && not (p e)) ms) ≡ true) [ true ↦ λ h. or_right (same_text e.0 n && false) (list_any (λ e. same_text e.0 n && not (p e)) ms) (unknown-named p ms n h) | false ↦ λ h. let same : e.0 ≡ n = cc in rw (same, text-self n) refl ]) h
 
 -- ---- entities
 
 -- the member that is named is a fault
-pub member-fault : (m : Model) (t u : ℕ) (d : Data) (ms : Members) (n : List ℕ) → u ≡ t → as_object d ≡ Some ms → option_map (λ e. e.0) (find (λ e. not (is_known_member (properties_of m u) e)) (member_list ms)) ≡ Some n → list_any (λ e. same_text e.0 n && not (is_known_member (properties_of m t) e)) (members_in d) ≡ true
+pub member-fault : (m : Model) (t u : ℕ) (d : Data) (ms : Members) (n : List ℕ) → u ≡ t → as_object d ≡ Some ms → option_map (λ e. e.0) (find (λ e. not (is_known_member (properties_of m u) e)) (member_list ms)) ≡ Some n → (is_object d && list_any (λ e. same_text e.0 n && not (is_known_member (properties_of m t) e)) (members_in d)) ≡ true
 member-fault m t u d ms n type members found = rw (members, ← type) (unknown-named (is_known_member (properties_of m u)) (member_list ms) n found)
 
 -- with a member that is no property it is no entity

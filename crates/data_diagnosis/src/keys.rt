@@ -1,10 +1,10 @@
 //! Entities of one key.
-ghost use Rattle.std.specs.Prelude.{◌≡◌, ◌<◌, length, take, position, option_and_then, option_map, slice_get, IfOk};
+ghost use Rattle.std.specs.Prelude.{◌≡◌, ◌<◌, length, map, option_map, IfOk};
 ghost use Rattle.serde_json.specs.View.{view};
 ghost use Rattle.edm_values.specs.Values.{seen_value};
 ghost use Rattle.edm_model.specs.LookUps.{IsSet};
 ghost use Rattle.edm_model.specs.Soundness.{IsSound};
-ghost use Rattle.data_diagnosis.specs.EntityFaults.{key_in, same_key};
+ghost use Rattle.data_diagnosis.specs.EntityFaults.{earlier_place, key_in, same_key};
 
 use edm_data::property_value;
 use edm_model::{Model, SetId};
@@ -47,7 +47,7 @@ pub fn earlier_with_key(
     requires sound { IsSound model.now }
     requires there { IsSet model.now s }
     requires within { at < length items.now }
-    ensures value { IfOk result (λ o. o ≡ option_and_then (λ x. position (λ y. same_key (key_in model.now s (view x)) (key_in model.now s (view y))) (take at items.now)) (slice_get items.now at)) }
+    ensures value { IfOk result (λ o. o ≡ earlier_place model.now s (map view items.now) at) }
 {
     let key = key_of(alloc, model, s, &items[at])?;
     for k in 0..at {

@@ -1,11 +1,10 @@
 //! References to keys that are not there.
-ghost use Rattle.std.specs.Prelude.{◌≡◌, true, false, IfOk, IfSome, IfNone, Some, length, option_map};
-ghost use Rattle.std.specs.List.{list_any};
+ghost use Rattle.std.specs.Prelude.{◌≡◌, true, false, IfOk, IfSome, IfNone, Some, option_map};
 ghost use Rattle.serde_json.specs.View.{view};
 ghost use Rattle.edm_values.specs.Values.{seen_value};
-ghost use Rattle.edm_model.specs.LookUps.{IsSet, IsNavigation, navigation_on, navigations_of, parts, set_type};
+ghost use Rattle.edm_model.specs.LookUps.{IsSet, IsNavigation, navigation_on, set_type};
 ghost use Rattle.edm_model.specs.Soundness.{IsSound};
-ghost use Rattle.data_diagnosis.specs.EntityFaults.{has_key, misses};
+ghost use Rattle.data_diagnosis.specs.EntityFaults.{has_key, misses, misses_one};
 
 use crate::keys::{are_same, key_of};
 use edm_data::{property_value, set_items};
@@ -73,9 +72,10 @@ pub fn missing_reference(
     requires sound { IsSound model.now }
     requires there { IsSet model.now s }
     ensures there { IfOk result (λ o. IfSome o (IsNavigation model.now)) }
+    ensures of { IfOk result (λ o. IfSome o (λ n. n.of ≡ set_type model.now s)) }
     ensures single { IfOk result (λ o. IfSome o (λ n. option_map (λ v. v.many) (navigation_on model.now n) ≡ Some false)) }
     ensures found { IfOk result (λ o. IfSome o (λ n. misses model.now (view root.now) (view item.now) n ≡ true)) }
-    ensures none { IfOk result (λ o. IfNone o (let t = set_type model.now s in list_any (misses model.now (view root.now) (view item.now)) (parts t (length (navigations_of model.now t))) ≡ false)) }
+    ensures none { IfOk result (λ o. IfNone o (misses_one model.now (view root.now) s (view item.now) ≡ false)) }
 {
     let navs = model.navs(model.set_type(s));
     for n in navs {

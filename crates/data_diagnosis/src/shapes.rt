@@ -2,7 +2,7 @@
 ghost use Rattle.std.specs.Prelude.{◌≡◌, true, not, map, find, option_map, IfOk, IfSome, IfNone, Some, None, is_some, is_none};
 ghost use Rattle.serde_json.specs.View.{view, members_view};
 ghost use Rattle.edm_values.specs.Lists.{all_some};
-ghost use Rattle.edm_model.specs.JsonTrees.{member_list};
+ghost use Rattle.edm_model.specs.JsonTrees.{is_object, member_list};
 ghost use Rattle.edm_model.specs.LookUps.{IsSet, IsType, IsProperty, properties_of, property_at, set_type};
 ghost use Rattle.edm_model.specs.Soundness.{IsSound};
 ghost use Rattle.edm_data.specs.DataFile.{entity_of};
@@ -57,7 +57,7 @@ fn property_fault<'v>(model: &Model, p: PropId, item: &'v Json) -> ShapeFault<'v
     requires there { IsProperty model.now p }
     requires absent { option_map (λ q. is_none (file.property_value (view item.now) q)) (property_at model.now p) ≡ Some true }
     ensures there { NamesProperty model.now result }
-    ensures found { is_shape_fault model.now p.of (view item.now) result ≡ true }
+    ensures found { is_shape_fault model.now p.of (view item.now) result ≡ is_object (view item.now) }
 {
     if is_absent(model, p, item) {
         ShapeFault::Null(p)
@@ -76,7 +76,7 @@ fn value_fault<'v>(
     requires sound { IsSound model.now }
     requires there { IsType model.now t }
     ensures there { IfOk result (λ o. IfSome o (NamesProperty model.now)) }
-    ensures found { IfOk result (λ o. IfSome o (λ f. is_shape_fault model.now t (view item.now) f ≡ true)) }
+    ensures found { IfOk result (λ o. IfSome o (λ f. is_shape_fault model.now t (view item.now) f ≡ is_object (view item.now))) }
     ensures refused { IfOk result (λ o. IfSome o (λ _. all_some (map (file.property_value (view item.now)) (properties_of model.now t)) ≡ None)) }
     ensures none { IfOk result (λ o. IfNone o (is_some (all_some (map (file.property_value (view item.now)) (properties_of model.now t))) ≡ true)) }
 {

@@ -1,12 +1,12 @@
 -- What fails a test stands among the members that are searched, so the part that it belongs to is at fault.
-use Rattle.std.proofs.Common.{◌≡◌, ℕ, ◌<◌, Bool, true, false, not, List, [], map, length, get_or, Some, sym, ◌∙◌, ap, subst, codes}
-use Rattle.std.specs.Prelude.{◌&&◌, Option, option_map, unwrap_or, slice_get}
+use Rattle.std.proofs.Common.{◌≡◌, ℕ, ◌<◌, Bool, true, false, List, [], map, length, get_or, Some, refl, sym, ◌∙◌, ap, subst, codes}
+use Rattle.std.specs.Prelude.{◌&&◌, Option, option_map, option_and_then, unwrap_or, slice_get}
 use Rattle.std.specs.List.{list_any, Contains}
 use Rattle.std.proofs.lemmas.List.{get_or-map}
 use Rattle.std.proofs.lemmas.Option.{slice_get-map, slice_get-get_or, get_or_from_slice_get}
 use Rattle.std.proofs.lemmas.List.Folds.{list_any_at}
 use Rattle.serde_json.specs.Data.{Data}
-use Rattle.edm_values.specs.Lists.{same_text, places, is_some_and}
+use Rattle.edm_values.specs.Lists.{same_text, places}
 use Rattle.edm_values.proofs.SameTexts.{text-self}
 use Rattle.edm_schema.specs.JsonTrees as tree
 use Rattle.edm_schema.specs.JsonTrees.{lacks}
@@ -18,9 +18,10 @@ use Rattle.edm_schema.proofs.Counted.{mapped_place}
 use Rattle.edm_schema.proofs.Mapped.{length-mapped, list_any-map}
 use Rattle.edm_schema.proofs.SchemaParts.{tree_at}
 use Rattle.model_diagnosis.specs.declared.faults.TypeFault.{TypeFault}
+use Rattle.model_diagnosis.specs.declared.faults.Fault.TheVariants as whole
 use Rattle.model_diagnosis.specs.declared.faults.ReferenceTest.{ReferenceTest}
 use Rattle.model_diagnosis.specs.declared.faults.CollectionTest.{CollectionTest}
-use Rattle.model_diagnosis.specs.Faults.{some_at, type_name, is_type_fault, passes_reference, passes_collection, fails_reference, fails_collection}
+use Rattle.model_diagnosis.specs.Faults.{some_at, SomeAt, type_name, IsTypeFault, IsFault, failed_reference, failed_collection, FailsReference, FailsCollection}
 use Rattle.model_diagnosis.proofs.Tests.{and_from, any_place}
 
 -- a test that one of what is searched passes
@@ -37,6 +38,10 @@ some_seen f has items ms i x same within is passes =
 pub among_seen : {X : Type 0} (f : X → tree.Member) (items : List X) (ms : List tree.Member) (i : ℕ) (x : X) → map f items ≡ ms → i < length items → x ≡ get_or items i x → Contains ms (f x)
 among_seen f items ms i x same within is =
     subst (λ (ys : List tree.Member). Contains ys (f x)) same (i, subst (λ n. i < n) (sym (length-mapped f items)) within, get_or-map f items i x (f x) within ∙ ap f (sym is))
+
+-- so of this holds what holds of it
+pub seen_at : {X : Type 0} (f : X → tree.Member) (Holds : Data → Type 0) (items : List X) (ms : List tree.Member) (i : ℕ) (x : X) → map f items ≡ ms → i < length items → x ≡ get_or items i x → Holds (f x).1 → SomeAt (f x).0 Holds ms
+seen_at f Holds items ms i x same within is holds = (f x, among_seen f items ms i x same within is, refl, holds)
 
 -- of these members one of this one's name passes
 pub some_among : (has : Data → Bool) (ms : List tree.Member) (m : tree.Member) → Contains ms m → has m.1 ≡ true → some_at m.0 has ms ≡ true
@@ -63,21 +68,21 @@ any_type s h p k t is within passes =
     (and_from (same_text (type_name (root_of s) k) t.name.now) (p k) (ap (λ n. same_text n t.name.now) (name_at s h k t is within) ∙ text-self t.name.now) passes)
 
 -- a fault of a type that stands at a place of the file
-pub type_fault : (s : Schema) → IsSchema s → (k : ℕ) (t : TypeTree) (f : TypeFault) → t ≡ get_or s.types.items k t → k < length s.types.items → is_type_fault (root_of s) k (tree_of t) f ≡ true → list_any (λ j. same_text (type_name (root_of s) j) t.name.now && is_type_fault (root_of s) j (type_tree (root_of s) j) f) (places (length (type_members (root_of s)))) ≡ true
+pub type_fault : (s : Schema) → IsSchema s → (k : ℕ) (t : TypeTree) (f : TypeFault) → t ≡ get_or s.types.items k t → k < length s.types.items → IsTypeFault (root_of s) k (tree_of t) f → IsFault (root_of s) (whole.Type t.name f)
 type_fault s h k t f is within fault =
-    any_type s h (λ j. is_type_fault (root_of s) j (type_tree (root_of s) j) f) k t is within (ap (λ u. is_type_fault (root_of s) k u f) (sym (tree_at s h k t is within)) ∙ fault)
+    (k, subst (λ n. k < n) (sym (as_many s h)) within, name_at s h k t is within, subst (λ u. IsTypeFault (root_of s) k u f) (tree_at s h k t is within) fault)
 
 -- ---- navigations
 
--- a single-valued navigation to this target that fails a test
-pub reference_fails : (d t target n : Data) (p : ℕ) (test : ReferenceTest) → Some p ≡ type_place d n → target ≡ type_tree d p → lacks (codes "$Collection") n ≡ true → passes_reference test t target n ≡ false → fails_reference d t test n ≡ true
-reference_fails d t target n p test place is one fails =
-    and_from (lacks (codes "$Collection") n) _ one (subst (λ (o : Option ℕ). is_some_and (λ q. not (passes_reference test t (type_tree d q) n)) o ≡ true) place (ap not (ap (λ u. passes_reference test t u n) (sym is) ∙ fails)))
+-- the first test that a single-valued navigation to this target fails
+pub reference_fails : (d t target n : Data) (p : ℕ) (test : ReferenceTest) → Some p ≡ type_place d n → target ≡ type_tree d p → lacks (codes "$Collection") n ≡ true → Some test ≡ failed_reference t target n → FailsReference d t test n
+reference_fails d t target n p test place is one first =
+    (one, subst (λ (o : Option ℕ). option_and_then (λ q. failed_reference t (type_tree d q) n) o ≡ Some test) place (ap (λ u. failed_reference t u n) (sym is) ∙ sym first))
 
--- a collection-valued navigation to this target that fails a test
-pub collection_fails : (d : Data) (k : ℕ) (target n : Data) (p : ℕ) (test : CollectionTest) → Some p ≡ type_place d n → target ≡ type_tree d p → lacks (codes "$Collection") n ≡ false → passes_collection test d k target n ≡ false → fails_collection d k test n ≡ true
-collection_fails d k target n p test place is many fails =
-    and_from (not (lacks (codes "$Collection") n)) _ (ap not many) (subst (λ (o : Option ℕ). is_some_and (λ q. not (passes_collection test d k (type_tree d q) n)) o ≡ true) place (ap not (ap (λ u. passes_collection test d k u n) (sym is) ∙ fails)))
+-- the first test that a collection-valued navigation to this target fails
+pub collection_fails : (d : Data) (k : ℕ) (target n : Data) (p : ℕ) (test : CollectionTest) → Some p ≡ type_place d n → target ≡ type_tree d p → lacks (codes "$Collection") n ≡ false → Some test ≡ failed_collection d k target n → FailsCollection d k test n
+collection_fails d k target n p test place is many first =
+    (many, subst (λ (o : Option ℕ). option_and_then (λ q. failed_collection d k (type_tree d q) n) o ≡ Some test) place (ap (λ u. failed_collection d k u n) (sym is) ∙ sym first))
 
 -- ---- counts
 

@@ -1,5 +1,5 @@
 -- A part that keeps its rules passes each of its tests.
-use Rattle.std.proofs.Common.{◌≡◌, ℕ, Bool, true, false, not, List, [], ◌∷◌, Some, None, refl, sym, subst, codes}
+use Rattle.std.proofs.Common.{◌≡◌, ℕ, Bool, true, false, not, List, [], ◌∷◌, Some, None, refl, subst, codes}
 use Rattle.std.specs.Prelude.{◌&&◌, ◌||◌, Option, is_some, if◌then◌else◌}
 use Rattle.std.specs.List.{list_all, list_any}
 use Rattle.std.proofs.lemmas.Bool.{false≢true}
@@ -51,15 +51,6 @@ kind_other name o k h = chosen (same_text name (codes "Edm.Int64")) (same_text n
     chosen true b rest g = refl
     chosen false true rest g = refl
     chosen false false rest g = g
-
--- where no decimal is named, the type of decimals does not matter
-pub kind_no_decimal : (name : List ℕ) (o p : Option EdmType) → same_text name (codes "Edm.Decimal") ≡ false → kind_named name o ≡ kind_named name p
-kind_no_decimal name o p h = chosen (same_text name (codes "Edm.Int64")) (same_text name (codes "Edm.Decimal")) _ h
-  where
-    chosen : (a b : Bool) (rest : Option EdmType) → b ≡ false → (if a then Some EdmType.Int else (if b then o else rest)) ≡ (if a then Some EdmType.Int else (if b then p else rest))
-    chosen true b rest g = refl
-    chosen false true rest g = absurd (false≢true (sym g))
-    chosen false false rest g = refl
 
 both_there : (s p : Option ℕ) → is_some (decimal_kind s p) ≡ true → (is_some s ≡ true) × (is_some p ≡ true)
 both_there None p h = absurd (false≢true h)

@@ -1,12 +1,14 @@
 -- Tests of the elements of lists and options, and what one test says of another.
 use Rattle.std.proofs.Common.{◌≡◌, ℕ, zero, suc, ◌<◌, Bool, true, false, not, cond, List, [], ◌∷◌, Some, None, refl, sym, ◌∙◌, ap, arith, inl, inr}
 use Rattle.std.specs.Prelude.{◌&&◌, ◌||◌, Option, is_some, is_none, if◌then◌else◌, filter}
-use Rattle.std.specs.List.{list_all, list_any}
+use Rattle.std.specs.List.{Contains, list_all, list_any}
 use Rattle.std.proofs.Math.Bool.{and-true, or-true, or-false}
 use Rattle.std.proofs.lemmas.Bool.{false≢true, cases_lt, or_from}
-use Rattle.std.proofs.lemmas.List.Folds.{list_all-append, list_any-append}
+use Rattle.std.proofs.lemmas.List.Folds.{list_all-append, list_all_at, list_any-append}
 use Rattle.edm_values.specs.Lists.{places, is_some_and}
+use Rattle.edm_schema.proofs.Counted.{all_places_at}
 use Rattle.edm_schema.proofs.Passing.{and_left, and_right}
+use Rattle.model_diagnosis.specs.Faults.{first_failed}
 
 -- both parts of a conjunction
 pub and_from : (a b : Bool) → a ≡ true → b ≡ true → (a && b) ≡ true
@@ -29,7 +31,31 @@ pub refuted : (b : Bool) → (b ≡ true → ⊥) → b ≡ false
 refuted true h = absurd (h refl)
 refuted false h = refl
 
+-- ---- tests of a part
+
+-- a test that fails is the first, and one that passes is not
+pub fails_here : {T : Type 0} (passes : T → Bool) (t : T) (tests : List T) → passes t ≡ false → first_failed passes (t ∷ tests) ≡ Some t
+fails_here passes t tests h = ap (λ b. cond (not b) (Some t) (first_failed passes tests)) h
+
+pub passes_here : {T : Type 0} (passes : T → Bool) (t : T) (tests : List T) → passes t ≡ true → first_failed passes (t ∷ tests) ≡ first_failed passes tests
+passes_here passes t tests h = ap (λ b. cond (not b) (Some t) (first_failed passes tests)) h
+
+-- where all tests pass none is the first that fails
+none_failed : {T : Type 0} (passes : T → Bool) → ((t : T) → passes t ≡ true) → (tests : List T) → first_failed passes tests ≡ None
+none_failed passes h [] = refl
+none_failed passes h (t ∷ tests) = passes_here passes t tests (h t) ∙ none_failed passes h tests
+
+pub never_first : {T : Type 0} (passes : T → Bool) (tests : List T) (test : T) → ((t : T) → passes t ≡ true) → first_failed passes tests ≡ Some test → ⊥
+never_first passes tests test h first = let none = none_failed passes h tests in cc
+
 -- ---- lists
+
+-- each element passes what all pass
+pub passes_among : {X : Type 0} (p : X → Bool) (xs : List X) (x : X) → list_all p xs ≡ true → Contains xs x → p x ≡ true
+passes_among p xs x all at = elim (p x) as (λ b. p x ≡ b → b ≡ true) [
+  | true ↦ λ e. refl
+  | false ↦ λ e. sym (list_all_at p xs at.0 x at.1 (ap p at.2 ∙ e)) ∙ all
+] refl
 
 -- no element passes a test that another one, which all pass, refutes
 pub none_any : {X : Type 0} (p q : X → Bool) → ((x : X) → p x ≡ true → q x ≡ false) → (xs : List X) → list_all p xs ≡ true → list_any q xs ≡ false
@@ -65,6 +91,10 @@ all_places p (suc n) h =
     list_all-append p (places n) (n ∷ [])
     ∙ (ap (λ b. list_all p (places n) && b) (and-true (p n)) ∙ and_from (list_all p (places n)) (p n) (all_places p n (λ k below. h k (omega arith))) (h n (omega arith)))
 
+-- so of each place, where all pass
+pub passes_place : (p : ℕ → Bool) (n k : ℕ) → list_all p (places n) ≡ true → k < n → p k ≡ true
+passes_place p n k h below = elim (p k) as (λ b. p k ≡ b → b ≡ true) [ true ↦ λ e. refl | false ↦ λ e. sym (all_places_at p n k below e) ∙ h ] refl
+
 -- a place that passes
 pub any_place : (p : ℕ → Bool) (n k : ℕ) → k < n → p k ≡ true → list_any p (places n) ≡ true
 any_place p zero k h passes = absurd (omega arith)
@@ -97,11 +127,6 @@ passes_first p q = some_weaker (λ x. p x && q x) p (λ x a. and_left (p x) (q x
 
 pub passes_second : {X : Type 0} (p q : X → Bool) (o : Option X) → is_some_and (λ x. p x && q x) o ≡ true → is_some_and q o ≡ true
 passes_second p q = some_weaker (λ x. p x && q x) q (λ x a. and_right (p x) (q x) a)
-
--- what is there fails a test that one which it passes refutes
-pub some_fails : {X : Type 0} (p q : X → Bool) → ((x : X) → p x ≡ true → q x ≡ false) → (o : Option X) → is_some_and p o ≡ true → is_some_and q o ≡ false
-some_fails p q h None a = refl
-some_fails p q h (Some x) a = h x a
 
 -- of two tests the one that is chosen
 pub first_chosen : {X : Type 0} (b : Bool) (p q : X → Bool) (o : Option X) → is_some_and (λ x. if b then p x else q x) o ≡ true → b ≡ true → is_some_and p o ≡ true

@@ -3,7 +3,7 @@ use Rattle.std.proofs.Common.{◌≡◌, ℕ, zero, suc, ◌+◌, ◌<◌, ◌�
 use Rattle.std.specs.Prelude.{◌&&◌, ◌||◌, option_map, unwrap_or, slice_get, filter, is_some, IfNone, Option, if◌then◌else◌}
 use Rattle.std.specs.List.{list_all, Contains}
 use Rattle.std.proofs.lemmas.List.{take_all}
-use Rattle.std.proofs.lemmas.List.Folds.{list_all-map, list_all_more, list_all_at}
+use Rattle.std.proofs.lemmas.List.Folds.{list_all-map, list_all_more}
 use Rattle.serde_json.specs.Data.{Data, null}
 use Rattle.edm_values.specs.Lists.{places, is_some_and}
 use Rattle.edm_schema.specs.JsonTrees as tree
@@ -11,11 +11,10 @@ use Rattle.edm_schema.specs.JsonTrees.{Member, members_in, is_object, is_string,
 use Rattle.edm_schema.specs.MemberLists.{member_seen, qualified_members}
 use Rattle.edm_schema.specs.declared.members.Member.{Member as Declared}
 use Rattle.edm_schema.specs.ModelTrees.{is_type, is_own, is_property, is_navigation, has_one_key, has_known_members, has_property_type, has_scale_in_place, kind_of, is_navigable, is_constrained, has_partner, is_reference_to, type_place, constraint, key_name, property_kind, are_of_one_kind, is_hierarchy, is_definition, is_custom_name, qualifier, hierarchy_term, aggregate_term, definition_term, own_members, property_members, navigation_members, term_members, type_members, type_tree}
-use Rattle.edm_schema.proofs.Counted.{all_places_at}
 use Rattle.edm_schema.proofs.Passing.{and_left, and_right}
 use Rattle.model_diagnosis.specs.Faults.{property_names, reference_names, collection_names}
 use Rattle.model_diagnosis.specs.Searched.{has_only, passes_property_tests, passes_reference_tests, passes_collection_tests, is_sound_property, has_sound_parts, has_sound_terms, has_sound_links}
-use Rattle.model_diagnosis.proofs.Tests.{and_from, all_weaker, all_filtered, all_places}
+use Rattle.model_diagnosis.proofs.Tests.{and_from, all_weaker, all_filtered, all_places, passes_among, passes_place}
 
 -- what all that was searched passes, all members pass
 pub all_searched : {X : Type 0} (f : X → tree.Member) (p : tree.Member → Bool) (items : List X) (ms : List tree.Member) (i : ℕ) → map f items ≡ ms → length items ≤ i → list_all (λ x. p (f x)) (take i items) ≡ true → list_all p ms ≡ true
@@ -38,10 +37,7 @@ all_kept keep [] = refl
 all_kept keep (x ∷ xs) = elim (keep x) as (λ b. keep x ≡ b → list_all keep (cond b (x ∷ filter keep xs) (filter keep xs)) ≡ true) [ true ↦ λ e. and_from (keep x) _ e (all_kept keep xs) | false ↦ λ e. all_kept keep xs ] refl
 
 pub kept_passes : {X : Type 0} (keep : X → Bool) (xs : List X) (x : X) → Contains (filter keep xs) x → keep x ≡ true
-kept_passes keep xs x at = elim (keep x) as (λ b. keep x ≡ b → b ≡ true) [
-  | true ↦ λ e. refl
-  | false ↦ λ e. sym (list_all_at keep (filter keep xs) at.0 x at.1 (ap keep at.2 ∙ e)) ∙ all_kept keep xs
-] refl
+kept_passes keep xs x = passes_among keep (filter keep xs) x (all_kept keep xs)
 
 -- a property whose members have names of properties and pass their tests keeps its rules
 pub property_holds : (p : Data) → is_property p ≡ true → has_only property_names p ≡ true → passes_property_tests p ≡ true → is_sound_property p ≡ true
@@ -106,10 +102,7 @@ pub types_hold : (d : Data) → list_all (λ m. has_sound_parts m.1) (type_membe
 types_hold d parts links =
     all_places (λ k. is_type d k (type_tree d k)) (length (type_members d)) (λ k below.
     type_holds d k (type_tree d k) (tree_passes has_sound_parts (type_members d) k below parts)
-    (places_pass (λ k. has_sound_links d k (type_tree d k)) (length (type_members d)) k links below))
-  where
-    places_pass : (p : ℕ → Bool) (n k : ℕ) → list_all p (places n) ≡ true → k < n → p k ≡ true
-    places_pass p n k h below = elim (p k) as (λ b. p k ≡ b → b ≡ true) [ true ↦ λ e. refl | false ↦ λ e. sym (all_places_at p n k below e) ∙ h ] refl
+    (passes_place (λ k. has_sound_links d k (type_tree d k)) (length (type_members d)) k links below))
 
 -- where nothing is found what follows holds
 pub if_none : {X : Type 0} (P Q : Type 0) → (P → Q) → (o : Option X) → IfNone o P → IfNone o Q

@@ -1,4 +1,6 @@
 //! The parts of a model file that may be at fault, each with the test that it fails.
+//!
+//! The tests of a part stand in the order in which they are made. One is named where those before it hold and it does not.
 
 /// What the root of a file has.
 #[derive(Clone, Copy, Debug, Drop)]

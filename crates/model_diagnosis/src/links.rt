@@ -1,10 +1,11 @@
 //! The navigation properties of an entity type.
 ghost use Rattle.std.specs.Prelude.{ℕ, ◌≡◌, true, false, IfSome, IfNone};
 ghost use Rattle.std.specs.List.{list_all, Contains};
+ghost use Rattle.serde_json.specs.Data.{Data};
 ghost use Rattle.serde_json.specs.View.{view};
 ghost use Rattle.edm_schema.specs.ModelTrees as rules;
 ghost use Rattle.edm_schema.specs.MemberLists.{member_seen, root_of, tree_of, IsTypeTree, IsSchema};
-ghost use Rattle.model_diagnosis.specs.Faults.{passes_reference, passes_collection, has_other, reference_names, collection_names, is_type_fault};
+ghost use Rattle.model_diagnosis.specs.Faults.{failed_reference, failed_collection, has_other, reference_names, collection_names, navigation_names, IsTypeFault};
 ghost use Rattle.model_diagnosis.specs.Searched.{has_only, passes_reference_tests, passes_collection_tests};
 
 use crate::faults::{CollectionTest, ReferenceTest, TypeFault};
@@ -23,7 +24,7 @@ fn failed_reference_test(
 ) -> Option<ReferenceTest>
     requires t { IsTypeTree t.now }
     requires target { IsTypeTree target.now }
-    ensures fails { IfSome result (λ test. passes_reference test (tree_of t.now) (tree_of target.now) (view navigation.now) ≡ false) }
+    ensures first { result ≡ failed_reference (tree_of t.now) (tree_of target.now) (view navigation.now) }
     ensures none { IfNone result (passes_reference_tests (tree_of t.now) (tree_of target.now) (view navigation.now) ≡ true) }
 {
     if !is_object_at("$ReferentialConstraint", navigation) {
@@ -55,7 +56,7 @@ fn failed_collection_test(
 ) -> Option<CollectionTest>
     requires schema { IsSchema schema.now }
     requires target { IsTypeTree target.now }
-    ensures fails { IfSome result (λ test. passes_collection test (root_of schema.now) k (tree_of target.now) (view navigation.now) ≡ false) }
+    ensures first { result ≡ failed_collection (root_of schema.now) k (tree_of target.now) (view navigation.now) }
     ensures none { IfNone result (passes_collection_tests (root_of schema.now) k (tree_of target.now) (view navigation.now) ≡ true) }
 {
     if !is_true_at("$Collection", navigation) {
@@ -103,6 +104,25 @@ fn other_in_collection(navigation: &Value) -> Option<&str>
     )
 }
 
+/// A member of a navigation property that no rule names.
+fn other_fault<'v>(t: &TypeTree<'v>, member: Member<'v>) -> Option<TypeFault<'v>>
+    requires t { IsTypeTree t.now }
+    requires among { Contains (rules.navigation_members (tree_of t.now)) (member_seen member) }
+    ensures found { IfSome result (λ f. (d : Data) (k : ℕ) → IsTypeFault d k (tree_of t.now) f) }
+    ensures none { IfNone result (has_only (navigation_names (view member.entry.value.now)) (view member.entry.value.now) ≡ true) }
+{
+    if lacks("$Collection", member.value) {
+        if let Some(other) = other_in_reference(member.value) {
+            return Some(TypeFault::ReferenceMember(member.name, other));
+        }
+        return None;
+    }
+    if let Some(other) = other_in_collection(member.value) {
+        return Some(TypeFault::CollectionMember(member.name, other));
+    }
+    None
+}
+
 /// What is at fault in a navigation property.
 fn navigation_fault<'v>(
     schema: &Schema<'v>,
@@ -113,34 +133,34 @@ fn navigation_fault<'v>(
     requires schema { IsSchema schema.now }
     requires t { IsTypeTree t.now }
     requires among { Contains (rules.navigation_members (tree_of t.now)) (member_seen member) }
-    ensures found { IfSome result (λ f. is_type_fault (root_of schema.now) k (tree_of t.now) f ≡ true) }
+    ensures found { IfSome result (λ f. IsTypeFault (root_of schema.now) k (tree_of t.now) f) }
     ensures none { IfNone result (rules.is_navigable (root_of schema.now) k (tree_of t.now) (view member.entry.value.now) ≡ true) }
 {
+    if let Some(fault) = other_fault(t, member) {
+        return Some(fault);
+    }
     let Some(place) = type_place(schema, member.value) else {
         return Some(TypeFault::Target(member.name));
     };
     let target = &schema.types[place];
     if lacks("$Collection", member.value) {
-        if let Some(other) = other_in_reference(member.value) {
-            return Some(TypeFault::ReferenceMember(member.name, other));
-        }
         let test = failed_reference_test(t, target, member.value)?;
         return Some(TypeFault::Reference(member.name, test));
-    }
-    if let Some(other) = other_in_collection(member.value) {
-        return Some(TypeFault::CollectionMember(member.name, other));
     }
     let test = failed_collection_test(schema, k, target, member.value)?;
     Some(TypeFault::Collection(member.name, test))
 }
 
-/// A navigation property of a type that leads to no entity type of the schema.
+/// A navigation property of a type with a member that no rule names, or that leads to no entity type of the schema.
 pub(crate) fn target_fault<'v>(schema: &Schema<'v>, t: &TypeTree<'v>) -> Option<TypeFault<'v>>
     requires schema { IsSchema schema.now }
     requires t { IsTypeTree t.now }
-    ensures { IfSome result (λ f. (k : ℕ) → is_type_fault (root_of schema.now) k (tree_of t.now) f ≡ true) }
+    ensures { IfSome result (λ f. (k : ℕ) → IsTypeFault (root_of schema.now) k (tree_of t.now) f) }
 {
     for member in &t.navigations {
+        if let Some(fault) = other_fault(t, *member) {
+            return Some(fault);
+        }
         if type_place(schema, member.value).is_none() {
             return Some(TypeFault::Target(member.name));
         }
@@ -156,7 +176,7 @@ pub(crate) fn navigations_fault<'v>(
 ) -> Option<TypeFault<'v>>
     requires schema { IsSchema schema.now }
     requires t { IsTypeTree t.now }
-    ensures found { IfSome result (λ f. is_type_fault (root_of schema.now) k (tree_of t.now) f ≡ true) }
+    ensures found { IfSome result (λ f. IsTypeFault (root_of schema.now) k (tree_of t.now) f) }
     ensures none { let d = tree_of t.now in IfNone result (list_all (λ m. rules.is_navigable (root_of schema.now) k d m.1) (rules.navigation_members d) ≡ true) }
 {
     for member in &t.navigations {

@@ -6,7 +6,7 @@ ghost use Rattle.serde_json.specs.View.{view};
 ghost use Rattle.edm_values.specs.declared.EdmType as kinds;
 ghost use Rattle.edm_schema.specs.ModelTrees as rules;
 ghost use Rattle.edm_schema.specs.MemberLists.{tree_of, IsTypeTree};
-ghost use Rattle.model_diagnosis.specs.Faults.{passes_property, passes_key, is_type_fault};
+ghost use Rattle.model_diagnosis.specs.Faults.{failed_property, failed_key, IsTypeFault};
 ghost use Rattle.model_diagnosis.specs.Searched.{passes_property_tests, is_sound_property, has_sound_parts};
 
 use crate::faults::{KeyTest, PropertyTest, TypeFault};
@@ -31,27 +31,9 @@ fn is_type_name(name: &str) -> bool
     )
 }
 
-/// The first test of its scale and precision that a decimal fails.
-fn failed_decimal_test(property: &Value) -> Option<PropertyTest>
-    requires { rules.is_decimal_property (view property.now) ≡ true }
-    ensures fails { IfSome result (λ test. passes_property test (view property.now) ≡ false) }
-    ensures none { IfNone result (is_some (rules.kind_of (view property.now)) ≡ true) }
-{
-    if scale_of(property).is_none() {
-        return Some(PropertyTest::Scale);
-    }
-    if precision_of(property).is_none() {
-        return Some(PropertyTest::Precision);
-    }
-    if kind_of(property).is_none() {
-        return Some(PropertyTest::ScaleInPrecision);
-    }
-    None
-}
-
 /// The first test that a property fails.
 fn failed_property_test(property: &Value) -> Option<PropertyTest>
-    ensures fails { IfSome result (λ test. passes_property test (view property.now) ≡ false) }
+    ensures first { result ≡ failed_property (view property.now) }
     ensures none { IfNone result (passes_property_tests (view property.now) ≡ true) }
 {
     if !is_string_if_there("$Type", property) {
@@ -63,8 +45,15 @@ fn failed_property_test(property: &Value) -> Option<PropertyTest>
     if !is_type_name(kind_name(property)) {
         return Some(PropertyTest::TypeName);
     }
-    if is_decimal_property(property) {
-        return failed_decimal_test(property);
+    let is_decimal = is_decimal_property(property);
+    if is_decimal && scale_of(property).is_none() {
+        return Some(PropertyTest::Scale);
+    }
+    if is_decimal && precision_of(property).is_none() {
+        return Some(PropertyTest::Precision);
+    }
+    if kind_of(property).is_none() {
+        return Some(PropertyTest::ScaleInPrecision);
     }
     if !has_scale_in_place(property) {
         return Some(PropertyTest::ScaleInPlace);
@@ -75,7 +64,7 @@ fn failed_property_test(property: &Value) -> Option<PropertyTest>
 /// What is at fault in one of the properties of a type.
 fn properties_fault<'v>(t: &TypeTree<'v>) -> Option<TypeFault<'v>>
     requires { IsTypeTree t.now }
-    ensures found { IfSome result (λ f. (d : Data) (k : ℕ) → is_type_fault d k (tree_of t.now) f ≡ true) }
+    ensures found { IfSome result (λ f. (d : Data) (k : ℕ) → IsTypeFault d k (tree_of t.now) f) }
     ensures none { IfNone result (list_all (λ m. is_sound_property m.1) (rules.property_members (tree_of t.now)) ≡ true) }
 {
     for member in &t.properties {
@@ -95,7 +84,7 @@ fn properties_fault<'v>(t: &TypeTree<'v>) -> Option<TypeFault<'v>>
 /// A member of a type that is neither a property nor a navigation property.
 fn members_fault<'v>(t: &TypeTree<'v>) -> Option<TypeFault<'v>>
     requires { IsTypeTree t.now }
-    ensures found { IfSome result (λ f. (d : Data) (k : ℕ) → is_type_fault d k (tree_of t.now) f ≡ true) }
+    ensures found { IfSome result (λ f. (d : Data) (k : ℕ) → IsTypeFault d k (tree_of t.now) f) }
     ensures none { IfNone result (rules.has_known_members (tree_of t.now) ≡ true) }
 {
     for member in &t.own {
@@ -109,7 +98,7 @@ fn members_fault<'v>(t: &TypeTree<'v>) -> Option<TypeFault<'v>>
 /// The first test that the key of a type fails.
 fn failed_key_test(t: &TypeTree<'_>) -> Option<KeyTest>
     requires { IsTypeTree t.now }
-    ensures fails { IfSome result (λ test. passes_key test (tree_of t.now) ≡ false) }
+    ensures first { result ≡ failed_key (tree_of t.now) }
     ensures none { IfNone result (rules.has_one_key (tree_of t.now) ≡ true) }
 {
     if !has_key_name(t.value) {
@@ -130,7 +119,7 @@ fn failed_key_test(t: &TypeTree<'_>) -> Option<KeyTest>
 /// What is at fault in what a type has of its own.
 pub(crate) fn part_fault<'v>(t: &TypeTree<'v>) -> Option<TypeFault<'v>>
     requires { IsTypeTree t.now }
-    ensures found { IfSome result (λ f. (d : Data) (k : ℕ) → is_type_fault d k (tree_of t.now) f ≡ true) }
+    ensures found { IfSome result (λ f. (d : Data) (k : ℕ) → IsTypeFault d k (tree_of t.now) f) }
     ensures none { IfNone result (has_sound_parts (tree_of t.now) ≡ true) }
 {
     if let Some(fault) = members_fault(t) {

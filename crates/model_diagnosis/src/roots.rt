@@ -8,7 +8,7 @@ ghost use Rattle.edm_schema.specs.JsonTrees as tree;
 ghost use Rattle.edm_schema.specs.JsonTrees.{members_in};
 ghost use Rattle.edm_schema.specs.ModelTrees as rules;
 ghost use Rattle.edm_schema.specs.MemberLists.{root_of, IsSchema};
-ghost use Rattle.model_diagnosis.specs.Faults.{passes_root, passes_containers, is_fault};
+ghost use Rattle.model_diagnosis.specs.Faults.{failed_root, failed_containers, IsFault};
 ghost use Rattle.model_diagnosis.specs.Faults as parts;
 ghost use Rattle.model_diagnosis.specs.Searched.{passes_root_tests};
 
@@ -23,7 +23,7 @@ use serde_json::Value;
 
 /// The first test that the root fails.
 fn failed_root_test(root: &Value) -> Option<RootTest>
-    ensures fails { IfSome result (λ test. passes_root test (view root.now) ≡ false) }
+    ensures first { result ≡ failed_root (view root.now) }
     ensures none { IfNone result (passes_root_tests (view root.now) ≡ true) }
 {
     if !root.is_object() {
@@ -47,7 +47,7 @@ fn failed_root_test(root: &Value) -> Option<RootTest>
 
 /// What is at fault in the root.
 fn root_fault(root: &Value) -> Option<Fault<'_>>
-    ensures found { IfSome result (λ f. is_fault (view root.now) f ≡ true) }
+    ensures found { IfSome result (λ f. IsFault (view root.now) f) }
     ensures none { IfNone result (rules.has_one_schema (view root.now) ≡ true) }
 {
     if let Some(test) = failed_root_test(root) {
@@ -60,7 +60,7 @@ fn root_fault(root: &Value) -> Option<Fault<'_>>
 /// A member of a schema that is neither an entity type nor a container.
 fn members_fault<'v>(schema: &Schema<'v>) -> Option<Fault<'v>>
     requires { IsSchema schema.now }
-    ensures found { IfSome result (λ f. is_fault (root_of schema.now) f ≡ true) }
+    ensures found { IfSome result (λ f. IsFault (root_of schema.now) f) }
     ensures none { IfNone result (list_all parts.is_schema_member (members_in (rules.schema (root_of schema.now))) ≡ true) }
 {
     for member in &schema.members {
@@ -74,7 +74,7 @@ fn members_fault<'v>(schema: &Schema<'v>) -> Option<Fault<'v>>
 /// The first test that the containers of a schema fail.
 fn failed_container_test(schema: &Schema<'_>) -> Option<ContainerTest>
     requires { IsSchema schema.now }
-    ensures fails { IfSome result (λ test. passes_containers test (root_of schema.now) ≡ false) }
+    ensures first { result ≡ failed_containers (root_of schema.now) }
     ensures none { let d = root_of schema.now in IfNone result (is_some_and (λ m. same_text m.0 (after_last is_point (rules.container_path d))) (tree.only (rules.container_members d)) ≡ true) }
 {
     let Some(container) = only(schema.containers.as_slice()) else {
@@ -89,7 +89,7 @@ fn failed_container_test(schema: &Schema<'_>) -> Option<ContainerTest>
 /// What is at fault in the root or in the members of the schema.
 pub(crate) fn outer_fault<'v>(schema: &Schema<'v>) -> Option<Fault<'v>>
     requires { IsSchema schema.now }
-    ensures found { IfSome result (λ f. is_fault (root_of schema.now) f ≡ true) }
+    ensures found { IfSome result (λ f. IsFault (root_of schema.now) f) }
     ensures none { let d = root_of schema.now in IfNone result ((rules.has_one_schema d && rules.has_one_container d) ≡ true) }
 {
     if let Some(fault) = root_fault(schema.root) {

@@ -5,7 +5,7 @@ ghost use Rattle.serde_json.specs.View.{view};
 ghost use Rattle.edm_values.specs.Lists.{exactly_one, places};
 ghost use Rattle.edm_schema.specs.ModelTrees as rules;
 ghost use Rattle.edm_schema.specs.MemberLists.{root_of, IsSchema};
-ghost use Rattle.model_diagnosis.specs.Faults.{passes_set, is_fault};
+ghost use Rattle.model_diagnosis.specs.Faults.{failed_set, IsFault};
 ghost use Rattle.model_diagnosis.specs.Searched.{passes_set_tests};
 
 use crate::faults::{Fault, SetTest};
@@ -20,7 +20,7 @@ use std::alloc::{AllocError, Global};
 /// The first test that an entity set fails.
 fn failed_set_test(schema: &Schema<'_>, set: &Value) -> Option<SetTest>
     requires { IsSchema schema.now }
-    ensures fails { IfSome result (λ test. passes_set test (root_of schema.now) (view set.now) ≡ false) }
+    ensures first { result ≡ failed_set (root_of schema.now) (view set.now) }
     ensures none { IfNone result (passes_set_tests (root_of schema.now) (view set.now) ≡ true) }
 {
     if !set.is_object() {
@@ -38,7 +38,7 @@ fn failed_set_test(schema: &Schema<'_>, set: &Value) -> Option<SetTest>
 /// What is at fault in one of the entity sets.
 fn members_fault<'v>(schema: &Schema<'v>) -> Option<Fault<'v>>
     requires { IsSchema schema.now }
-    ensures found { IfSome result (λ f. is_fault (root_of schema.now) f ≡ true) }
+    ensures found { IfSome result (λ f. IsFault (root_of schema.now) f) }
     ensures none { let d = root_of schema.now in IfNone result (list_all (λ m. rules.is_entity_set d m.1) (rules.set_members d) ≡ true) }
 {
     for member in &schema.sets {
@@ -55,7 +55,7 @@ fn members_fault<'v>(schema: &Schema<'v>) -> Option<Fault<'v>>
 /// An entity type that has no set, or several.
 fn count_fault<'v>(alloc: Global, schema: &Schema<'v>) -> Result<Option<Fault<'v>>, AllocError>
     requires { IsSchema schema.now }
-    ensures found { IfOk result (λ o. IfSome o (λ f. is_fault (root_of schema.now) f ≡ true)) }
+    ensures found { IfOk result (λ o. IfSome o (λ f. IsFault (root_of schema.now) f)) }
     ensures none { let d = root_of schema.now in IfOk result (λ o. IfNone o (list_all (λ k. exactly_one (λ m. rules.leads_to d k m.1) (rules.set_members d)) (places (length (rules.type_members d))) ≡ true)) }
 {
     let counts = set_counts(alloc, schema)?;
@@ -73,7 +73,7 @@ pub(crate) fn sets_fault<'v>(
     schema: &Schema<'v>,
 ) -> Result<Option<Fault<'v>>, AllocError>
     requires { IsSchema schema.now }
-    ensures found { IfOk result (λ o. IfSome o (λ f. is_fault (root_of schema.now) f ≡ true)) }
+    ensures found { IfOk result (λ o. IfSome o (λ f. IsFault (root_of schema.now) f)) }
     ensures none { IfOk result (λ o. IfNone o (rules.has_one_set_each (root_of schema.now) ≡ true)) }
 {
     if let Some(fault) = members_fault(schema) {

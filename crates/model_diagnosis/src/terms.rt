@@ -6,7 +6,7 @@ ghost use Rattle.serde_json.specs.View.{view};
 ghost use Rattle.edm_schema.specs.JsonTrees.{is_string};
 ghost use Rattle.edm_schema.specs.ModelTrees as rules;
 ghost use Rattle.edm_schema.specs.MemberLists.{root_of, tree_of, IsTypeTree, IsSchema};
-ghost use Rattle.model_diagnosis.specs.Faults.{passes_hierarchy, passes_definition, is_type_fault};
+ghost use Rattle.model_diagnosis.specs.Faults.{failed_hierarchy, failed_definition, IsTypeFault};
 ghost use Rattle.model_diagnosis.specs.Searched.{passes_hierarchy_tests, passes_definition_tests, has_sound_terms};
 
 use crate::faults::{DefinitionTest, HierarchyTest, TypeFault};
@@ -26,7 +26,7 @@ fn failed_hierarchy_test(
 ) -> Option<HierarchyTest>
     requires schema { IsSchema schema.now }
     requires t { IsTypeTree t.now }
-    ensures fails { IfSome result (λ test. passes_hierarchy test (root_of schema.now) k (tree_of t.now) (view hierarchy.now) ≡ false) }
+    ensures first { result ≡ failed_hierarchy (root_of schema.now) k (tree_of t.now) (view hierarchy.now) }
     ensures none { IfNone result (passes_hierarchy_tests (root_of schema.now) k (tree_of t.now) (view hierarchy.now) ≡ true) }
 {
     if !hierarchy.is_object() {
@@ -49,7 +49,7 @@ fn failed_hierarchy_test(
 fn hierarchies_fault<'v>(schema: &Schema<'v>, k: usize, t: &TypeTree<'v>) -> Option<TypeFault<'v>>
     requires schema { IsSchema schema.now }
     requires t { IsTypeTree t.now }
-    ensures found { IfSome result (λ f. is_type_fault (root_of schema.now) k (tree_of t.now) f ≡ true) }
+    ensures found { IfSome result (λ f. IsTypeFault (root_of schema.now) k (tree_of t.now) f) }
     ensures none { let d = tree_of t.now in IfNone result (list_all (λ m. rules.is_hierarchy (root_of schema.now) k d m.1) (rules.term_members rules.hierarchy_term d) ≡ true) }
 {
     for member in &t.hierarchies {
@@ -69,7 +69,7 @@ fn hierarchies_fault<'v>(schema: &Schema<'v>, k: usize, t: &TypeTree<'v>) -> Opt
 /// A custom aggregate of a type that is no string.
 fn aggregates_fault<'v>(t: &TypeTree<'v>) -> Option<TypeFault<'v>>
     requires { IsTypeTree t.now }
-    ensures found { IfSome result (λ f. (d : Data) (k : ℕ) → is_type_fault d k (tree_of t.now) f ≡ true) }
+    ensures found { IfSome result (λ f. (d : Data) (k : ℕ) → IsTypeFault d k (tree_of t.now) f) }
     ensures none { let d = tree_of t.now in IfNone result (list_all (λ m. is_string m.1) (rules.term_members rules.aggregate_term d) ≡ true) }
 {
     for member in &t.aggregates {
@@ -87,7 +87,7 @@ fn failed_definition_test(
     definition: &Value,
 ) -> Option<DefinitionTest>
     requires { IsTypeTree t.now }
-    ensures fails { IfSome result (λ test. passes_definition test (tree_of t.now) name.now (view definition.now) ≡ false) }
+    ensures first { result ≡ failed_definition (tree_of t.now) name.now (view definition.now) }
     ensures none { IfNone result (passes_definition_tests (tree_of t.now) name.now (view definition.now) ≡ true) }
 {
     if !definition.is_object() {
@@ -114,7 +114,7 @@ fn failed_definition_test(
 /// What is at fault in one of the definitions of the custom aggregates of a type.
 fn definitions_fault<'v>(t: &TypeTree<'v>) -> Option<TypeFault<'v>>
     requires { IsTypeTree t.now }
-    ensures found { IfSome result (λ f. (d : Data) (k : ℕ) → is_type_fault d k (tree_of t.now) f ≡ true) }
+    ensures found { IfSome result (λ f. (d : Data) (k : ℕ) → IsTypeFault d k (tree_of t.now) f) }
     ensures none { let d = tree_of t.now in IfNone result (list_all (λ m. rules.is_definition m.1 && rules.is_custom_name d (rules.qualifier rules.definition_term m.0)) (rules.term_members rules.definition_term d) ≡ true) }
 {
     for member in &t.definitions {
@@ -136,7 +136,7 @@ pub(crate) fn terms_fault<'v>(
 ) -> Option<TypeFault<'v>>
     requires schema { IsSchema schema.now }
     requires t { IsTypeTree t.now }
-    ensures found { IfSome result (λ f. is_type_fault (root_of schema.now) k (tree_of t.now) f ≡ true) }
+    ensures found { IfSome result (λ f. IsTypeFault (root_of schema.now) k (tree_of t.now) f) }
     ensures none { IfNone result (has_sound_terms (root_of schema.now) k (tree_of t.now) ≡ true) }
 {
     if let Some(fault) = hierarchies_fault(schema, k, t) {

@@ -5,6 +5,7 @@ use Rattle.std.specs.List.{list_all}
 use Rattle.std.proofs.lemmas.List.{take_all}
 use Rattle.serde_json.specs.View.{view}
 use Rattle.edm_values.specs.Values.{seen_value}
+use Rattle.edm_model.specs.JsonTrees.{is_object}
 use Rattle.edm_model.specs.LookUps.{properties_of}
 use Rattle.edm_data.specs.DataFile.{property_value}
 use Rattle.edm_data.proofs.EntityLemmas.{prop_item, values-none}
@@ -17,7 +18,7 @@ pub returns-then-is_none-clause-found : goal.returns-then-is_none-clause-found
 returns-then-is_none-clause-found c =
     let m = c.args.model.now in
     let here = part_is c.props-props.result.now c.args.t (length (properties_of m c.args.t)) c.loop-p.p-index c.p-item.result c.props-props.ensures c.loop-p-test.true c.p-item.is in
-    subst (λ t. is_shape_fault m t (view c.args.item.now) c.property_fault.result ≡ true) (ap (λ q. q.of) here) c.property_fault.ensures.found
+    subst (λ t. is_shape_fault m t (view c.args.item.now) c.property_fault.result ≡ is_object (view c.args.item.now)) (ap (λ q. q.of) here) c.property_fault.ensures.found
 
 pub returns-then-is_none-clause-refused : goal.returns-then-is_none-clause-refused
 returns-then-is_none-clause-refused c =

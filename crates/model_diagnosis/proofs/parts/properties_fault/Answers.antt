@@ -1,5 +1,5 @@
 -- A property that fails a test or has another member.
-use Rattle.std.proofs.Common.{◌≡◌, not, ap, arith, length, true}
+use Rattle.std.proofs.Common.{◌≡◌, Some, sym, ap, arith, length, true}
 use Rattle.edm_schema.specs.JsonTrees as tree
 use Rattle.edm_schema.specs.ModelTrees.{is_own, is_property, property_members}
 use Rattle.serde_json.specs.View.{view}
@@ -8,8 +8,9 @@ use Rattle.edm_schema.specs.JsonTrees.{members_in}
 use Rattle.edm_schema.specs.declared.members.Member.{Member}
 use Rattle.edm_schema.specs.MemberLists.{member_seen, tree_of}
 use Rattle.edm_schema.proofs.Passing.{and_right}
+use Rattle.model_diagnosis.specs.Faults.{failed_property}
 use Rattle.model_diagnosis.specs.Searched.{is_sound_property}
-use Rattle.model_diagnosis.proofs.Found.{some_seen, among_seen}
+use Rattle.model_diagnosis.proofs.Found.{some_seen, seen_at, among_seen}
 use Rattle.model_diagnosis.proofs.Unbroken.{all_searched, kept_passes, one_more, property_holds}
 use Rattle.model_diagnosis.proofs.parts.properties_fault.Goals as goal
 
@@ -21,7 +22,7 @@ returns-in-Some-clause-found c =
 pub returns-in-Some-failed_property_test-clause-found : goal.returns-in-Some-failed_property_test-clause-found
 returns-in-Some-failed_property_test-clause-found c =
     let items = c.deref-member-items.ensures.value in
-    λ d k. some_seen member_seen _ c.args.t.now.properties.items _ c.loop-member.member-index c.member-item.result c.requires.properties (rw items at c.loop-member-test.true) (rw items at c.member-item.is) (ap not c.in-Some-failed_property_test.ensures.fails)
+    λ d k. seen_at member_seen (λ p. failed_property p ≡ Some c.in-Some-failed_property_test.test) c.args.t.now.properties.items _ c.loop-member.member-index c.member-item.result c.requires.properties (rw items at c.loop-member-test.true) (rw items at c.member-item.is) (sym c.in-Some-failed_property_test.ensures.first)
 
 pub loop-member-preserved : goal.loop-member-preserved
 loop-member-preserved c =

@@ -1,6 +1,6 @@
 -- A file with a fault is refused.
-use Rattle.std.proofs.Common.{◌≡◌, true, rules}
-use Rattle.model_diagnosis.specs.Faults.{is_fault}
+use Rattle.std.proofs.Common.{rules}
+use Rattle.model_diagnosis.specs.Faults.{IsFault}
 use Rattle.edm_schema.specs.MemberLists.{root_of}
 use Rattle.model_diagnosis.proofs.Broken.{fault_breaks, found_breaks}
 use Rattle.model_diagnosis.proofs.search.first_fault.Goals as goal
@@ -14,7 +14,7 @@ returns-in-Some-types_fault-clause-refused c = fault_breaks (root_of c.args.sche
 pub returns-in-Some-2-clause-refused : goal.returns-in-Some-2-clause-refused
 returns-in-Some-2-clause-refused c =
     let d = root_of c.args.schema.now in
-    let found : is_fault d c.in-Some-2.fault ≡ true = search rules in
+    let found : IsFault d c.in-Some-2.fault = search rules in
     fault_breaks d c.in-Some-2.fault found
 
 pub returns-clause-refused : goal.returns-clause-refused
