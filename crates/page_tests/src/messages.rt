@@ -37,6 +37,10 @@ const NO_OBJECTS: &[(&[u8], &str)] = &[
         b"{\"a\":\"\xff\"}",
         "line 1, column 7: the bytes are no UTF-8 text",
     ),
+    (
+        b"{'a':\"\xff\"}",
+        "line 1, column 7: the bytes are no UTF-8 text",
+    ),
     (b"[]", "the file holds an array, and must hold an object"),
     (b"17", "the file holds a number, and must hold an object"),
     (b"\"x\"", "the file holds a string, and must hold an object"),

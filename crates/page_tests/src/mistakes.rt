@@ -55,6 +55,11 @@ pub(crate) const IN_MODEL_1: &[(&str, &str, &str)] = &[
     ),
     (
         "\"C\":{\"$Kind\"",
+        "\"$Annotations\":{},\"C\":{\"$Kind\"",
+        "member \"$Annotations\": no rule names it; a schema has entity types and one entity container (rule 2)",
+    ),
+    (
+        "\"C\":{\"$Kind\"",
         "\"B\":{\"$Kind\":\"EntityContainer\"},\"C\":{\"$Kind\"",
         "the schema must have exactly one member of \"$Kind\" \"EntityContainer\" (rule 2)",
     ),
@@ -72,6 +77,11 @@ pub(crate) const IN_MODEL_1: &[(&str, &str, &str)] = &[
         "\"Sale\":{\"$Kind\":\"EntityType\",\"$Key\":[\"ID\"]",
         "\"Sale\":{\"$Kind\":\"EntityType\",\"$Key\":[\"Id\"]",
         "entity type \"Sale\": \"$Key\" must name a property of the type (rule 3)",
+    ),
+    (
+        "\"Sale\":{\"$Kind\":\"EntityType\",",
+        "\"Sale\":{\"$Kind\":\"EntityType\",\"$Abstract\":true,",
+        "entity type \"Sale\": member \"$Abstract\": no rule names it; an entity type has \"$Kind\" and \"$Key\" beside its properties and navigation properties (rule 3)",
     ),
     (
         "\"ID\":{\"$Type\":\"Edm.Int64\"}",
@@ -98,6 +108,10 @@ pub(crate) const IN_MODEL_1: &[(&str, &str, &str)] = &[
         "\"Int64\"",
         "entity type \"Sale\": property \"ID\": \"$Type\" must be Edm.Int64, Edm.Decimal, Edm.String, Edm.Date or Edm.Boolean (rule 4)",
     ),
+];
+
+/// What stands in the file, what is written in its place, and what is told of that.
+pub(crate) const IN_MODEL_2: &[(&str, &str, &str)] = &[
     (
         "\"Edm.Date\"",
         "\"Edm.DateTimeOffset\"",
@@ -108,10 +122,6 @@ pub(crate) const IN_MODEL_1: &[(&str, &str, &str)] = &[
         "[\"Edm.Date\"]",
         "entity type \"Customer\": property \"Since\": \"$Type\" must be a string (rule 4)",
     ),
-];
-
-/// What stands in the file, what is written in its place, and what is told of that.
-pub(crate) const IN_MODEL_2: &[(&str, &str, &str)] = &[
     (
         "\"OrgID\":{\"$Nullable\":true}",
         "\"OrgID\":{\"$Nullable\":\"true\"}",
@@ -168,6 +178,11 @@ pub(crate) const IN_MODEL_2: &[(&str, &str, &str)] = &[
         "entity type \"Sale\": navigation property \"Org\": \"$Type\" must be the namespace, a point and the name of an entity type of the schema (rule 6)",
     ),
     (
+        "\"$Kind\":\"NavigationProperty\",\"$Type\":\"W.Customer\"",
+        "\"$Kind\":\"NavigationProperty\",\"Type\":\"W.Customer\"",
+        "entity type \"Sale\": navigation property \"Customer\" may not have a member \"Type\" (rule 7)",
+    ),
+    (
         ",\"$ReferentialConstraint\":{\"CustomerID\":\"ID\"}",
         "",
         "entity type \"Sale\": navigation property \"Customer\": without \"$Collection\" it must have \"$ReferentialConstraint\", an object (rule 7)",
@@ -197,6 +212,10 @@ pub(crate) const IN_MODEL_2: &[(&str, &str, &str)] = &[
         "{\"Amount\":\"ID\"}",
         "entity type \"Sale\": navigation property \"Customer\": the property in \"$ReferentialConstraint\" and the target's key must be of one type (rule 7)",
     ),
+];
+
+/// What stands in the file, what is written in its place, and what is told of that.
+pub(crate) const IN_MODEL_3: &[(&str, &str, &str)] = &[
     (
         "\"$Partner\":\"Sales\",\"$Ref",
         "\"$ContainsTarget\":true,\"$Partner\":\"Sales\",\"$Ref",
@@ -212,10 +231,6 @@ pub(crate) const IN_MODEL_2: &[(&str, &str, &str)] = &[
         "\"$Collection\":\"true\",\"$Type\":\"W.Sale\",\"$Partner\"",
         "entity type \"Customer\": navigation property \"Sales\": \"$Collection\" must be true where it stands (rule 8)",
     ),
-];
-
-/// What stands in the file, what is written in its place, and what is told of that.
-pub(crate) const IN_MODEL_3: &[(&str, &str, &str)] = &[
     (
         ",\"$Partner\":\"Customer\"",
         "",
@@ -262,6 +277,11 @@ pub(crate) const IN_MODEL_3: &[(&str, &str, &str)] = &[
         "entity set \"Orgs\" may not have a member \"Title\" (rule 9)",
     ),
     (
+        "\"C\":{\"$Kind\":\"EntityContainer\",",
+        "\"C\":{\"$Kind\":\"EntityContainer\",\"$Extends\":\"W.B\",",
+        "member \"$Extends\": no rule names it; beside its kind the container has entity sets (rule 9)",
+    ),
+    (
         "\"Orgs\":{\"$Collection\":true,\"$Type\":\"W.Org\"}",
         "\"Orgs\":\"W.Org\"",
         "entity set \"Orgs\": it must be an object (rule 9)",
@@ -296,6 +316,10 @@ pub(crate) const IN_MODEL_3: &[(&str, &str, &str)] = &[
         "\"NodeProperty\":\"Id\"",
         "entity type \"Org\": recursive hierarchy \"OrgTree\": \"NodeProperty\" must be the name of the type's key (rule 11)",
     ),
+];
+
+/// What stands in the file, what is written in its place, and what is told of that.
+pub(crate) const IN_MODEL_4: &[(&str, &str, &str)] = &[
     (
         ",\"ParentNavigationProperty\":\"Superordinate\"",
         "",
@@ -316,10 +340,6 @@ pub(crate) const IN_MODEL_3: &[(&str, &str, &str)] = &[
         "\"NodeProperty\":\"ID\",\"Depth\":3,",
         "entity type \"Org\": recursive hierarchy \"OrgTree\" may not have a member \"Depth\" (rule 11)",
     ),
-];
-
-/// What stands in the file, what is written in its place, and what is told of that.
-pub(crate) const IN_MODEL_4: &[(&str, &str, &str)] = &[
     (
         "#Best\":\"Edm.Decimal\"",
         "#Best\":true",
@@ -388,17 +408,31 @@ pub(crate) const IN_MODEL_4: &[(&str, &str, &str)] = &[
     (
         "\"Of\":\"Amount\"",
         "\"Of\":\"Price\"",
-        "entity type \"Sale\": custom aggregate \"Best\": its definition has no type: \"Of\" and \"Per\" must name what the type has, and \"With\" must fit the type of \"Of\" (docs/typing.md)",
+        "entity type \"Sale\": custom aggregate \"Best\": its definition has no type: \"Of\" and \"Per\" must name what the type has, no two paths of \"Per\" may be the same, \"With\" must fit the type of \"Of\", and \"Then\" the type of what \"With\" gives (docs/typing.md)",
     ),
     (
         "\"Of\":\"Amount\"",
         "\"Of\":\"CustomerID\"",
-        "entity type \"Sale\": custom aggregate \"Best\": its definition has no type: \"Of\" and \"Per\" must name what the type has, and \"With\" must fit the type of \"Of\" (docs/typing.md)",
+        "entity type \"Sale\": custom aggregate \"Best\": its definition has no type: \"Of\" and \"Per\" must name what the type has, no two paths of \"Per\" may be the same, \"With\" must fit the type of \"Of\", and \"Then\" the type of what \"With\" gives (docs/typing.md)",
+    ),
+    (
+        "\"Per\":[\"CustomerID\"]",
+        "\"Per\":[\"CustomerID\",\"CustomerID\"]",
+        "entity type \"Sale\": custom aggregate \"Best\": its definition has no type: \"Of\" and \"Per\" must name what the type has, no two paths of \"Per\" may be the same, \"With\" must fit the type of \"Of\", and \"Then\" the type of what \"With\" gives (docs/typing.md)",
+    ),
+];
+
+/// What stands in the file, what is written in its place, and what is told of that.
+pub(crate) const IN_MODEL_5: &[(&str, &str, &str)] = &[
+    (
+        "\"Of\":\"Amount\",\"With\":\"sum\",\"Per\":[\"CustomerID\"],\"Then\":\"max\"",
+        "\"Of\":\"CustomerID\",\"With\":\"min\",\"Per\":[\"OrgID\"],\"Then\":\"sum\"",
+        "entity type \"Sale\": custom aggregate \"Best\": its definition has no type: \"Of\" and \"Per\" must name what the type has, no two paths of \"Per\" may be the same, \"With\" must fit the type of \"Of\", and \"Then\" the type of what \"With\" gives (docs/typing.md)",
     ),
     (
         "\"Per\":[\"CustomerID\"]",
         "\"Per\":[\"Customer\"]",
-        "entity type \"Sale\": custom aggregate \"Best\": its definition has no type: \"Of\" and \"Per\" must name what the type has, and \"With\" must fit the type of \"Of\" (docs/typing.md)",
+        "entity type \"Sale\": custom aggregate \"Best\": its definition has no type: \"Of\" and \"Per\" must name what the type has, no two paths of \"Per\" may be the same, \"With\" must fit the type of \"Of\", and \"Then\" the type of what \"With\" gives (docs/typing.md)",
     ),
     (
         "\"$Version\":\"4.01\",",
@@ -433,6 +467,11 @@ pub(crate) const IN_DATA_1: &[(&str, &str, &str)] = &[
         "{\"Customers\":[",
         "{\"@context\":\"sales\",\"Customers\":[",
         "member \"@context\": the model has no such entity set; it has \"Customers\", \"Orgs\", \"Sales\"",
+    ),
+    (
+        "{\"Customers\":[",
+        "{\"Customers\":17,\"Zones\":[",
+        "member \"Customers\": the entities of a set must stand in an array",
     ),
     (
         "{\"Customers\":[",
@@ -485,6 +524,11 @@ pub(crate) const IN_DATA_1: &[(&str, &str, &str)] = &[
         "set \"Sales\", entity 0 counted from 0: property \"ID\" must be a whole number of 64 bits, as a number or as a string like \"12\", and is 1.0",
     ),
     (
+        "\"ID\":1,",
+        "\"ID\":1e2,",
+        "set \"Sales\", entity 0 counted from 0: property \"ID\" must be a whole number of 64 bits, as a number or as a string like \"12\", and is 100.0",
+    ),
+    (
         "\"Amount\":\"10.00\"",
         "\"Amount\":10.5",
         "set \"Sales\", entity 0 counted from 0: property \"Amount\" must be a decimal with at most 16 digits, 2 of them after the point, as a string like \"1.5\", or a whole number, and is 10.5",
@@ -514,6 +558,10 @@ pub(crate) const IN_DATA_1: &[(&str, &str, &str)] = &[
         "\"Since\":\"2019-02-29\"",
         "set \"Customers\", entity 0 counted from 0: property \"Since\" must be a date as a string YYYY-MM-DD, and is \"2019-02-29\"",
     ),
+];
+
+/// What stands in the file, what is written in its place, and what is told of that.
+pub(crate) const IN_DATA_2: &[(&str, &str, &str)] = &[
     (
         "{\"ID\":\"Lab\"}",
         "{\"ID\":\"US\"}",
@@ -524,10 +572,6 @@ pub(crate) const IN_DATA_1: &[(&str, &str, &str)] = &[
         "\"ID\":\"C1\"",
         "set \"Customers\", entity 1 counted from 0: its key \"C1\" is that of entity 0 too",
     ),
-];
-
-/// What stands in the file, what is written in its place, and what is told of that.
-pub(crate) const IN_DATA_2: &[(&str, &str, &str)] = &[
     (
         "\"ID\":\"3\"",
         "\"ID\":1",

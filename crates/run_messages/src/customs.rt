@@ -1,10 +1,19 @@
 //! What is wrong with the definitions of custom aggregates.
+ghost use Rattle.std.specs.Prelude.{◌≡◌, IfOk, IsErr, IsSome};
+ghost use Rattle.edm_model.specs.LookUps.{IsType};
+ghost use Rattle.context_typing.specs.Typing.{Customs};
+ghost use Rattle.apply_load.specs.CustomReadings.{AreCustoms};
+ghost use Rattle.apply_load.specs.FirstCustoms.{IfNames};
+
 use crate::values::shown_text;
 use apply_grammar::{ExprRefused, read_expr, read_path};
-use context_typing::{CustomRefused, type_customs};
-use custom_readings::read_customs;
-use edm_model::{Custom, CustomId, Model, read_model};
+use apply_load::{CustomFault, judge_customs};
+use edm_model::{Custom, Model};
 use std::alloc::{AllocError, Global};
+
+/// What is told of a definition whose reading has no typing.
+const UNTYPED: &str =
+    "its definition has no type: \"Of\" and \"Per\" must name what the type has, no two paths of \"Per\" may be the same, \"With\" must fit the type of \"Of\", and \"Then\" the type of what \"With\" gives (docs/typing.md)";
 
 /// Whether a text is an expression.
 fn is_expr(alloc: Global, text: &str) -> Result<bool, AllocError> {
@@ -43,80 +52,41 @@ fn unread_text(alloc: Global, custom: &Custom) -> Result<String, AllocError> {
     String::from_str(alloc, "its definition can not be read")
 }
 
-/// The name of the entity type that a custom aggregate belongs to.
-fn owner_name<'m>(m: &'m Model, custom: &Custom) -> &'m str {
-    for set in m.sets() {
-        let t = m.set_type(*set);
-        if t == custom.owner {
-            return m.type_name(t);
-        }
-    }
-    ""
-}
-
 /// A custom aggregate and what is wrong with its definition.
-fn custom_text(
-    alloc: Global,
-    m: &Model,
-    custom: &Custom,
-    text: &str,
-) -> Result<String, AllocError> {
-    let of = shown_text(alloc, owner_name(m, custom))?;
+fn custom_text(alloc: Global, m: &Model, custom: &Custom, text: &str) -> Result<String, AllocError>
+    requires { IsType m.now custom.now.owner }
+{
+    let of = shown_text(alloc, m.type_name(custom.owner))?;
     let name = shown_text(alloc, custom.name.as_str())?;
     format!(in alloc; "entity type {of}: custom aggregate {name}: {text}")
 }
 
-/// Whether it is the custom aggregate of this id.
-fn has_id(custom: &Custom, id: CustomId) -> bool {
-    custom.id == id
-}
-
-/// The custom aggregate of this id.
-fn custom_of(m: &Model, id: CustomId) -> Option<&Custom> {
-    m.customs().iter().find(|custom| has_id(custom, id))
-}
-
-/// What is wrong with the custom aggregate that has no typing.
-fn untyped_reason(
+/// What is wrong with the custom aggregate that has no typed reading.
+fn fault_reason(
     alloc: Global,
     m: &Model,
-    refused: &CustomRefused,
-) -> Result<Option<String>, AllocError> {
-    match refused {
-        CustomRefused::Memory => Err(AllocError),
-        CustomRefused::At(id) => match custom_of(m, *id) {
-            Some(custom) => Ok(Some(custom_text(
-                alloc,
-                m,
-                custom,
-                "its definition has no type: \"Of\" and \"Per\" must name what the type has, and \"With\" must fit the type of \"Of\" (docs/typing.md)",
-            )?)),
-            None => Ok(None),
-        },
-    }
+    fault: CustomFault<'_>,
+) -> Result<Option<String>, AllocError>
+    requires { IfNames fault (λ u. IsType m.now u.owner) }
+    ensures { fault.entry ≡ CustomFault.Memory → IsErr result }
+{
+    let text = match fault {
+        CustomFault::Memory => return Err(AllocError),
+        CustomFault::Unread(custom) => {
+            let text = unread_text(alloc, custom)?;
+            custom_text(alloc, m, custom, text.as_str())?
+        }
+        CustomFault::Untyped(custom) => custom_text(alloc, m, custom, UNTYPED)?,
+    };
+    Ok(Some(text))
 }
 
-/// What is wrong with the custom aggregates of a model.
-fn reason_in(alloc: Global, m: &Model) -> Result<Option<String>, AllocError> {
-    let customs = m.customs();
-    let list = read_customs(alloc, m)?;
-    let read = list.len();
-    match type_customs(alloc, m, list) {
-        Ok(_) => match customs.get(read) {
-            Some(custom) => {
-                let text = unread_text(alloc, custom)?;
-                Ok(Some(custom_text(alloc, m, custom, text.as_str())?))
-            }
-            None => Ok(None),
-        },
-        Err(refused) => untyped_reason(alloc, m, &refused),
-    }
-}
-
-/// What is wrong with the custom aggregates of a model file.
-pub(crate) fn custom_reason(alloc: Global, bytes: &[u8]) -> Result<Option<String>, AllocError> {
-    match read_model(alloc, bytes) {
-        Ok(model) => reason_in(alloc, &model),
-        Err(_) => Err(AllocError),
-    }
+/// What is wrong with the custom aggregates of a model; nothing where each has a typed reading.
+pub(crate) fn custom_reason(alloc: Global, m: &Model) -> Result<Option<String>, AllocError>
+    ensures { IfOk result (λ o. IsSome o → (c : Customs) → ¬ AreCustoms m.now c) }
+{
+    let Err(fault) = judge_customs(alloc, m) else {
+        return Ok(None);
+    };
+    fault_reason(alloc, m, fault)
 }

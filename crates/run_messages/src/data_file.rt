@@ -1,26 +1,33 @@
 //! What is wrong with a data file.
-ghost use Rattle.std.specs.Prelude.{◌≡◌, ◌<◌, false, length, option_map, IfSome, Some};
+ghost use Rattle.std.specs.Prelude.{◌≡◌, ◌<◌, false, length, option_map, IfOk, IfSome, IsErr, IsSome, Some};
 ghost use Rattle.edm_model.specs.LookUps.{IsNavigation, IsProperty, IsSet, navigation_on};
 ghost use Rattle.edm_model.specs.Soundness.{IsSound};
 ghost use Rattle.data_diagnosis.specs.EntityFaults.{NamesProperty};
+ghost use Rattle.run_messages.specs.Refusals.{IsDataFile};
 
-use crate::json_text::json_reason;
-use crate::values::{kind_words, shown_text, shown_value, wanted};
+use crate::json_text::object_reason;
+use crate::values::{kind_words, shown_member, shown_text, wanted};
 use data_diagnosis::{ShapeFault, earlier_with_key, missing_reference, shape_fault};
 use edm_data::{DATA_LIMIT, DataRefused, read_data, set_items};
 use edm_model::{Model, NavId, PropId, SetId, read_model};
 use serde_json::Value;
 use std::alloc::{AllocError, Global};
 
-/// The names of the model's entity sets, with commas between them.
+/// How many entity sets are named at most.
+const SETS_SHOWN: usize = 10;
+
+/// The names of the model's entity sets, with commas between them; of a model with more than ten, of the first ten.
 fn set_list(alloc: Global, model: &Model) -> Result<String, AllocError> {
     let mut list = String::new(alloc);
-    for set in model.sets() {
+    for set in model.sets().iter().take(SETS_SHOWN) {
         if !list.is_empty() {
             list.push_str(", ")?;
         }
         let name = shown_text(alloc, model.set_name(*set))?;
         list.push_str(name.as_str())?;
+    }
+    if model.sets().len() > SETS_SHOWN {
+        list.push_str(", ...")?;
     }
     Ok(list)
 }
@@ -45,10 +52,7 @@ fn value_text(alloc: Global, model: &Model, p: PropId, item: &Value) -> Result<S
 {
     let name = shown_text(alloc, model.prop_name(p))?;
     let wanted = wanted(alloc, model.prop_type(p))?;
-    let value = match item.get(model.prop_name(p)) {
-        Some(value) => shown_value(alloc, value)?,
-        None => String::from_str(alloc, "null")?,
-    };
+    let value = shown_member(alloc, item, model.prop_name(p))?;
     format!(in alloc; "property {name} must be {wanted}, and is {value}")
 }
 
@@ -96,10 +100,11 @@ fn shape_text(
 fn key_text(alloc: Global, model: &Model, s: SetId, item: &Value) -> Result<String, AllocError>
     requires { IsSet model.now s }
 {
-    match item.get(model.prop_name(model.key_of(model.set_type(s)))) {
-        Some(value) => shown_value(alloc, value),
-        None => String::from_str(alloc, "null"),
-    }
+    shown_member(
+        alloc,
+        item,
+        model.prop_name(model.key_of(model.set_type(s))),
+    )
 }
 
 /// An entity whose key stands earlier in its set.
@@ -133,10 +138,7 @@ fn reference_text(
 {
     let name = shown_text(alloc, model.nav_name(n))?;
     let from = model.prop_name(model.nav_dependent(n));
-    let value = match item.get(from) {
-        Some(value) => shown_value(alloc, value)?,
-        None => String::from_str(alloc, "null")?,
-    };
+    let value = shown_member(alloc, item, from)?;
     let from = shown_text(alloc, from)?;
     let target = shown_text(alloc, model.set_name(model.type_set(model.nav_target(n))))?;
     format!(in alloc;
@@ -217,30 +219,20 @@ fn entity_reason(
     }
 }
 
-/// What is wrong with bytes that are no JSON object.
-fn object_reason(alloc: Global, bytes: &[u8]) -> Result<Option<String>, AllocError> {
-    match Value::from_slice(alloc, bytes) {
-        Ok(root) => {
-            let kind = kind_words(&root);
-            Ok(Some(format!(in alloc; "the file holds {kind}, and must hold an object")?))
-        }
-        Err(error) if error.is_memory() => Err(AllocError),
-        Err(error) => Ok(Some(json_reason(alloc, bytes, &error)?)),
-    }
-}
-
 /// What is wrong with the bytes of a data file, by its refusal.
 fn refusal_reason(
     alloc: Global,
     model: &Model,
     bytes: &[u8],
     refused: &DataRefused,
-) -> Result<Option<String>, AllocError> {
+) -> Result<Option<String>, AllocError>
+    ensures { refused.now ≡ DataRefused.Memory → IsErr result }
+{
     match refused {
         DataRefused::TooLong => Ok(Some(format!(in alloc;
             "the file has more than {DATA_LIMIT} bytes"
         )?)),
-        DataRefused::Json => object_reason(alloc, bytes),
+        DataRefused::Json => Ok(Some(object_reason(alloc, bytes)?)),
         DataRefused::Set(name) => Ok(Some(member_text(alloc, model, name.as_str())?)),
         DataRefused::Shape(s, at) | DataRefused::TwiceKey(s, at) | DataRefused::Dangling(s, at) => {
             entity_reason(alloc, model, bytes, *s, *at, refused)
@@ -255,15 +247,17 @@ pub(crate) fn data_reason(
     alloc: Global,
     model_bytes: &[u8],
     bytes: &[u8],
-) -> Result<Option<String>, AllocError> {
+) -> Result<Option<String>, AllocError>
+    ensures { IfOk result (λ o. IsSome o → ¬ IsDataFile model_bytes.now bytes.now) }
+{
     let (Ok(given), Ok(model)) = (
         read_model(alloc, model_bytes),
         read_model(alloc, model_bytes),
     ) else {
         return Err(AllocError);
     };
-    match read_data(alloc, given, bytes) {
-        Ok(_) => Ok(None),
-        Err(refused) => refusal_reason(alloc, &model, bytes, &refused),
-    }
+    let Err(refused) = read_data(alloc, given, bytes) else {
+        return Ok(None);
+    };
+    refusal_reason(alloc, &model, bytes, &refused)
 }

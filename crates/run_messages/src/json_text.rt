@@ -1,5 +1,6 @@
 //! Where the reading of JSON stops, and why.
-use serde_json::Error;
+use crate::values::kind_words;
+use serde_json::{Error, Value};
 use std::alloc::{AllocError, Global};
 use std::str;
 
@@ -58,9 +59,20 @@ fn deeper(nesting: Nesting, byte: u8) -> Nesting {
     }
 }
 
-/// Whether arrays and objects stand too deep in one another up to this place.
-fn is_too_deep(bytes: &[u8], end: Place) -> bool {
+/// The bytes before a place.
+fn bytes_before(bytes: &[u8], end: Place) -> &[u8] {
     let mut place = Place { line: 1, column: 0 };
+    for (at, byte) in bytes.iter().enumerate() {
+        if (place.line, place.column) >= (end.line, end.column) {
+            return bytes.get(..at).unwrap_or(bytes);
+        }
+        place = behind(place, *byte);
+    }
+    bytes
+}
+
+/// Whether arrays and objects stand too deep in one another somewhere in these bytes.
+fn is_too_deep(bytes: &[u8]) -> bool {
     let mut nesting = Nesting {
         depth: 0,
         in_string: false,
@@ -68,21 +80,25 @@ fn is_too_deep(bytes: &[u8], end: Place) -> bool {
     };
     let mut deepest = 0;
     for byte in bytes {
-        if (place.line, place.column) >= (end.line, end.column) {
-            break;
-        }
-        place = behind(place, *byte);
         nesting = deeper(nesting, *byte);
         deepest = nesting.depth.max(deepest);
     }
     deepest > NESTED_MOST
 }
 
-/// What the reader of JSON found at the place where it stopped.
-fn found_there(bytes: &[u8], end: Place, is_cut_short: bool) -> &'static str {
-    if str::from_utf8(bytes).is_err() {
+/// Whether bytes are no UTF-8 text, nor the front of one.
+fn is_no_text(bytes: &[u8]) -> bool {
+    match str::from_utf8(bytes) {
+        Ok(_) => false,
+        Err(error) => error.error_len().is_some(),
+    }
+}
+
+/// What the reader of JSON found where it stopped, behind these bytes.
+fn found_there(front: &[u8], is_cut_short: bool) -> &'static str {
+    if is_no_text(front) {
         "the bytes are no UTF-8 text"
-    } else if is_too_deep(bytes, end) {
+    } else if is_too_deep(front) {
         "arrays and objects stand more than 127 deep in one another"
     } else if is_cut_short {
         "the JSON text ends too early"
@@ -111,11 +127,7 @@ fn other_form(bytes: &[u8]) -> Option<&'static str> {
 }
 
 /// Why bytes are no JSON text: what they begin with, or where the reader stopped.
-pub(crate) fn json_reason(
-    alloc: Global,
-    bytes: &[u8],
-    error: &Error,
-) -> Result<String, AllocError> {
+fn json_reason(alloc: Global, bytes: &[u8], error: &Error) -> Result<String, AllocError> {
     if let Some(form) = other_form(bytes) {
         return String::from_str(alloc, form);
     }
@@ -123,7 +135,19 @@ pub(crate) fn json_reason(
         line: error.line(),
         column: error.column(),
     };
-    let found = found_there(bytes, end, error.is_eof());
+    let found = found_there(bytes_before(bytes, end), error.is_eof());
     let (line, column) = (end.line, end.column);
     format!(in alloc; "line {line}, column {column}: {found}")
+}
+
+/// Why bytes are no JSON object. Where they are one, it says that they hold an object.
+pub(crate) fn object_reason(alloc: Global, bytes: &[u8]) -> Result<String, AllocError> {
+    match Value::from_slice(alloc, bytes) {
+        Ok(root) => {
+            let kind = kind_words(&root);
+            format!(in alloc; "the file holds {kind}, and must hold an object")
+        }
+        Err(error) if error.is_memory() => Err(AllocError),
+        Err(error) => json_reason(alloc, bytes, &error),
+    }
 }

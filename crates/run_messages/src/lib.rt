@@ -7,7 +7,12 @@
 //! The crate stands on `apply_service` for the status, on `serve_options` for the words and what is told of wrong ones, on
 //! `apply_load` and `apply_io` for reading a file again, on `model_diagnosis` and `data_diagnosis`, which find what is at
 //! fault and promise that it is, on the crates by which a file was refused, and on `quoted_text` for names and what files
-//! hold. That an answer comes is proved; what it says is shown by tests, in `page_tests`.
+//! hold.
+//!
+//! It promises the line of a run that neither words nor a file refused, as `specs/RunLines` has it, that the line of a refused
+//! file begins with its kind and its name, and that no unprintable character is left where the words do not ask for help. A
+//! reason is told only of a file that is refused, as `specs/Refusals` says; which reason, and in which words, is shown by
+//! tests, in `page_tests`.
 //!
 //! `runs` has the line of a run, `model_file` and `data_file` say what is wrong with a file, `json_text` where JSON stops,
 //! `rules` has the words of the rules of model files, `customs` those of custom aggregates, and `values` shows values.

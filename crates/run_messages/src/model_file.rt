@@ -1,22 +1,32 @@
 //! What is wrong with a model file.
+ghost use Rattle.std.specs.Prelude.{◌≡◌, IfOk, IsErr, IsSome};
+ghost use Rattle.run_messages.specs.Refusals.{IsModelFile};
+
 use crate::customs::custom_reason;
-use crate::json_text::json_reason;
+use crate::json_text::object_reason;
 use crate::rules::{
-    Demand, collection_demand, container_demand, definition_demand, hierarchy_demand, key_demand,
-    property_demand, reference_demand, root_demand, set_demand,
+    Demand, collection_demand, container_demand, definition_demand, hierarchy_demand, is_reserved,
+    key_demand, property_demand, reference_demand, root_demand, schema_member_demand, set_demand,
+    type_member_demand,
 };
-use crate::values::{kind_words, shown_text};
-use edm_model::MODEL_LIMIT;
+use crate::values::shown_text;
+use edm_model::{MODEL_LIMIT, ModelRefused, read_model};
 use edm_schema::read_schema;
-use model_diagnosis::{Fault, TypeFault, first_fault};
+use model_diagnosis::{Fault, SetTest, TypeFault, first_fault};
 use serde_json::Value;
 use std::alloc::{AllocError, Global};
+
+/// What a part has to be, and by which rule.
+fn demand_text(alloc: Global, demand: Demand) -> Result<String, AllocError> {
+    let Demand { rule, words } = demand;
+    format!(in alloc; "{words} (rule {rule})")
+}
 
 /// A part that is at fault by its kind and its name, and what it has to be.
 fn demanded(alloc: Global, kind: &str, name: &str, demand: Demand) -> Result<String, AllocError> {
     let name = shown_text(alloc, name)?;
-    let Demand { rule, words } = demand;
-    format!(in alloc; "{kind} {name}: {words} (rule {rule})")
+    let demand = demand_text(alloc, demand)?;
+    format!(in alloc; "{kind} {name}: {demand}")
 }
 
 /// A part that has a member which no rule names.
@@ -99,27 +109,26 @@ fn term_text(alloc: Global, fault: &TypeFault<'_>) -> Result<Option<String>, All
 /// What is at fault in what an entity type has of its own.
 fn own_text(alloc: Global, fault: &TypeFault<'_>) -> Result<String, AllocError> {
     match fault {
-        TypeFault::Member(name) => demanded(
-            alloc,
-            "member",
-            name,
-            Demand {
-                rule: 4,
-                words: "it must be an object, with no \"$Kind\" or with \"$Kind\" \"Property\" or \"NavigationProperty\"",
-            },
-        ),
+        TypeFault::Member(name) => demanded(alloc, "member", name, type_member_demand(name)),
         TypeFault::Property(name, test) => {
             demanded(alloc, "property", name, property_demand(*test))
         }
         TypeFault::PropertyMember(name, other) => {
             unknown_member(alloc, "property", name, other, 4)
         }
-        TypeFault::Key(test) => {
-            let Demand { rule, words } = key_demand(*test);
-            format!(in alloc; "{words} (rule {rule})")
-        }
+        TypeFault::Key(test) => demand_text(alloc, key_demand(*test)),
         TypeFault::Name(name) => unnamed(alloc, "member", name),
-        _ => Ok(String::new(alloc)),
+        // The functions before have told these.
+        TypeFault::Target(_)
+        | TypeFault::Reference(_, _)
+        | TypeFault::ReferenceMember(_, _)
+        | TypeFault::Collection(_, _)
+        | TypeFault::CollectionMember(_, _)
+        | TypeFault::Hierarchy(_, _)
+        | TypeFault::HierarchyMember(_, _)
+        | TypeFault::Aggregate(_)
+        | TypeFault::Definition(_, _)
+        | TypeFault::DefinitionMember(_, _) => Ok(String::new(alloc)),
     }
 }
 
@@ -139,10 +148,7 @@ fn type_text(alloc: Global, name: &str, fault: &TypeFault<'_>) -> Result<String,
 /// What is at fault in the root and the members of the schema.
 fn outer_text(alloc: Global, fault: &Fault<'_>) -> Result<String, AllocError> {
     match fault {
-        Fault::Root(test) => {
-            let Demand { rule, words } = root_demand(*test);
-            format!(in alloc; "{words} (rule {rule})")
-        }
+        Fault::Root(test) => demand_text(alloc, root_demand(*test)),
         Fault::RootMember(name) => demanded(
             alloc,
             "member",
@@ -152,28 +158,35 @@ fn outer_text(alloc: Global, fault: &Fault<'_>) -> Result<String, AllocError> {
                 words: "the root may have \"$Version\", \"$EntityContainer\" and one schema",
             },
         ),
-        Fault::SchemaMember(name) => demanded(
-            alloc,
-            "member",
-            name,
-            Demand {
-                rule: 2,
-                words: "it must be an object of \"$Kind\" \"EntityType\" or \"EntityContainer\"",
-            },
-        ),
-        Fault::Containers(test) => {
-            let Demand { rule, words } = container_demand(*test);
-            format!(in alloc; "{words} (rule {rule})")
-        }
-        _ => Ok(String::new(alloc)),
+        Fault::SchemaMember(name) => demanded(alloc, "member", name, schema_member_demand(name)),
+        Fault::Containers(test) => demand_text(alloc, container_demand(*test)),
+        // `fault_text` has told these.
+        Fault::Type(_, _)
+        | Fault::Set(_, _)
+        | Fault::SetMember(_, _)
+        | Fault::SetCount(_)
+        | Fault::TypeName(_)
+        | Fault::SetName(_) => Ok(String::new(alloc)),
     }
+}
+
+/// What is at fault in a member of the container besides its kind.
+fn set_text(alloc: Global, name: &str, test: SetTest) -> Result<String, AllocError> {
+    if is_reserved(name) {
+        let demand = Demand {
+            rule: 9,
+            words: "no rule names it; beside its kind the container has entity sets",
+        };
+        return demanded(alloc, "member", name, demand);
+    }
+    demanded(alloc, "entity set", name, set_demand(test))
 }
 
 /// What is at fault, as a text.
 fn fault_text(alloc: Global, fault: &Fault<'_>) -> Result<String, AllocError> {
     match fault {
         Fault::Type(name, fault) => type_text(alloc, name, fault),
-        Fault::Set(name, test) => demanded(alloc, "entity set", name, set_demand(*test)),
+        Fault::Set(name, test) => set_text(alloc, name, *test),
         Fault::SetMember(name, other) => unknown_member(alloc, "entity set", name, other, 9),
         Fault::SetCount(name) => demanded(
             alloc,
@@ -190,27 +203,43 @@ fn fault_text(alloc: Global, fault: &Fault<'_>) -> Result<String, AllocError> {
     }
 }
 
-/// What is wrong with a JSON tree as a model file.
-fn tree_reason(alloc: Global, bytes: &[u8], root: &Value) -> Result<Option<String>, AllocError> {
-    if !root.is_object() {
-        let kind = kind_words(root);
-        return Ok(Some(format!(in alloc; "the file holds {kind}, and must hold an object")?));
-    }
-    let schema = read_schema(alloc, root)?;
+/// Which rule a model file breaks, and where; nothing where that is not found.
+fn rule_reason(alloc: Global, bytes: &[u8]) -> Result<Option<String>, AllocError> {
+    let Ok(root) = Value::from_slice(alloc, bytes) else {
+        return Err(AllocError);
+    };
+    let schema = read_schema(alloc, &root)?;
     match first_fault(alloc, &schema)? {
         Some(fault) => Ok(Some(fault_text(alloc, &fault)?)),
-        None => custom_reason(alloc, bytes),
+        None => Ok(None),
+    }
+}
+
+/// What is wrong with a model file, by its refusal.
+fn refusal_reason(
+    alloc: Global,
+    bytes: &[u8],
+    refused: ModelRefused,
+) -> Result<Option<String>, AllocError>
+    ensures { refused ≡ ModelRefused.Memory → IsErr result }
+{
+    match refused {
+        ModelRefused::TooLong => Ok(Some(format!(in alloc;
+            "the file has more than {MODEL_LIMIT} bytes"
+        )?)),
+        ModelRefused::Json => Ok(Some(object_reason(alloc, bytes)?)),
+        ModelRefused::Model => rule_reason(alloc, bytes),
+        ModelRefused::Memory => Err(AllocError),
     }
 }
 
 /// What is wrong with the bytes of a model file, in one line without an end; nothing where nothing is found.
-pub(crate) fn model_reason(alloc: Global, bytes: &[u8]) -> Result<Option<String>, AllocError> {
-    if bytes.len() > MODEL_LIMIT {
-        return Ok(Some(format!(in alloc; "the file has more than {MODEL_LIMIT} bytes")?));
-    }
-    match Value::from_slice(alloc, bytes) {
-        Ok(root) => tree_reason(alloc, bytes, &root),
-        Err(error) if error.is_memory() => Err(AllocError),
-        Err(error) => Ok(Some(json_reason(alloc, bytes, &error)?)),
-    }
+pub(crate) fn model_reason(alloc: Global, bytes: &[u8]) -> Result<Option<String>, AllocError>
+    ensures { IfOk result (λ o. IsSome o → ¬ IsModelFile bytes.now) }
+{
+    let model = match read_model(alloc, bytes) {
+        Ok(model) => model,
+        Err(refused) => return refusal_reason(alloc, bytes, refused),
+    };
+    custom_reason(alloc, &model)
 }

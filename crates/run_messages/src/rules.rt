@@ -37,6 +37,34 @@ pub(crate) fn container_demand(test: ContainerTest) -> Demand {
     Demand { rule: 2, words }
 }
 
+/// Whether no name of a part begins as this one does: `$` stands before the names of CSDL.
+pub(crate) fn is_reserved(name: &str) -> bool {
+    name.starts_with("$")
+}
+
+pub(crate) fn schema_member_demand(name: &str) -> Demand {
+    let words = if is_reserved(name) {
+        "no rule names it; a schema has entity types and one entity container"
+    } else {
+        "it must be an object of \"$Kind\" \"EntityType\" or \"EntityContainer\""
+    };
+    Demand { rule: 2, words }
+}
+
+pub(crate) fn type_member_demand(name: &str) -> Demand {
+    if is_reserved(name) {
+        Demand {
+            rule: 3,
+            words: "no rule names it; an entity type has \"$Kind\" and \"$Key\" beside its properties and navigation properties",
+        }
+    } else {
+        Demand {
+            rule: 4,
+            words: "it must be an object, with no \"$Kind\" or with \"$Kind\" \"Property\" or \"NavigationProperty\"",
+        }
+    }
+}
+
 pub(crate) fn property_demand(test: PropertyTest) -> Demand {
     match test {
         PropertyTest::TypeText => Demand {

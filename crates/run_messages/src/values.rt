@@ -33,6 +33,14 @@ pub(crate) fn shown_value(alloc: Global, value: &Value) -> Result<String, AllocE
     }
 }
 
+/// The value of a member of an item, null where it has none.
+pub(crate) fn shown_member(alloc: Global, item: &Value, name: &str) -> Result<String, AllocError> {
+    match item.get(name) {
+        Some(value) => shown_value(alloc, value),
+        None => String::from_str(alloc, "null"),
+    }
+}
+
 /// Which JSON values a property of the type takes.
 pub(crate) fn wanted(alloc: Global, kind: EdmType) -> Result<String, AllocError> {
     match kind {

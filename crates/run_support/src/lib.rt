@@ -2,7 +2,11 @@
 //!
 //! [`Case`] says what a run is given, and [`outcome`] and its like run `serve` of `apply_service` over it and tell how it ended
 //! and what it wrote. The crate stands on `apply_service` and what it is called with: the objects in memory of `apply_io`, the
-//! counter of `apply_meaning` and the gate of `par_stages`. It states nothing beyond safety: tests compare what it tells.
+//! counter of `apply_meaning` and the gate of `par_stages`.
+//!
+//! It promises that the words and the files are those of the case, that the status is one that `serve` promises of a run with
+//! them, and that the bytes are those that the sink then holds. Want of memory is a failure of the test, of which nothing is
+//! said.
 #![tactic(auto)]
 
 mod runs;

@@ -1,5 +1,9 @@
 //! Runs of the service over objects in memory.
-ghost use Rattle.std.specs.Prelude.{◌≡◌, ◌<◌};
+ghost use Rattle.std.specs.Prelude.{◌≡◌, ◌<◌, IfOk, map, string_bytes};
+ghost use Rattle.apply_io.specs.Files.{files_of};
+ghost use Rattle.apply_service.specs.Service.{Says};
+ghost use Rattle.run_support.specs.Cases.{failing_calls, case_words, case_files};
+ghost use Rattle.run_support.specs.Outcomes.{Ends, EndsOver};
 
 use apply_io::{Folder, MemFolder, MemSink, MemSource, Sink, Source};
 use apply_meaning::Steps;
@@ -33,7 +37,9 @@ pub struct RunResult {
 }
 
 /// The number alone, or nothing for 0.
-pub fn only(alloc: Global, number: u64) -> Result<Vec<u64>, Fail> {
+pub fn only(alloc: Global, number: u64) -> Result<Vec<u64>, Fail>
+    ensures { IfOk result (λ v. v.items ≡ failing_calls number) }
+{
     let mut numbers = Vec::new(alloc);
     if number > 0 {
         numbers.push(number)?;
@@ -42,7 +48,9 @@ pub fn only(alloc: Global, number: u64) -> Result<Vec<u64>, Fail> {
 }
 
 /// Words as texts.
-pub fn texts(alloc: Global, words: &[&str]) -> Result<Vec<String>, Fail> {
+pub fn texts(alloc: Global, words: &[&str]) -> Result<Vec<String>, Fail>
+    ensures { IfOk result (λ v. map string_bytes v.items ≡ map (λ w. w.now) words.now) }
+{
     let mut texts = Vec::new(alloc);
     for word in words {
         texts.push(String::from_str(alloc, word)?)?;
@@ -51,7 +59,9 @@ pub fn texts(alloc: Global, words: &[&str]) -> Result<Vec<String>, Fail> {
 }
 
 /// The words that name the two files, and those of the case.
-pub fn words(alloc: Global, case: &Case<'_>) -> Result<Vec<String>, Fail> {
+pub fn words(alloc: Global, case: &Case<'_>) -> Result<Vec<String>, Fail>
+    ensures { IfOk result (λ v. map string_bytes v.items ≡ case_words case.now) }
+{
     let mut words = texts(alloc, &["--model", "m", "--data", "d"])?;
     for word in case.words {
         words.push(String::from_str(alloc, word)?)?;
@@ -60,7 +70,9 @@ pub fn words(alloc: Global, case: &Case<'_>) -> Result<Vec<String>, Fail> {
 }
 
 /// The two files of a case.
-pub fn files(alloc: Global, case: &Case<'_>) -> Result<Vec<(String, Vec<u8>)>, Fail> {
+pub fn files(alloc: Global, case: &Case<'_>) -> Result<Vec<(String, Vec<u8>)>, Fail>
+    ensures { IfOk result (λ v. files_of v.items ≡ case_files case.now) }
+{
     let mut files = Vec::new(alloc);
     files.push((
         String::from_str(alloc, "m")?,
@@ -86,6 +98,13 @@ fn serve_counted<R: Threads + Sync, F: Folder, S: Source, K: Sink, L: Ledger>(
     requires name { blank.name ≡ L.name }
     requires parts { blank.parts ≡ L.parts }
     requires some { 0 < blank.parts }
+    ensures { Says (record {
+      words = map string_bytes words.now;
+      folder = record { files = F.files folder.old; faults = F.fault_count folder.old; faults_after = F.fault_count folder.new };
+      input = record { left = S.left input.old; left_after = S.left input.new; faults = S.fault_count input.old; faults_after = S.fault_count input.new };
+      output = record { held = K.held output.old; held_after = K.held output.new; faults = K.fault_count output.old; faults_after = K.fault_count output.new };
+      status = result;
+    }) (F.is_steady folder.old) (folder.new ≡ folder.old) (input.new ≡ input.old) (output.new ≡ output.old) }
 {
     let mut steps = Steps::<L>::new(blank);
     serve(rt, alloc, words, folder, input, output, &NoGate, &mut steps)
@@ -98,7 +117,11 @@ pub fn outcome_over<R: Threads + Sync, S: Source>(
     case: &Case,
     words: &[String],
     input: &mut S,
-) -> Result<RunResult, Fail> {
+) -> Result<RunResult, Fail>
+    ensures { IfOk result (λ r. EndsOver (map string_bytes words.now) case.now
+        (record { left = S.left input.old; left_after = S.left input.new; faults = S.fault_count input.old; faults_after = S.fault_count input.new })
+        (input.new ≡ input.old) r) }
+{
     let mut folder = MemFolder::new(files(alloc, case)?, only(alloc, case.folder_fails)?);
     let most = case.most.max(1);
     let mut output = MemSink::new(alloc, 4096, most, only(alloc, case.output_fails)?)?;
@@ -124,17 +147,17 @@ pub fn outcome_of<R: Threads + Sync>(
     case: &Case<'_>,
     words: &[String],
     input: Vec<u8>,
-) -> Result<RunResult, Fail> {
+) -> Result<RunResult, Fail>
+    ensures { IfOk result (λ r. Ends (map string_bytes words.now) case.now input.items r) }
+{
     let mut input = MemSource::new(input, case.most.max(1), only(alloc, case.input_fails)?);
     outcome_over(rt, alloc, case, words, &mut input)
 }
 
 /// Runs the service over the case's input.
-pub fn outcome<R: Threads + Sync>(
-    rt: &R,
-    alloc: Global,
-    case: &Case<'_>,
-) -> Result<RunResult, Fail> {
+pub fn outcome<R: Threads + Sync>(rt: &R, alloc: Global, case: &Case<'_>) -> Result<RunResult, Fail>
+    ensures { IfOk result (λ r. Ends (case_words case.now) case.now case.now.input.now r) }
+{
     let words = words(alloc, case)?;
     outcome_of(rt, alloc, case, words.as_slice(), case.input.to_vec(alloc)?)
 }
