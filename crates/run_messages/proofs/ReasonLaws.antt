@@ -1,5 +1,5 @@
 -- A reason is told only of what is refused.
-use Rattle.std.proofs.Common.{◌≡◌, List, ℕ, Option, Result, Ok, Err, IfOk, IsErr, IsSome, refl, subst, sym, ◌∙◌}
+use Rattle.std.proofs.Common.{◌≡◌, ◌≢◌, List, ℕ, Option, Result, Ok, Err, IfOk, IsErr, IsNone, IsSome, None, Some, refl, subst, sym, ◌∙◌}
 use Rattle.std.proofs.lemmas.Result.{IfOk-from_err, IfOk-weaker}
 use Rattle.edm_model.specs.Models.{Model}
 use Rattle.edm_model.specs.ModelFile.{ModelReading, model_reading}
@@ -21,6 +21,12 @@ use Rattle.run_messages.specs.Refusals.{IsDataFile, IsModelFile}
 always : {T E P : Type 0} (r : Result (Option T) E) → P → IfOk r (λ o. IsSome o → P)
 always (Ok o) p = λ some. p
 always (Err e) p = tt
+
+-- where something is always told, nothing is known of nothing
+pub never_none : {T E : Type 0} (P : Type 0) (r : Result (Option T) E) → IfOk r IsSome → IfOk r (λ o. IsNone o → P)
+never_none P (Ok (Some x)) some = λ none. absurd cc
+never_none P (Ok None) some = absurd cc
+never_none P (Err e) some = tt
 
 -- a fault of the custom aggregates
 pub custom_told : {T E : Type 0} (m : Model) (f : CustomFault) (r : Result (Option T) E) → IfNames f (λ u. IsFirstUntyped m (owned u)) → (f ≡ fault.Memory → IsErr r)
@@ -44,6 +50,20 @@ model_told bytes refused.TooLong r long json model memory = always r (no_model b
 model_told bytes refused.Json r long json model memory = always r (no_model bytes ModelReading.NoJson (json refl) (λ m e. absurd cc))
 model_told bytes refused.Model r long json model memory = always r (no_model bytes ModelReading.NoModel (model refl) (λ m e. absurd cc))
 model_told bytes refused.Memory r long json model memory = IfOk-from_err r _ (memory refl)
+
+-- something is told of a model file that is refused
+pub model_found : {T E : Type 0} (bytes : List ℕ) (f : ModelRefused) (r : Result (Option T) E) → (f ≡ refused.Model → model_reading bytes ≡ ModelReading.NoModel)
+    → (f ≡ refused.Model → IfOk r (λ o. IsNone o → model_reading bytes ≢ ModelReading.NoModel)) → (f ≢ refused.Model → IfOk r IsSome)
+    → IfOk r (λ o. IsNone o → IsModelFile bytes)
+model_found bytes refused.TooLong r model rule told = never_none _ r (told (λ e. absurd cc))
+model_found bytes refused.Json r model rule told = never_none _ r (told (λ e. absurd cc))
+model_found bytes refused.Model r model rule told = IfOk-weaker r _ _ (λ o other none. absurd (other none (model refl))) (rule refl)
+model_found bytes refused.Memory r model rule told = never_none _ r (told (λ e. absurd cc))
+
+-- a model file whose custom aggregates are taken
+pub model_taken : {T E : Type 0} (bytes : List ℕ) (m : Model) (r : Result (Option T) E) → model_reading bytes ≡ ModelReading.Model' m
+    → IfOk r (λ o. IsNone o → (c : Customs) × AreCustoms m c) → IfOk r (λ o. IsNone o → IsModelFile bytes)
+model_taken bytes m r is taken = IfOk-weaker r _ _ (λ o customs none. let c = customs none in (m, c.0, is, c.1)) taken
 
 -- a model whose custom aggregates are refused
 pub model_of_customs_told : {T E : Type 0} (bytes : List ℕ) (m : Model) (r : Result (Option T) E) → model_reading bytes ≡ ModelReading.Model' m

@@ -1,5 +1,5 @@
 //! What is wrong with the definitions of custom aggregates.
-ghost use Rattle.std.specs.Prelude.{◌≡◌, IfOk, IsErr, IsSome};
+ghost use Rattle.std.specs.Prelude.{◌≡◌, IfOk, IsErr, IsNone, IsSome};
 ghost use Rattle.edm_model.specs.LookUps.{IsType};
 ghost use Rattle.context_typing.specs.Typing.{Customs};
 ghost use Rattle.apply_load.specs.CustomReadings.{AreCustoms};
@@ -68,7 +68,8 @@ fn fault_reason(
     fault: CustomFault<'_>,
 ) -> Result<Option<String>, AllocError>
     requires { IfNames fault (λ u. IsType m.now u.owner) }
-    ensures { fault.entry ≡ CustomFault.Memory → IsErr result }
+    ensures memory { fault.entry ≡ CustomFault.Memory → IsErr result }
+    ensures told { IfOk result IsSome }
 {
     let text = match fault {
         CustomFault::Memory => return Err(AllocError),
@@ -83,7 +84,8 @@ fn fault_reason(
 
 /// What is wrong with the custom aggregates of a model; nothing where each has a typed reading.
 pub(crate) fn custom_reason(alloc: Global, m: &Model) -> Result<Option<String>, AllocError>
-    ensures { IfOk result (λ o. IsSome o → (c : Customs) → ¬ AreCustoms m.now c) }
+    ensures refused { IfOk result (λ o. IsSome o → (c : Customs) → ¬ AreCustoms m.now c) }
+    ensures taken { IfOk result (λ o. IsNone o → (c : Customs) × AreCustoms m.now c) }
 {
     let Err(fault) = judge_customs(alloc, m) else {
         return Ok(None);

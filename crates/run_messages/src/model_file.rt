@@ -1,5 +1,6 @@
 //! What is wrong with a model file.
-ghost use Rattle.std.specs.Prelude.{◌≡◌, IfOk, IsErr, IsSome};
+ghost use Rattle.std.specs.Prelude.{◌≡◌, ◌≢◌, IfOk, IsErr, IsNone, IsSome};
+ghost use Rattle.edm_model.specs.ModelFile.{ModelReading, model_reading};
 ghost use Rattle.run_messages.specs.Refusals.{IsModelFile};
 
 use crate::customs::custom_reason;
@@ -204,7 +205,9 @@ fn fault_text(alloc: Global, fault: &Fault<'_>) -> Result<String, AllocError> {
 }
 
 /// Which rule a model file breaks, and where; nothing where that is not found.
-fn rule_reason(alloc: Global, bytes: &[u8]) -> Result<Option<String>, AllocError> {
+fn rule_reason(alloc: Global, bytes: &[u8]) -> Result<Option<String>, AllocError>
+    ensures { IfOk result (λ o. IsNone o → model_reading bytes.now ≢ ModelReading.NoModel) }
+{
     let Ok(root) = Value::from_slice(alloc, bytes) else {
         return Err(AllocError);
     };
@@ -221,7 +224,9 @@ fn refusal_reason(
     bytes: &[u8],
     refused: ModelRefused,
 ) -> Result<Option<String>, AllocError>
-    ensures { refused ≡ ModelRefused.Memory → IsErr result }
+    ensures memory { refused ≡ ModelRefused.Memory → IsErr result }
+    ensures told { refused ≢ ModelRefused.Model → IfOk result IsSome }
+    ensures rule { refused ≡ ModelRefused.Model → IfOk result (λ o. IsNone o → model_reading bytes.now ≢ ModelReading.NoModel) }
 {
     match refused {
         ModelRefused::TooLong => Ok(Some(format!(in alloc;
@@ -233,9 +238,10 @@ fn refusal_reason(
     }
 }
 
-/// What is wrong with the bytes of a model file, in one line without an end; nothing where nothing is found.
+/// What is wrong with the bytes of a model file, in one line without an end; nothing of a file that is taken.
 pub(crate) fn model_reason(alloc: Global, bytes: &[u8]) -> Result<Option<String>, AllocError>
-    ensures { IfOk result (λ o. IsSome o → ¬ IsModelFile bytes.now) }
+    ensures refused { IfOk result (λ o. IsSome o → ¬ IsModelFile bytes.now) }
+    ensures taken { IfOk result (λ o. IsNone o → IsModelFile bytes.now) }
 {
     let model = match read_model(alloc, bytes) {
         Ok(model) => model,
