@@ -9,10 +9,11 @@
 //! fault and promise that it is, on the crates by which a file was refused, and on `quoted_text` for names and what files
 //! hold.
 //!
-//! It promises the line of a run that neither words nor a file refused, as `specs/RunLines` has it, that the line of a refused
-//! file begins with its kind and its name, and that no unprintable character is left where the words do not ask for help. A
-//! reason is told of a model file exactly where it is refused, of a data file only where it is, as `specs/Refusals` says;
-//! which reason, and in which words, is shown by tests, in `page_tests`.
+//! It promises the line of a run that neither words nor a file refused, as `specs/RunLines` has it, that wrong words have
+//! the line of `serve_options`, that the line of a refused file begins with its kind and its name, and that no unprintable
+//! character is left where the words do not ask for help. A reason is told of a model file exactly where it is refused, of
+//! a data file only where it is, as `specs/Refusals` says; which reason, and in which words, is shown by tests, in
+//! `page_tests`.
 //!
 //! `runs` has the line of a run, `model_file` and `data_file` say what is wrong with a file, `json_text` where JSON stops,
 //! `rules` has the words of the rules of model files, `customs` those of custom aggregates, and `values` shows values.
