@@ -62,7 +62,7 @@ KeepsMeaningInPlace IsAccepted r =
     → steps_shape w.model c S (pipe (s ∷ ss)) ≡ Some S' → r w.model c S before s ss ≡ Some ss'
     → IsTrue (before || is_long (pipe ss')) × SameMeaning IsAccepted w c S (pipe (s ∷ ss)) (pipe ss')
 
--- what may be replacement_keeps_meaning in place may be replacement_keeps_meaning wherever the place is, inner pipelines included
+-- what may be replaced in place may be replaced wherever the place is, inner pipelines included
 abbrev pub ReplacementKeepsMeaning : (World → Type 0) → Type 0
 ReplacementKeepsMeaning IsAccepted = (r : Rule) → KeepsMeaningInPlace IsAccepted r → RuleKeepsMeaning IsAccepted r
 
