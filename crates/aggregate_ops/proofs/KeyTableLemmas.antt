@@ -1,35 +1,30 @@
 -- Groups of a list of keys, with one key more.
-use Rattle.std.proofs.Common.{◌≡◌, ℕ, zero, suc, ◌+◌, ◌<◌, ◌≤◌, get_or, set, Some, None, Bool, true, false, cond, not, List, [], ◌∷◌, ◌++◌, length, map, filter, if◌then◌else◌, refl, sym, ap, ◌∙◌, arith, length-append}
+use Rattle.std.proofs.Common.{◌≡◌, ℕ, ◌+◌, Bool, true, false, cond, not, List, [], ◌∷◌, ◌++◌, map, filter, if◌then◌else◌, refl, sym, ap, ◌∙◌, arith, length-append}
 use Rattle.std.specs.Global.{Vec}
-use Rattle.std.specs.List.{position, position_or_len}
 use Rattle.std.proofs.lemmas.Bool.{true≢false}
-use Rattle.std.proofs.lemmas.Grind.{common_steps}
 use Rattle.std.proofs.lemmas.List.{append-nil, map-append}
 use Rattle.std.proofs.lemmas.List.Elements.{filter-append}
-use Rattle.std.proofs.lemmas.List.Quantifiers.{position-Some}
-use Rattle.std.proofs.lemmas.List.Sums.{fails_before_first}
 use Rattle.edm_values.specs.declared.Value.{Value}
 use Rattle.edm_values.specs.Lists.{distinct}
 use Rattle.apply_meaning.specs.Meaning.{same_keys}
 use Rattle.apply_meaning.proofs.InstanceOrders.{same_keys_tests}
-use Rattle.aggregate_ops.specs.KeyTables.{TableState, IsTableOf, groups_of, placed_keys, places_of}
+use Rattle.aggregate_ops.specs.KeyTables.{TableState, IsTableOf, groups_of, placed_keys, places_of, with_places}
 
 -- a key and its places
-abbrev Entry : Type 0
+abbrev pub Entry : Type 0
 Entry = List Value × List ℕ
 
 -- groups with one key more: its place goes to the group of the key, or makes a group behind the others
 abbrev pub with_place : List Entry → List Value → ℕ → List Entry
-with_place [] k p = (k, p ∷ []) ∷ []
-with_place (g ∷ gs) k p = if same_keys g.0 k then (g.0, g.1 ++ p ∷ []) ∷ gs else g ∷ with_place gs k p
+with_place gs k p = with_places gs k (p ∷ [])
 
 -- the groups of other keys than this
-abbrev others : List Value → List Entry → List Entry
+abbrev pub others : List Value → List Entry → List Entry
 others k gs = filter (λ g. not (same_keys k g.0)) gs
 
 -- ---- a list by its first key
 
-places-first : (k : List Value) (p : ℕ) (ys : List (List Value × ℕ)) (d : List Value) (b : Bool) → same_keys k d ≡ b → places_of ((k, p) ∷ ys) d ≡ cond b (p ∷ places_of ys d) (places_of ys d)
+pub places-first : (k : List Value) (p : ℕ) (ys : List (List Value × ℕ)) (d : List Value) (b : Bool) → same_keys k d ≡ b → places_of ((k, p) ∷ ys) d ≡ cond b (p ∷ places_of ys d) (places_of ys d)
 places-first k p ys d true e = ap (λ b. map (λ x. x.1) (cond b ((k, p) ∷ filter (λ x. same_keys x.0 d) ys) (filter (λ x. same_keys x.0 d) ys))) e
 places-first k p ys d false e = ap (λ b. map (λ x. x.1) (cond b ((k, p) ∷ filter (λ x. same_keys x.0 d) ys) (filter (λ x. same_keys x.0 d) ys))) e
 
@@ -55,12 +50,12 @@ groups-others k p ys (d ∷ ds) = go (same_keys k d) refl (groups-others k p ys 
         ∙ ap (λ b. cond (not b) ((d, places_of ys d) ∷ others k (map (λ e. (e, places_of ys e)) ds)) (others k (map (λ e. (e, places_of ys e)) ds))) (sym e)
 
 -- the group of the first key, and the groups of the other keys of what follows
-groups-first : (k : List Value) (p : ℕ) (ys : List (List Value × ℕ)) → groups_of ((k, p) ∷ ys) ≡ (k, p ∷ places_of ys k) ∷ others k (groups_of ys)
+pub groups-first : (k : List Value) (p : ℕ) (ys : List (List Value × ℕ)) → groups_of ((k, p) ∷ ys) ≡ (k, p ∷ places_of ys k) ∷ others k (groups_of ys)
 groups-first k p ys = λ i. (k, places-first k p ys k true (same_keys_tests.itself k) i) ∷ groups-others k p ys (distinct same_keys (map (λ x. x.0) ys)) i
 
 -- ---- one key more
 
-places-more : (ys : List (List Value × ℕ)) (k : List Value) (p : ℕ) (d : List Value) → places_of (ys ++ (k, p) ∷ []) d ≡ places_of ys d ++ cond (same_keys k d) (p ∷ []) []
+pub places-more : (ys : List (List Value × ℕ)) (k : List Value) (p : ℕ) (d : List Value) → places_of (ys ++ (k, p) ∷ []) d ≡ places_of ys d ++ cond (same_keys k d) (p ∷ []) []
 places-more ys k p d =
     ap (map (λ x. x.1)) (filter-append (λ x. same_keys x.0 d) ys ((k, p) ∷ []))
     ∙ map-append (λ x. x.1) (filter (λ x. same_keys x.0 d) ys) (cond (same_keys k d) ((k, p) ∷ []) [])
@@ -105,7 +100,7 @@ others-more d k p e (g ∷ gs) = go (same_keys g.0 k) (same_keys d g.0) refl ref
         ∙ ap (λ l. g ∷ l) r
         ∙ sym (ap (λ b. with_place (cond (not b) (g ∷ others d gs) (others d gs)) k p) m ∙ ap (λ b. if b then (g.0, g.1 ++ p ∷ []) ∷ others d gs else g ∷ with_place (others d gs) k p) h)
 
-same-back : (a b : List Value) (c : Bool) → same_keys a b ≡ c → same_keys b a ≡ c
+pub same-back : (a b : List Value) (c : Bool) → same_keys a b ≡ c → same_keys b a ≡ c
 same-back a b true h = ap (λ x. same_keys b x) (same_keys_tests.same a b h) ∙ same_keys_tests.itself b
 same-back a b false h = go (same_keys b a) refl
   where
@@ -114,7 +109,7 @@ same-back a b false h = go (same_keys b a) refl
     go true k = absurd (true≢false (sym (ap (same_keys a) (same_keys_tests.same b a k) ∙ same_keys_tests.itself a) ∙ h))
 
 -- the groups with one key more
-groups-more : (ys : List (List Value × ℕ)) (k : List Value) (p : ℕ) → groups_of (ys ++ (k, p) ∷ []) ≡ with_place (groups_of ys) k p
+pub groups-more : (ys : List (List Value × ℕ)) (k : List Value) (p : ℕ) → groups_of (ys ++ (k, p) ∷ []) ≡ with_place (groups_of ys) k p
 groups-more [] k p = groups-first k p []
 groups-more (y ∷ ys) k p = groups-first y.0 y.1 (ys ++ (k, p) ∷ []) ∙ go (same_keys y.0 k) refl (groups-more ys k p) ∙ ap (λ gs. with_place gs k p) (sym (groups-first y.0 y.1 ys))
   where
@@ -132,40 +127,6 @@ groups-more (y ∷ ys) k p = groups-first y.0 y.1 (ys ++ (k, p) ∷ []) ∙ go (
     go false h r =
         (λ i. (y.0, y.1 ∷ (places-more ys k p y.0 ∙ ap (λ b. own ++ cond b (p ∷ []) []) (same-back y.0 k false h) ∙ append-nil own) i) ∷ (ap (others y.0) r ∙ others-more y.0 k p h (groups_of ys)) i)
         ∙ ap (λ b. if b then (y.0, (y.1 ∷ own) ++ p ∷ []) ∷ left else (y.0, y.1 ∷ own) ∷ with_place left k p) (sym h)
-
--- ---- where the group of a key stands
-
--- the group of the key has its place changed, and the others stay
-with_place-at : (gs : List Entry) (i : ℕ) (d : Entry) (k : List Value) (p : ℕ) → i < length gs → same_keys (get_or gs i d).0 k ≡ true → ((j : ℕ) → j < i → same_keys (get_or gs j d).0 k ≡ false)
-    → with_place gs k p ≡ set gs i ((get_or gs i d).0, (get_or gs i d).1 ++ p ∷ [])
-with_place-at [] i d k p h t n = absurd (omega arith)
-with_place-at (g ∷ gs) zero d k p h t n = ap (λ b. if b then (g.0, g.1 ++ p ∷ []) ∷ gs else g ∷ with_place gs k p) t
-with_place-at (g ∷ gs) (suc i) d k p h t n =
-    ap (λ b. if b then (g.0, g.1 ++ p ∷ []) ∷ gs else g ∷ with_place gs k p) (n 0 (omega arith))
-    ∙ ap (λ l. g ∷ l) (with_place-at gs i d k p (omega arith) t (λ j l. n (suc j) (omega arith)))
-
--- where no group is of the key, one is put behind the others
-with_place-none : (gs : List Entry) (d : Entry) (k : List Value) (p : ℕ) → ((j : ℕ) → j < length gs → same_keys (get_or gs j d).0 k ≡ false) → with_place gs k p ≡ gs ++ (k, p ∷ []) ∷ []
-with_place-none [] d k p n = refl
-with_place-none (g ∷ gs) d k p n =
-    ap (λ b. if b then (g.0, g.1 ++ p ∷ []) ∷ gs else g ∷ with_place gs k p) (n 0 (omega arith))
-    ∙ ap (λ l. g ∷ l) (with_place-none gs d k p (λ j l. n (suc j) (omega arith)))
-
--- where no place was found, no element passes
-past : (q : Entry → Bool) (gs : List Entry) (d : Entry) → position q gs ≡ None → (j : ℕ) → j < length gs → q (get_or gs j d) ≡ false
-past q gs d e j l =
-    let all : length gs ≤ position_or_len q gs = grind (arith, common_steps) in
-    fails_before_first q gs j d (omega arith)
-
--- the place of a key was added to its group
-pub with_place-found : (gs : List Entry) (i : ℕ) (d : Entry) (k : List Value) (p : ℕ) → position (λ g. same_keys g.0 k) gs ≡ Some i → with_place gs k p ≡ set gs i ((get_or gs i d).0, (get_or gs i d).1 ++ p ∷ [])
-with_place-found gs i d k p e =
-    let found = position-Some (λ g. same_keys g.0 k) gs i d e in
-    with_place-at gs i d k p found.0 found.1 found.2
-
--- a key has no group yet
-pub with_place-new : (gs : List Entry) (k : List Value) (p : ℕ) → position (λ g. same_keys g.0 k) gs ≡ None → gs ++ (k, p ∷ []) ∷ [] ≡ with_place gs k p
-with_place-new gs k p e = sym (with_place-none gs ([], []) k p (past (λ g. same_keys g.0 k) gs ([], []) e))
 
 -- a key list was added to a table
 pub IsTableOf-next : (t : TableState) (gs : List Entry) (xs : List (Vec Value × ℕ)) (k : Vec Value) (p : ℕ) → gs ≡ with_place t.groups k.items p → IsTableOf t xs

@@ -1,4 +1,9 @@
+pub mod AppendLemmas
+pub mod FrontLemmas
+pub mod JoinLemmas
 pub mod KeyGroups
+pub mod KeyMapLemmas
 pub mod KeyTableLemmas
 pub mod KindLemmas
+pub mod MergeLemmas
 pub mod PartialLemmas

@@ -1,8 +1,13 @@
 //! Groups of places by their keys.
-ghost use Rattle.std.specs.Prelude.{◌≡◌, ◌<◌, [], ◌∷◌, ◌++◌, length, slice_get, Some, IfOk, OnOk};
+ghost use Rattle.std.specs.Prelude.{◌≡◌, ◌<◌, ◌≤◌, List, [], ◌∷◌, ◌++◌, All, length, map, take, slice_get, Some, IfOk, OnOk};
 ghost use Rattle.std.specs.Option.{option_map};
-ghost use Rattle.apply_meaning.specs.Meaning.{same_keys};
+ghost use Rattle.edm_values.specs.declared.Value.{Value as Value'};
+ghost use Rattle.par_stages.specs.Placed.{placed};
+ghost use Rattle.aggregate_ops.specs.Fronts.{AreGroupsOf};
+ghost use Rattle.aggregate_ops.specs.KeyTables.{groups_of, map_groups};
 
+use crate::fronts::by_front;
+use crate::key_maps::KeyMap;
 use crate::values::copies;
 use edm_values::Value;
 use std::alloc::{AllocError, Global};
@@ -25,21 +30,39 @@ impl Model for Group {
 }
 
 impl Group {
-    /// The group of a key that has one place.
-    pub(crate) fn new(alloc: Global, key: &[Value], place: usize) -> Result<Group, AllocError>
-        ensures { IfOk result (λ g. g ≡ (key.now, place ∷ [])) }
+    /// The group of a key with copies of these places.
+    fn of(alloc: Global, key: &[Value], places: &[usize]) -> Result<Group, AllocError>
+        ensures { IfOk result (λ g. g ≡ (key.now, places.now)) }
     {
-        let key = copies(alloc, key)?;
-        let mut places = Vec::new(alloc);
-        places.push(place)?;
-        Ok(Group { key, places })
+        Ok(Group {
+            key: copies(alloc, key)?,
+            places: Vec::from_slice(alloc, places)?,
+        })
     }
 
-    /// Whether this is the group of the key.
-    pub(crate) fn is_of(&self, key: &[Value]) -> bool
-        ensures { result ≡ same_keys self.now.0 key.now }
+    /// The group of a key that has no place yet.
+    pub(crate) fn empty(alloc: Global, key: Vec<Value>) -> Group
+        ensures { result ≡ (key.items, []) }
     {
-        self.key.as_slice() == key
+        Group {
+            key,
+            places: Vec::new(alloc),
+        }
+    }
+
+    /// Copies of the first values of the key.
+    pub(crate) fn front(&self, alloc: Global, front: usize) -> Result<Vec<Value>, AllocError>
+        requires { front ≤ length self.now.0 }
+        ensures { IfOk result (λ key. key.items ≡ take front self.now.0) }
+    {
+        copies(alloc, &self.key.as_slice()[..front])
+    }
+
+    /// The places.
+    pub(crate) fn places(&self) -> &[usize]
+        ensures { result.now ≡ self.now.1 }
+    {
+        self.places.as_slice()
     }
 
     /// Adds a place behind the others.
@@ -48,16 +71,6 @@ impl Group {
     {
         self.places.push(place)?;
         Ok(())
-    }
-
-    /// A copy of the group.
-    pub(crate) fn copy(&self, alloc: Global) -> Result<Group, AllocError>
-        ensures { IfOk result (λ g. g ≡ self.now) }
-    {
-        Ok(Group {
-            key: copies(alloc, self.key.as_slice())?,
-            places: Vec::from_slice(alloc, self.places.as_slice())?,
-        })
     }
 }
 
@@ -77,15 +90,37 @@ impl Model for Groups {
 }
 
 impl Groups {
-    /// A copy of these groups.
-    pub(crate) fn of(alloc: Global, groups: &[Group]) -> Result<Groups, AllocError>
-        ensures { IfOk result (λ g. g ≡ groups.now) }
+    /// A copy of what the map holds.
+    pub(crate) fn of(alloc: Global, map: &KeyMap) -> Result<Groups, AllocError>
+        ensures { IfOk result (λ g. g ≡ map_groups map.now.entries) }
     {
-        let mut copied = Vec::with_capacity(alloc, groups.len())?;
-        for group in groups {
-            copied.push(group.copy(alloc)?)?;
+        let mut groups = Vec::with_capacity(alloc, map.len())?;
+        for (key, places) in map {
+            groups.push(Group::of(alloc, key.as_slice(), places.as_slice())?)?;
         }
-        Ok(Groups { groups: copied })
+        Ok(Groups { groups })
+    }
+
+    /// What the map holds, which is given up: no key and no list of places is copied.
+    pub(crate) fn from_map(alloc: Global, map: KeyMap) -> Result<Groups, AllocError>
+        ensures { IfOk result (λ g. g ≡ map_groups map.entries) }
+    {
+        let mut groups = Vec::with_capacity(alloc, map.len())?;
+        for (key, places) in map {
+            groups.push(Group { key, places })?;
+        }
+        Ok(Groups { groups })
+    }
+
+    /// The groups of so many rows by the first values of their keys, made from these, their groups by all of them. Key lists
+    /// are compared for each group, and no more for each row.
+    pub fn by_front(&self, alloc: Global, front: usize, rows: usize) -> Result<Groups, AllocError>
+        requires long { All (λ g. front ≤ length g.0) self.now }
+        requires groups { (keys : List (List Value')) × AreGroupsOf rows keys self.now }
+        ensures { IfOk result (λ found. (keys : List (List Value')) → AreGroupsOf rows keys self.now → found ≡ groups_of (placed 0 (map (take front) keys))) }
+    {
+        let groups = by_front(alloc, self.groups.as_slice(), front, rows)?;
+        Ok(Groups { groups })
     }
 
     /// How many groups there are.

@@ -1,24 +1,27 @@
 //! Partial aggregates of lists of values, and tables of keys.
 //!
 //! `SumOf`, `MinOf`, `MaxOf`, `DistinctOf` and `CountOf` are each a `Partial` over values: made for a type by `new`, given one
-//! value at a time, and ended by `finish`. `aggregate_values` folds a list of values by the partial of a method. `KeyTable` is
-//! a `Partial` over key lists; `groups` gives its `Groups`. `values` has what is asked of a single value, and copies of
-//! values.
+//! value at a time or those of a later part, and ended by `finish`. `aggregate_values` folds a list of values by the partial of
+//! a method. `KeyTable` is a `Partial` over key lists, which finds a key by its hash (`key_maps`); `groups` and `into_groups` give
+//! its `Groups`, and `by_front` those by the first values of their keys (`fronts`). `values` has what is asked of a single
+//! value, and copies of values.
 //!
 //! The crate stands on `par_stages` for folds, on `apply_meaning` for the meaning of aggregates and of groups, and on
 //! `edm_values` for values and their order.
 //!
 //! It promises that `finish` is the aggregate of the list that the partial stands for (`specs/Partials`), and that `groups`
-//! has the distinct keys in order of first appearance, each with its places in the order of the list (`specs/KeyTables`). The
-//! sum is kept exactly, and tested once against the range of its type, at `finish`. A partial of fewer than 2^63 items keeps
-//! its sum in 128 bits.
+//! has the distinct keys in order of first appearance, each with its places in the order of the list (`specs/KeyTables`), as
+//! `by_front` has (`specs/Fronts`). The sum is kept exactly, and tested once against the range of its type, at `finish`. A
+//! partial of fewer than 2^63 items keeps its sum in 128 bits.
 #![tactic(auto)]
 
 mod counts;
 mod distincts;
 mod extremes;
 mod folds;
+mod fronts;
 mod groups;
+mod key_maps;
 mod key_tables;
 mod sums;
 mod values;

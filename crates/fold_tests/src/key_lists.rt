@@ -116,7 +116,7 @@ fn shown(alloc: Global, groups: &Groups) -> Result<String, Fail> {
     Ok(text)
 }
 
-/// Compares the groups of keys, for one worker and for as many as may be.
+/// Compares the groups of keys, in one piece, in two and in three, and in as many as may be.
 fn expect_groups<R: Threads + Sync + Abort>(
     rt: &R,
     alloc: Global,
@@ -125,7 +125,7 @@ fn expect_groups<R: Threads + Sync + Abort>(
     expected: &str,
 ) -> Result<(), Fail> {
     let keys = keys_of(alloc, width, texts)?;
-    for workers in [1, 64] {
+    for workers in [1, 2, 3, 64] {
         let table = pieces(
             rt,
             keys.as_slice(),
@@ -134,6 +134,8 @@ fn expect_groups<R: Threads + Sync + Abort>(
             &KeyTable::new(alloc, width),
         )?;
         let groups = table.groups()?;
+        assert_eq!(rt; shown(alloc, &groups)?.as_str(), expected);
+        let groups = table.into_groups()?;
         assert_eq!(rt; shown(alloc, &groups)?.as_str(), expected);
     }
     Ok(())
