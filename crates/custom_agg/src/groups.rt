@@ -35,7 +35,7 @@ pub(crate) fn groups_by<R: Threads + Sync, G: Gate>(
 {
     let lists = key_lists(alloc, store, paths, rows)?;
     let empty = KeyTable::new(alloc, paths.len());
-    pieces(rt, lists.as_slice(), workers, gate, &empty)?.groups()
+    pieces(rt, lists.as_slice(), workers, gate, &empty)?.into_groups()
 }
 
 /// What a method gives on the values of an expression on the rows of each group.

@@ -6,7 +6,7 @@ ghost use Rattle.group_rollup.specs.Groupings as spec;
 ghost use Rattle.group_rollup.specs.Groupings.{front_groups, groups, key_groups, GivesFor};
 
 use crate::GroupRefused;
-use crate::row_keys::{fronts, key_lists};
+use crate::row_keys::key_lists;
 use aggregate_ops::{Groups, KeyTable};
 use apply_ast::Path;
 use apply_meaning::Row;
@@ -30,7 +30,7 @@ fn groups_of<R: Threads + Sync, G: Gate>(
     requires width { All (HasWidth width) lists.now }
     ensures { IfOk result (λ found. found ≡ key_groups (map (λ k. k.items) lists.now)) }
 {
-    pieces(rt, lists, workers, gate, &KeyTable::new(alloc, width))?.groups()
+    pieces(rt, lists, workers, gate, &KeyTable::new(alloc, width))?.into_groups()
 }
 
 /// The groups of rows by key paths, in order of first appearance, each with the places of its rows. The keys are worked out
@@ -67,26 +67,35 @@ fn all_paths(alloc: Global, keys: &[Path], levels: &[Path]) -> Result<Vec<Path>,
     Ok(paths)
 }
 
-/// The groups of key lists by their first `front` values.
-fn groups_by_front<R: Threads + Sync, G: Gate>(
+/// The groups of key lists of `width` values by their first `front` values: made from the last of those by more values, or
+/// from the key lists where there are none.
+fn level<R: Threads + Sync, G: Gate>(
     rt: &R,
     alloc: Global,
     lists: &[Vec<Value>],
+    found: &[Groups],
     front: usize,
+    width: usize,
     workers: u32,
     gate: &G,
 ) -> Result<Groups, AllocError>
     requires some { 0 < workers }
     requires few { workers ≤ 64 }
-    requires long { All (λ k. front ≤ length k.items) lists.now }
+    requires width { All (HasWidth width) lists.now }
+    requires within { front ≤ width }
+    requires found { found.now ≡ front_groups front (width - front) (map (λ k. k.items) lists.now) }
     ensures { IfOk result (λ found. found ≡ key_groups (map (take front) (map (λ k. k.items) lists.now))) }
 {
-    let cut = fronts(alloc, lists, front)?;
-    groups_of(rt, alloc, cut.as_slice(), front, workers, gate)
+    let count = found.len();
+    if count == 0 {
+        return groups_of(rt, alloc, lists, width, workers, gate);
+    }
+    let last = count - 1;
+    found[last].by_front(alloc, front, lists.len())
 }
 
 /// The groups of key lists of `width` values by their first values, for each number of these from all to one more than
-/// `least`.
+/// `least`. The key lists are grouped once, by all their values, and each next level is made from the one before it.
 fn level_groups<R: Threads + Sync, G: Gate>(
     rt: &R,
     alloc: Global,
@@ -104,13 +113,15 @@ fn level_groups<R: Threads + Sync, G: Gate>(
 {
     let mut found = Vec::new(alloc);
     for front in (least..width).rev() {
-        found.push(groups_by_front(rt, alloc, lists, front + 1, workers, gate)?)?;
+        let groups = level(rt, alloc, lists, &found, front + 1, width, workers, gate)?;
+        found.push(groups)?;
     }
     Ok(found)
 }
 
 /// The groups of rows by each level of a rollup, the finest first: by the keys with the first of these paths, for each count
-/// of paths from all to one, and with `with_all` by the keys alone. Each level is grouped from the rows.
+/// of paths from all to one, and with `with_all` by the keys alone. The rows are grouped once, by all paths, and each coarser
+/// level is made from the groups of the finer one.
 pub fn rollup<R: Threads + Sync, G: Gate>(
     rt: &R,
     alloc: Global,
@@ -130,9 +141,11 @@ pub fn rollup<R: Threads + Sync, G: Gate>(
     let paths = all_paths(alloc, keys, levels)?;
     let lists = key_lists(alloc, store, paths.as_slice(), rows)?;
     let lists = lists.as_slice();
-    let mut found = level_groups(rt, alloc, lists, keys.len(), paths.len(), workers, gate)?;
+    let width = paths.len();
+    let mut found = level_groups(rt, alloc, lists, keys.len(), width, workers, gate)?;
     if with_all {
-        found.push(groups_by_front(rt, alloc, lists, keys.len(), workers, gate)?)?;
+        let groups = level(rt, alloc, lists, &found, keys.len(), width, workers, gate)?;
+        found.push(groups)?;
     }
     Ok(found)
 }

@@ -17,5 +17,5 @@ pieces-requires-clause-kind g c κs within =
 pub returns : goal.returns
 returns g c =
     let lists = ap (map (λ k. k.items)) c.as_slice.ensures.value ∙ c.in_ok-lists.ensures in
-    IfOk-weaker c.groups-2.result _ (λ found. found ≡ groups_of (placed 0 (map (key_list c.args.store.now c.args.paths.now) c.args.rows.now)))
-    (λ found h. h _ c.in_ok-pieces.ensures.stands ∙ ap groups_of (placed-keys c.as_slice.result.now ∙ ap (placed 0) lists)) c.groups-2.ensures
+    IfOk-weaker c.into_groups.result _ (λ found. found ≡ groups_of (placed 0 (map (key_list c.args.store.now c.args.paths.now) c.args.rows.now)))
+    (λ found h. h _ c.in_ok-pieces.ensures.stands ∙ ap groups_of (placed-keys c.as_slice.result.now ∙ ap (placed 0) lists)) c.into_groups.ensures

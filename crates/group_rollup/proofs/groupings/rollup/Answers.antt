@@ -1,4 +1,4 @@
-use Rattle.std.proofs.Common.{◌≡◌, ◌-◌, ◌≤◌, ◌++◌, ◌∷◌, [], ◌∙◌, ap, arith, length, length-append, map, subst, sym, take}
+use Rattle.std.proofs.Common.{◌≡◌, ◌-◌, ◌++◌, ◌∷◌, [], ◌∙◌, ap, arith, length, length-append, map, subst, sym, take}
 use Rattle.std.specs.Prelude.{All}
 use Rattle.aggregate_ops.specs.KeyTables.{HasWidth}
 use Rattle.apply_meaning.specs.Meaning.{key_list}
@@ -6,23 +6,21 @@ use Rattle.group_rollup.specs.Groupings.{front_groups, has_beyond_key, key_group
 use Rattle.apply_meaning.specs.Instances.{lookup}
 use Rattle.std.proofs.lemmas.List.{length-map}
 use Rattle.aggregate_ops.proofs.KeyGroups.{wide-images}
-use Rattle.group_rollup.proofs.GroupLemmas.{wide-long}
 use Rattle.group_rollup.proofs.LevelLemmas.{levels-all, levels-some}
 use Rattle.group_rollup.proofs.groupings.rollup.Goals as goal
-use Rattle.group_rollup.proofs.groupings.rollup.Goals.{then-with_all+in_ok-groups_by_front+in_ok-push, else-with_all}
+use Rattle.group_rollup.proofs.groupings.rollup.Goals.{then-with_all+in_ok-groups+in_ok-push, else-with_all}
 
 pub level_groups-requires-clause-width : goal.level_groups-requires-clause-width
 level_groups-requires-clause-width g c κs within =
     let wide = wide-images (key_list c.args.store.now c.as_slice.result.now) (length c.as_slice.result.now) (λ i. length-map c.as_slice.result.now (lookup c.args.store.now i)) c.as_slice-lists.result.now c.args.rows.now (ap (map (λ k. k.items)) c.as_slice-lists.ensures.value ∙ c.in_ok-lists.ensures.0) in
-    let size : length c.as_slice.result.now ≡ c.len.result = omega arith in
+    let size : length c.as_slice.result.now ≡ c.len-width.result = omega arith in
     subst (λ n. All (HasWidth n) c.as_slice-lists.result.now) size wide
 
-pub groups_by_front-requires-clause-long : goal.groups_by_front-requires-clause-long
-groups_by_front-requires-clause-long g c κs within =
+pub level-requires-clause-width : goal.level-requires-clause-width
+level-requires-clause-width g c κs within =
     let wide = wide-images (key_list c.args.store.now c.as_slice.result.now) (length c.as_slice.result.now) (λ i. length-map c.as_slice.result.now (lookup c.args.store.now i)) c.as_slice-lists.result.now c.args.rows.now (ap (map (λ k. k.items)) c.as_slice-lists.ensures.value ∙ c.in_ok-lists.ensures.0) in
-    let size = length-append c.args.keys.now c.args.levels.now in
-    let enough : length c.args.keys.now ≤ length c.as_slice.result.now = omega (arith, size, ap length (c.as_slice.ensures.value ∙ c.in_ok-paths.ensures)) in
-    wide-long (length c.args.keys.now) (length c.as_slice.result.now) c.as_slice-lists.result.now enough wide
+    let size : length c.as_slice.result.now ≡ c.len-width.result = omega arith in
+    subst (λ n. All (HasWidth n) c.as_slice-lists.result.now) size wide
 
 pub returns : goal.returns
 returns g c =
@@ -32,12 +30,12 @@ returns g c =
     let l = c.args.rows.now in
     let paths = c.as_slice.ensures.value ∙ c.in_ok-paths.ensures in
     let lists = ap (map (λ k. k.items)) c.as_slice-lists.ensures.value ∙ c.in_ok-lists.ensures.0 ∙ ap (λ all. map (key_list w all) l) paths in
-    let count : c.len.result - length ks ≡ length ps = omega (arith, length-append ks ps, ap length paths) in
+    let count : c.len-width.result - length ks ≡ length ps = omega (arith, length-append ks ps, ap length paths) in
     let levels = c.in_ok-found.ensures ∙ (λ i. front_groups (length ks) (count i) (lists i)) in (
       elim c.if-with_all.branch [
-        | then-with_all+in_ok-groups_by_front+in_ok-push w' ↦
+        | then-with_all+in_ok-groups+in_ok-push w' ↦
             ap (λ v. v.items) w'.found-is ∙ w'.in_ok-push.ensures.items
-            ∙ (λ i. levels i ++ (w'.in_ok-groups_by_front.ensures ∙ ap (λ keys. key_groups (map (take (length ks)) keys)) lists) i ∷ [])
+            ∙ (λ i. levels i ++ (w'.in_ok-groups.ensures ∙ ap (λ keys. key_groups (map (take (length ks)) keys)) lists) i ∷ [])
             ∙ levels-all w ks ps l ∙ ap (λ b. level_groups w ks ps b l) (sym w'.if-with_all.true)
         | else-with_all w' ↦ ap (λ v. v.items) w'.found-is ∙ levels ∙ levels-some w ks ps l ∙ ap (λ b. level_groups w ks ps b l) (sym w'.if-with_all.false)
       ],
