@@ -1,0 +1,78 @@
+//! Tables of the key lists of rows that are told by their places.
+ghost use Rattle.std.specs.Prelude.{◌≡◌, ℕ, ◌<◌, List, [], All, IfOk, length, map};
+ghost use Rattle.std.specs.Global.{Vec as Vec'};
+ghost use Rattle.edm_values.specs.declared.Value.{Value as Value'};
+ghost use Rattle.aggregate_ops.specs.KeyTables.{IsTableOf, groups_of};
+ghost use Rattle.rollup_rec.specs.RowTables.{IsRowTableOf, keyed_rows};
+
+use aggregate_ops::{Groups, KeyTable};
+use edm_values::Value;
+use par_stages::Partial;
+use std::alloc::AllocError;
+use std::marker::Model;
+
+/// A table of the key lists of some rows. The rows are told by their places in the list of all key lists.
+#[derive(Drop)]
+pub(crate) struct RowTable<'a> {
+    keys: &'a [Vec<Value>],
+    table: KeyTable,
+}
+
+impl<'a> Model for RowTable<'a> {
+    ghost use Rattle.rollup_rec.specs.RowTables.{RowTableState};
+
+    ghost Value = { RowTableState };
+
+    ghost view = { λ t. record { keys = t.keys.now; table = t.table } };
+}
+
+impl<'a> RowTable<'a> {
+    /// A table without rows.
+    pub(crate) fn new(keys: &'a [Vec<Value>], table: KeyTable) -> RowTable<'a>
+        requires { IsTableOf table [] }
+        ensures keys { result.keys ≡ keys.now }
+        ensures table { result.table ≡ table }
+        ensures empty { IsRowTableOf result [] }
+    {
+        RowTable { keys, table }
+    }
+
+    /// The groups of the rows by their key lists.
+    pub(crate) fn groups(&self) -> Result<Groups, AllocError>
+        ensures { IfOk result (λ g. (xs : List (ℕ × ℕ)) → IsRowTableOf self.now xs → g ≡ groups_of (keyed_rows (map (λ k. k.items) self.now.keys) (map (λ x. x.0) xs))) }
+    {
+        self.table.groups()
+    }
+}
+
+impl<'a> Partial for RowTable<'a> {
+    ghost use Rattle.aggregate_ops.specs.KeyTables.{HasWidth};
+
+    type Item = usize;
+
+    ghost Kind = { ℕ × List (Vec' Value') };
+
+    ghost kind = { λ t. (t.table.width, t.keys) };
+
+    ghost takes = { λ k row. (row < length k.1) × All (HasWidth k.0) k.1 };
+
+    ghost count = { λ t. t.table.count };
+
+    ghost stands_for = { IsRowTableOf };
+
+    fn fresh(&self) -> Result<RowTable<'a>, AllocError> {
+        Ok(RowTable::new(self.keys, self.table.fresh()?))
+    }
+
+    fn add(&mut self, item: &usize, _place: usize) -> Result<(), AllocError> {
+        let keys = self.keys;
+        let row = *item;
+        self.table.add(&keys[row], row)
+    }
+
+    fn merge(&mut self, later: RowTable<'a>) -> Result<(), AllocError> {
+        self.table.merge(later.table)
+    }
+
+    ghost counted = { λ p xs h. h.count_is };
+}
