@@ -3,6 +3,7 @@ pub mod AggregateLemmas
 pub mod AggregateOrders
 pub mod AggregatedFit
 pub mod AggregationLemmas
+pub mod CountLemmas
 pub mod ExprLemmas
 pub mod FitLemmas
 pub mod FitMore

@@ -18,6 +18,7 @@ pub use Rattle.context_typing.specs.Readings
 pub use Rattle.context_typing.specs.Shapes
 pub use Rattle.context_typing.specs.Typing
 pub mod Aggregates
+pub mod Counts
 pub mod Instances
 pub mod Meaning
 pub mod MeaningLaws

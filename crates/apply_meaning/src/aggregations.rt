@@ -96,7 +96,9 @@ pub fn aggregate_rows<L: Ledger>(
     requires summable { AreSummable store.now rows.now (map agg_of items.now) }
     requires differ { ItemsDiffer store.now rows.now (map agg_of items.now) }
     ensures row { (c : Customs) (S : Shape) → IfOk result (λ row. row ≡ record no_instance { columns = map (item_value store.now c S rows.now) (map agg_of items.now) }) }
+    ensures each { IfOk result (λ row. steps.new ≡ steps.old + 1) }
     ensures steps { steps.new ≤ steps.old + 1 }
+    ensures grown { steps.old ≤ steps.new }
 {
     let mut columns = Vec::with_capacity(alloc, items.len())?;
     for item in items {

@@ -55,7 +55,9 @@ pub fn compute_rows<L: Ledger>(
     requires of { IsTrue (all_of store.now rows.items) }
     requires free { IsTrue (all_free store.now (map named_of items.now) rows.items) }
     ensures rows { let ns = map named_of items.now in IfOk result (λ made. made.items ≡ map (λ i. extended i (new_columns store.now ns i)) rows.items) }
+    ensures each { IfOk result (λ made. steps.new ≡ steps.old + length rows.items) }
     ensures steps { steps.new ≤ steps.old + length rows.items }
+    ensures grown { steps.old ≤ steps.new }
 {
     let paths = new_paths(alloc, items)?;
     let mut made = Vec::with_capacity(alloc, rows.len())?;

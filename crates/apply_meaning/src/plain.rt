@@ -11,6 +11,7 @@ ghost use Rattle.context_typing.specs.Shapes.{Shape};
 ghost use Rattle.context_typing.specs.Typing as typing;
 ghost use Rattle.context_typing.specs.Typing.{customs_typed, shape_of_set};
 ghost use Rattle.apply_meaning.specs.Instances as instances;
+ghost use Rattle.apply_meaning.specs.Counts.{all_made, rows_made};
 ghost use Rattle.apply_meaning.specs.Meaning.{mean, step_mean};
 ghost use Rattle.apply_meaning.specs.Running as spec;
 ghost use Rattle.apply_meaning.specs.Running.{AreSummable, Gives, ItemsDiffer, Ready, Runs, StepReady, StepRuns};
@@ -72,7 +73,7 @@ fn aggregation_ready(store: &Data, items: &AggList, rows: &[Row])
     data_is_loaded(store);
 }
 
-/// The row of an aggregation, alone in a list.
+/// The row of an aggregation, alone in a list: one step.
 pub fn aggregated<L: Ledger>(
     alloc: Global,
     store: &Data,
@@ -83,7 +84,9 @@ pub fn aggregated<L: Ledger>(
     requires ready { StepReady store.now (tree.Step.Aggregate (map agg_of items.now)) rows.items }
     requires standard { IsTrue (list_all spec.is_standard (map agg_of items.now)) }
     ensures mean { (c : typing.Customs) (S : Shape) → IfOk result (λ made. step_mean store.now c S (tree.Step.Aggregate (map agg_of items.now)) rows.items ≡ Some made.items) }
+    ensures each { IfOk result (λ made. steps.new ≡ steps.old + length made.items) }
     ensures steps { steps.new ≤ steps.old + 1 }
+    ensures grown { steps.old ≤ steps.new }
 {
     aggregation_ready(store, items, rows.as_slice());
     let mut made = Vec::new(alloc);
@@ -91,7 +94,7 @@ pub fn aggregated<L: Ledger>(
     Ok(made)
 }
 
-/// The rows that a plain transformation gives.
+/// The rows that a plain transformation gives: one step for each row that it makes.
 fn plain_step<L: Ledger>(
     alloc: Global,
     store: &Data,
@@ -101,7 +104,10 @@ fn plain_step<L: Ledger>(
 ) -> Result<Vec<Row>, RunRefused>
     requires ready { StepReady store.now (step_of step.now) rows.items }
     requires plain { IsTrue (spec.is_plain_step (step_of step.now)) }
-    ensures { (c : typing.Customs) (S S' : Shape) → StepRuns store.now c S S' (step_of step.now) rows.items → Gives result (step_mean store.now c S (step_of step.now) rows.items) }
+    ensures mean { (c : typing.Customs) (S S' : Shape) → StepRuns store.now c S S' (step_of step.now) rows.items → Gives result (step_mean store.now c S (step_of step.now) rows.items) }
+    ensures each { IfOk result (λ made. steps.new ≡ steps.old + rows_made (step_of step.now) rows.items) }
+    ensures steps { steps.new ≤ steps.old + rows_made (step_of step.now) rows.items }
+    ensures grown { steps.old ≤ steps.new }
 {
     data_is_loaded(store);
     match step {
@@ -134,7 +140,7 @@ fn typed_ready(store: &Data, c: &Customs, t: &Typed, rows: &Vec<Row>)
     data_is_loaded(store);
 }
 
-/// The rows that a plain typed pipeline gives on the instances of its entity set.
+/// The rows that a plain typed pipeline gives on the instances of its entity set: one step for each row that is made on the way.
 pub fn run_plain<L: Ledger>(
     alloc: Global,
     store: &Data,
@@ -146,7 +152,10 @@ pub fn run_plain<L: Ledger>(
     requires typing { IsTyping store.now.model (readings c.now) t.now }
     requires set { IsSet store.now.model t.now.set }
     requires plain { IsTrue (spec.is_plain (pipe_of t.now.pipe)) }
-    ensures { Gives result (mean store.now (readings c.now) (shape_of_set store.now.model t.now.set) (pipe_of t.now.pipe) (instances.rows store.now t.now.set)) }
+    ensures mean { Gives result (mean store.now (readings c.now) (shape_of_set store.now.model t.now.set) (pipe_of t.now.pipe) (instances.rows store.now t.now.set)) }
+    ensures each { IfOk result (λ rows. steps.new ≡ steps.old + all_made store.now (readings c.now) t.now.set (pipe_of t.now.pipe)) }
+    ensures steps { steps.new ≤ steps.old + all_made store.now (readings c.now) t.now.set (pipe_of t.now.pipe) }
+    ensures grown { steps.old ≤ steps.new }
 {
     let rows = set_rows(alloc, store, t.set, steps)?;
     typed_ready(store, c, t, &rows);

@@ -1,5 +1,5 @@
 //! The rows of an entity set.
-ghost use Rattle.std.specs.Prelude.{◌≡◌, ◌+◌, ◌≤◌, IfOk};
+ghost use Rattle.std.specs.Prelude.{◌≡◌, ◌+◌, ◌≤◌, IfOk, length};
 ghost use Rattle.edm_data.specs.References.{count};
 ghost use Rattle.apply_meaning.specs.Instances.{rows};
 
@@ -18,7 +18,9 @@ pub fn set_rows<L: Ledger>(
     steps: &mut Steps<L>,
 ) -> Result<Vec<Row>, AllocError>
     ensures rows { IfOk result (λ made. made.items ≡ rows store.now set) }
+    ensures each { IfOk result (λ made. steps.new ≡ steps.old + length made.items) }
     ensures steps { steps.new ≤ steps.old + count store.now set }
+    ensures grown { steps.old ≤ steps.new }
 {
     let mut made = Vec::new(alloc);
     for at in 0..store.count(set) {

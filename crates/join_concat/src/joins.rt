@@ -25,7 +25,9 @@ pub fn join<L: Ledger>(
     requires lists { length inner.now ≡ length rows.now }
     requires free { IsTrue (list_all (is_free_of alias.now) rows.now) }
     ensures rows { IfOk result (λ made. made.items ≡ bound_rows false alias.now rows.now (map (λ l. l.items) inner.now)) }
+    ensures each { IfOk result (λ made. steps.new ≡ steps.old + length made.items) }
     ensures steps { steps.new ≤ steps.old + length (bound_rows false alias.now rows.now (map (λ l. l.items) inner.now)) }
+    ensures grown { steps.old ≤ steps.new }
 {
     bound(alloc, false, rows, inner, alias, steps)
 }
@@ -42,7 +44,9 @@ pub fn outerjoin<L: Ledger>(
     requires lists { length inner.now ≡ length rows.now }
     requires free { IsTrue (list_all (is_free_of alias.now) rows.now) }
     ensures rows { IfOk result (λ made. made.items ≡ bound_rows true alias.now rows.now (map (λ l. l.items) inner.now)) }
+    ensures each { IfOk result (λ made. steps.new ≡ steps.old + length made.items) }
     ensures steps { steps.new ≤ steps.old + length (bound_rows true alias.now rows.now (map (λ l. l.items) inner.now)) }
+    ensures grown { steps.old ≤ steps.new }
 {
     bound(alloc, true, rows, inner, alias, steps)
 }
@@ -58,7 +62,9 @@ fn bound<L: Ledger>(
 ) -> Result<Vec<Row>, AllocError>
     requires free { IsTrue (list_all (is_free_of alias.now) rows.now) }
     ensures rows { IfOk result (λ made. made.items ≡ bound_rows outer alias.now rows.now (map (λ l. l.items) inner.now)) }
+    ensures each { IfOk result (λ made. steps.new ≡ steps.old + length made.items) }
     ensures steps { steps.new ≤ steps.old + length (bound_rows outer alias.now rows.now (map (λ l. l.items) inner.now)) }
+    ensures grown { steps.old ≤ steps.new }
 {
     let mut all = Vec::new(alloc);
     for (row, results) in rows.iter().zip(inner) {
@@ -79,7 +85,9 @@ fn bound_row<L: Ledger>(
 ) -> Result<Vec<Row>, AllocError>
     requires free { IsTrue (is_free_of alias.now row.now) }
     ensures rows { IfOk result (λ made. made.items ≡ bound_to outer alias.now row.now results.now) }
+    ensures each { IfOk result (λ made. steps.new ≡ steps.old + length made.items) }
     ensures steps { steps.new ≤ steps.old + length (bound_to outer alias.now row.now results.now) }
+    ensures grown { steps.old ≤ steps.new }
 {
     let mut made = Vec::with_capacity(alloc, results.len())?;
     for other in results {
@@ -101,7 +109,9 @@ fn row_beside<L: Ledger>(
 ) -> Result<Row, AllocError>
     requires free { IsTrue (is_free_of alias.now row.now) }
     ensures row { IfOk result (λ made. made ≡ beside alias.now row.now other.now) }
+    ensures each { IfOk result (λ made. steps.new ≡ steps.old + 1) }
     ensures steps { steps.new ≤ steps.old + 1 }
+    ensures grown { steps.old ≤ steps.new }
 {
     let prefixes = copy_prefixes(alloc, row.prefixes())?;
     let prefixes = add_prefixes(alloc, prefixes, other.root(), other.prefixes(), alias)?;
@@ -119,7 +129,9 @@ fn row_beside_none<L: Ledger>(
 ) -> Result<Row, AllocError>
     requires free { IsTrue (is_free_of alias.now row.now) }
     ensures row { IfOk result (λ made. made ≡ beside_none alias.now row.now) }
+    ensures each { IfOk result (λ made. steps.new ≡ steps.old + 1) }
     ensures steps { steps.new ≤ steps.old + 1 }
+    ensures grown { steps.old ≤ steps.new }
 {
     let mut prefixes = copy_prefixes(alloc, row.prefixes())?;
     prefixes.push((beneath(alloc, alias, &[])?, None))?;

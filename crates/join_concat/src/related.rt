@@ -23,7 +23,9 @@ pub fn related_rows<L: Ledger>(
     requires there { IsNavigation store.now.model nav }
     requires of { IsTrue (has_root_of store.now nav.of row.now) }
     ensures rows { (v : Navigation) → navigation_on store.now.model nav ≡ Some v → IfOk result (λ made. made.items ≡ (if v.many then meaning.related_rows store.now v row.now else [])) }
+    ensures each { IfOk result (λ made. steps.new ≡ steps.old + length made.items) }
     ensures steps { (v : Navigation) → navigation_on store.now.model nav ≡ Some v → steps.new ≤ steps.old + length (if v.many then meaning.related_rows store.now v row.now else []) }
+    ensures grown { steps.old ≤ steps.new }
 {
     let Some(entity) = row.root() else {
         return Ok(Vec::new(alloc));

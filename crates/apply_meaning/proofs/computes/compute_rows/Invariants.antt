@@ -11,4 +11,5 @@ invariant-loop-row g l =
     ≡ l.made.items ++ map (λ i. extended i (new_columns l.store (map named_of l.items) i)) (into_iter_items l.row-iterator))
     × IsTrue (all_of l.store (into_iter_items l.row-iterator))
     × IsTrue (all_free l.store (map named_of l.items) (into_iter_items l.row-iterator))
-    × (l.steps + length (into_iter_items l.row-iterator) ≤ l.fn.steps + length l.fn.rows.items)
+    × (l.steps + length (into_iter_items l.row-iterator) ≡ l.fn.steps + length l.fn.rows.items)
+    × (l.fn.steps ≤ l.steps)
