@@ -82,3 +82,5 @@ IfOk-part (Ok n) told name at buf rest some most h =
 IfOk-part (Err e) told name at buf rest some most h = tt
 
 pub ruleset fronts = (IsFront-nil, IsFront-more, front-full, front-ended, KeepsFiles-more, KeepsFiles-same, has_file)
+
+pub ruleset folders = (KeepsFiles-more, KeepsFiles-same)

@@ -94,6 +94,7 @@ fn load_model<F: Folder>(
 }
 
 /// Reads the data file and judges it over the model.
+#[tactic(auto, using(crate::proofs::Fronts::folders))]
 fn load_data<F: Folder>(
     alloc: Global,
     folder: &mut F,
@@ -104,6 +105,8 @@ fn load_data<F: Folder>(
 ) -> Result<Data, DataStop>
     requires limit { limit ≡ data_limit }
     requires room { 0 < length buffer.old }
+    ensures keeps { KeepsFiles (F.files folder.old) (F.files folder.new) }
+    ensures steady_still { F.is_steady folder.old → F.is_steady folder.new }
     ensures later { F.fault_count folder.old ≤ F.fault_count folder.new }
     ensures ok { IfOk result (MakesWorld (F.files folder.old) name.now model) }
     ensures model { IfOk result (λ d. d.model ≡ model) }
@@ -130,6 +133,7 @@ fn load_data<F: Folder>(
 
 /// Reads the two files, the model file first, whose custom aggregates are judged before the data file is read. A cyclic
 /// hierarchy refuses no file.
+#[tactic(auto, using(crate::proofs::Fronts::folders))]
 pub fn load<F: Folder>(
     alloc: Global,
     folder: &mut F,
@@ -137,6 +141,9 @@ pub fn load<F: Folder>(
     buffer: &mut [u8],
 ) -> Result<Store, LoadStop>
     requires { 0 < length buffer.old }
+    ensures keeps { KeepsFiles (F.files folder.old) (F.files folder.new) }
+    ensures steady_still { F.is_steady folder.old → F.is_steady folder.new }
+    ensures later { F.fault_count folder.old ≤ F.fault_count folder.new }
     ensures ok { IfOk result (λ s. FilesMake (F.files folder.old) (record { model = names.entry.model.now; entities = names.entry.entities.now }) (Loaded s.world (readings s.customs))) }
     ensures stop { IfErr result (LoadStopSays (F.files folder.old) (record { model = names.entry.model.now; entities = names.entry.entities.now })) }
     ensures fault { IsErrOf result LoadStop.Fault → Rose (F.fault_count folder.old) (F.fault_count folder.new) }

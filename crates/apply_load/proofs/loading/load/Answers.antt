@@ -1,4 +1,5 @@
 use Rattle.std.proofs.Common.{None, Err, ap}
+use Rattle.apply_load.proofs.Fronts.{KeepsFiles-more}
 use Rattle.apply_load.proofs.FilesRead.{FilesMake-refused_model, FilesMake-refused_custom, FilesMake-no_data, FilesMake-refused_data, FilesMake-world}
 use Rattle.apply_load.proofs.loading.load.Goals as goal
 
@@ -21,3 +22,6 @@ returns-in-Err-Refused-load_data-clause-stop g c =
 pub returns-in-Ok-hier_states-clause-ok : goal.returns-in-Ok-hier_states-clause-ok
 returns-in-Ok-hier_states-clause-ok g c =
     rw c.new.ensures (FilesMake-world _ _ _ _ _ c.in-Ok.ensures.keeps c.in-Ok.ensures.ok c.in-Ok-load_customs.ensures.all _ c.in-Ok-load_data.ensures.ok)
+
+pub returns-in-Ok-hier_states-clause-keeps : goal.returns-in-Ok-hier_states-clause-keeps
+returns-in-Ok-hier_states-clause-keeps g c = KeepsFiles-more _ _ _ c.in-Ok.ensures.keeps c.load_data.ensures.keeps
