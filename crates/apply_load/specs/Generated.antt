@@ -1,7 +1,7 @@
 -- The generated world, with the readings of the sample model's custom aggregates.
 use Rattle.std.specs.Prelude.{◌≡◌, ℕ}
 use Rattle.edm_data.specs.Worlds.{World}
-use Rattle.edm_data.specs.Generator.{generated_world}
+use Rattle.sample_data.specs.Generator.{generated_world}
 use Rattle.context_typing.specs.Typing.{Customs}
 use Rattle.apply_load.specs.CustomReadings.{AreCustoms}
 

@@ -3,7 +3,7 @@ use Rattle.std.specs.Prelude.{◌≡◌, ℕ, ◌+◌, ◌≤◌, ◌⊎◌, Lis
 use Rattle.std.specs.Io.KnownBytes.{Appends, IsAtEnd}
 use Rattle.apply_io.specs.Causes.{Rose}
 use Rattle.edm_data.specs.Worlds.{World}
-use Rattle.edm_data.specs.Generator.{generated_world}
+use Rattle.sample_data.specs.Generator.{generated_world}
 use Rattle.context_typing.specs.Typing.{Customs}
 use Rattle.line_stream.specs.Lines.{request_lines, ended_lines}
 use Rattle.line_stream.specs.Outputs.{WritesFront}

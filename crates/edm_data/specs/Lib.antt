@@ -7,7 +7,6 @@ pub mod Columns
 pub mod DataFile
 pub mod FirstItems
 pub mod Fitting
-pub mod Generator
 pub mod Hierarchies
 pub mod KeptOrders
 pub mod KeptValues

@@ -3,9 +3,9 @@ pub use Rattle.edm_model.specs.IdLists
 pub use Rattle.edm_model.specs.LookUps
 pub use Rattle.edm_data.specs.Hierarchies
 pub use Rattle.edm_data.specs.Nodes
+pub use Rattle.apply_ast.specs.NamedHierarchies
 pub use Rattle.apply_ast.specs.Trees
 pub use Rattle.apply_ast.specs.Views
 pub use Rattle.context_typing.specs.Typing
 pub use Rattle.hier_index.specs.Parents
-pub mod NamedHierarchies
 pub mod States

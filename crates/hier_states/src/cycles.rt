@@ -7,7 +7,7 @@ ghost use Rattle.edm_data.specs.Hierarchies.{cycle_node};
 ghost use Rattle.edm_data.specs.References.{count};
 ghost use Rattle.edm_data.specs.Worlds.{entity_at};
 ghost use Rattle.hier_index.specs.Parents.{hierarchy_parents};
-ghost use Rattle.hier_states.specs.NamedHierarchies.{hierarchies, inner_hierarchies, branch_hierarchies, key_hierarchies, keys_hierarchies, step_hierarchies};
+ghost use Rattle.apply_ast.specs.NamedHierarchies.{hierarchies, inner_hierarchies, branch_hierarchies, key_hierarchies, keys_hierarchies, step_hierarchies};
 ghost use Rattle.hier_states.specs.States as spec;
 ghost use Rattle.hier_states.specs.States.{AreStates, IsReadyAt};
 

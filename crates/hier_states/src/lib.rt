@@ -15,7 +15,7 @@
 //! It promises that each hierarchy has the state of the definition, in the order of the model; that `first_cycle` answers the
 //! node of the first cyclic hierarchy that is named, in the order of the text, which is an entity of the model's set; and that
 //! where it answers none, each hierarchy that is named is ready, so that `nodes_at` takes of it the index of the parents of its
-//! nodes (`specs/States`, `specs/NamedHierarchies`).
+//! nodes (`specs/States`, and `specs/NamedHierarchies` of `apply_ast`).
 #![tactic(auto)]
 
 mod cycles;

@@ -15,7 +15,7 @@ use Rattle.edm_model.specs.JsonTrees.{object_of}
 use Rattle.edm_model.specs.LookUps.{properties_of}
 use Rattle.edm_model.specs.SampleModel.{sample_model}
 use Rattle.edm_data.specs.DataFile.{written, entity_of}
-use Rattle.edm_data.specs.Generator.{customer, customer_tree, org, org_name, org_tree, amount, sale, sale_tree, customer_name, buyer, seller}
+use Rattle.sample_data.specs.Generator.{customer, customer_tree, org, org_name, org_tree, amount, sale, sale_tree, customer_name, buyer, seller}
 
 pub customer_read : (j : ℕ) → entity_of (properties_of sample_model 0) (customer_tree j) ≡ Some (customer j)
 customer_read j = refl

@@ -14,7 +14,7 @@ use Rattle.edm_values.specs.Literals.{decimal_text, padded_decimal, with_point}
 use Rattle.edm_values.proofs.EachLemmas.{Each}
 use Rattle.edm_values.proofs.TopPlaces.{length-places, places-below}
 use Rattle.edm_model.specs.JsonTrees.{object_of, array_of}
-use Rattle.edm_data.specs.Generator.{customer_count, org_count, drawn, amount, buyer, seller, country, customer_name, org_name, customer_tree, org_tree, sale_tree, generated_tree}
+use Rattle.sample_data.specs.Generator.{customer_count, org_count, drawn, amount, buyer, seller, country, customer_name, org_name, customer_tree, org_tree, sale_tree, generated_tree}
 
 -- ---- texts
 

@@ -6,7 +6,7 @@ use Rattle.serde_json.specs.Read.{read, max_depth}
 use Rattle.serde_json.specs.Written.{compact_text, has_float}
 use Rattle.edm_model.specs.SampleModel.{sample_model}
 use Rattle.edm_data.specs.DataFile.{World', data_limit, data_reading, entities_in_tree, keys_reading, references_reading, with_world}
-use Rattle.edm_data.specs.Generator.{generated_tree, generated_world}
+use Rattle.sample_data.specs.Generator.{generated_tree, generated_world}
 use Rattle.edm_data.proofs.LoadLemmas.{with_tree}
 use Rattle.sample_data.proofs.FileLengths.{file_most}
 use Rattle.sample_data.proofs.GeneratedTree.{generated_depth, generated_is_read, generated_whole}

@@ -12,7 +12,7 @@ use Rattle.edm_model.specs.JsonTrees.{item_list, object_of, array_of}
 use Rattle.edm_model.specs.LookUps.{properties_of}
 use Rattle.edm_model.specs.SampleModel.{sample_model}
 use Rattle.edm_data.specs.DataFile.{World', Shape, unless_found, with_world, entity_of, is_no_entity, rows_reading, entities_in_tree, keys_reading, references_reading, data_tree_reading}
-use Rattle.edm_data.specs.Generator.{customer_count, org_count, drawn, amount, buyer, seller, customer, customer_tree, org, org_name, org_tree, sale, sale_tree, generated_tree, generated_world}
+use Rattle.sample_data.specs.Generator.{customer_count, org_count, drawn, amount, buyer, seller, customer, customer_tree, org, org_name, org_tree, sale, sale_tree, generated_tree, generated_world}
 use Rattle.edm_data.proofs.FirstPlaces.{size_at, find-all_places_none}
 use Rattle.sample_data.proofs.PlaceLists.{made_same}
 use Rattle.sample_data.proofs.EntityTrees.{customer_read, org_read, sale_read}

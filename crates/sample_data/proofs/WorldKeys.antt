@@ -12,7 +12,7 @@ use Rattle.edm_model.proofs.Mapped.{map_mapped}
 use Rattle.edm_model.specs.SampleModel.{sample_model}
 use Rattle.edm_data.specs.Worlds.{World}
 use Rattle.edm_data.specs.DataFile.{World', TwiceKey, unless_found, has_earlier_key, keys_reading}
-use Rattle.edm_data.specs.Generator.{customer, customer_name, org, org_name}
+use Rattle.sample_data.specs.Generator.{customer, customer_name, org, org_name}
 use Rattle.edm_data.proofs.FirstPlaces.{size_at, find-all_places_none}
 use Rattle.sample_data.proofs.PlaceLists.{made_length, made_at, made_front, none_made}
 

@@ -9,7 +9,7 @@ use Rattle.edm_values.specs.OrderLaws.{same_value_itself}
 use Rattle.edm_model.proofs.Mapped.{map_mapped}
 use Rattle.edm_data.specs.Worlds.{entity_at}
 use Rattle.edm_data.specs.DataFile.{World', Dangling, unless_found, is_dangling, references_reading}
-use Rattle.edm_data.specs.Generator.{customer, customer_name, org, org_name}
+use Rattle.sample_data.specs.Generator.{customer, customer_name, org, org_name}
 use Rattle.edm_data.proofs.FirstPlaces.{size_at, find-all_places_none}
 use Rattle.sample_data.proofs.PlaceLists.{made_length, made_at, found_made}
 use Rattle.sample_data.proofs.WorldKeys.{sale_row, world_of_sales}

@@ -1,4 +1,4 @@
 pub use Rattle.edm_model.specs.ModelFile
 pub use Rattle.edm_model.specs.SampleModel
 pub use Rattle.edm_data.specs.DataFile
-pub use Rattle.edm_data.specs.Generator
+pub mod Generator

@@ -1,6 +1,6 @@
 //! The numbers that sales are drawn from: a linear congruential sequence from 0.
 ghost use Rattle.std.specs.Prelude.{◌≡◌, ◌<◌, ◌+◌, ◌^◌, ℕ};
-ghost use Rattle.edm_data.specs.Generator.{drawn};
+ghost use Rattle.sample_data.specs.Generator.{drawn};
 
 const MULTIPLIER: u64 = 1_103_515_245;
 

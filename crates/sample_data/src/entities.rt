@@ -2,7 +2,7 @@
 ghost use Rattle.std.specs.Prelude.{◌≡◌, ◌<◌, ◌≤◌, IfOk, pos, string_bytes};
 ghost use Rattle.serde_json.specs.View.{view};
 ghost use Rattle.edm_values.specs.Literals.{decimal_text};
-ghost use Rattle.edm_data.specs.Generator as spec;
+ghost use Rattle.sample_data.specs.Generator as spec;
 
 use edm_values::{Dec, Seen, print_value};
 use serde_json::{Value, json};

@@ -4,7 +4,7 @@ ghost use Rattle.serde_json.specs.View.{view};
 ghost use Rattle.edm_values.specs.Lists.{places};
 ghost use Rattle.edm_model.specs.SampleModel.{sample_model};
 ghost use Rattle.edm_data.specs.DataFile.{data_reading, World'};
-ghost use Rattle.edm_data.specs.Generator as spec;
+ghost use Rattle.sample_data.specs.Generator as spec;
 
 use crate::draws::next_drawn;
 use crate::entities::{CUSTOMERS, customer, org, org_count, sale};

@@ -2,7 +2,7 @@ use Rattle.std.proofs.Common.{◌+◌, ◌∙◌, ap, sym, drop, map, option_map
 use Rattle.apply_ast.specs.Trees.{pipe}
 use Rattle.apply_ast.specs.Views.{inner_of, key_of, keys_from, keys_of, pipe_of, pipes_from, step_of}
 use Rattle.apply_ast.proofs.ViewEquations.{step_of-GroupBy}
-use Rattle.hier_states.specs.NamedHierarchies.{branch_hierarchies, hierarchies, inner_hierarchies, key_hierarchies, keys_hierarchies, step_hierarchies}
+use Rattle.apply_ast.specs.NamedHierarchies.{branch_hierarchies, hierarchies, inner_hierarchies, key_hierarchies, keys_hierarchies, step_hierarchies}
 use Rattle.hier_states.specs.States.{first_cycle}
 use Rattle.hier_states.proofs.CycleFacts.{cycle-here, cycle-later, next-branch, next-key, next-step}
 use Rattle.hier_states.proofs.cycles.+cycles.Goals as goal

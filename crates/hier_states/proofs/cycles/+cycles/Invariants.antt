@@ -1,7 +1,7 @@
 use Rattle.std.proofs.Common.{◌≡◌, drop, map}
 use Rattle.apply_ast.specs.Trees.{pipe}
 use Rattle.apply_ast.specs.Views.{key_of, keys_from, keys_of, pipe_of, pipes_from, pipes_of, step_of}
-use Rattle.hier_states.specs.NamedHierarchies.{branch_hierarchies, hierarchies, keys_hierarchies}
+use Rattle.apply_ast.specs.NamedHierarchies.{branch_hierarchies, hierarchies, keys_hierarchies}
 use Rattle.hier_states.specs.States.{first_cycle}
 use Rattle.hier_states.proofs.cycles.+cycles.Given as goal
 

@@ -1,7 +1,7 @@
 use Rattle.std.proofs.Common.{sym, ◌∙◌, subst}
 use Rattle.apply_ast.specs.Views.{pipe_of}
 use Rattle.edm_model.specs.Soundness.{IsSound}
-use Rattle.hier_states.specs.NamedHierarchies.{hierarchies}
+use Rattle.apply_ast.specs.NamedHierarchies.{hierarchies}
 use Rattle.hier_states.proofs.StateFacts.{all-ready, cycles-there}
 use Rattle.hier_states.proofs.cycles.first_cycle.Goals as goal
 

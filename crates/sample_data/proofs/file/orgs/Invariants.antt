@@ -1,7 +1,7 @@
 use Rattle.std.proofs.Common.{◌≡◌, map}
 use Rattle.serde_json.specs.View.{view}
 use Rattle.edm_values.specs.Lists.{places}
-use Rattle.edm_data.specs.Generator.{org_tree}
+use Rattle.sample_data.specs.Generator.{org_tree}
 use Rattle.sample_data.proofs.file.orgs.Given as goal
 
 abbrev pub invariant-loop-j : goal.invariant-loop-j
