@@ -5,8 +5,8 @@ use Rattle.std.specs.Str.Parse.{digits_value_after}
 use Rattle.std.proofs.lemmas.List.{append-nil}
 use Rattle.std.specs.Char.{digit_value, is_ascii_digit}
 use Rattle.std.specs.List.{list_all}
+use Rattle.edm_values.proofs.DigitLaws.{value_front}
 use Rattle.apply_grammar.specs.Reading.{run, after, value_behind}
-use Rattle.apply_grammar.proofs.Values.{value_grows, value_append}
 use Rattle.apply_grammar.proofs.Runs.{stops, run_front, run_is, and_parts}
 
 stop_at : (p : ℕ → Bool) (t : List ℕ) (i : ℕ) → i < length t → p (get_or t i 0) ≡ false → stops p (drop i t) ≡ true
@@ -64,11 +64,6 @@ value_step n (b ∷ t) (suc i) h =
     let e : suc i + 1 ≡ suc (i + 1) = omega arith in
     rw e (value_step (n * 10 + digit_value b) t i (omega arith))
 
-pub value_take : (n : ℕ) (t : List ℕ) (i : ℕ) → digits_value_after 10 n (take i t) ≤ digits_value_after 10 n t
-value_take n t i =
-    let e : digits_value_after 10 n t ≡ digits_value_after 10 (digits_value_after 10 n (take i t)) (drop i t) = ap (digits_value_after 10 n) (sym (take-append-drop i t)) ∙ value_append n (take i t) (drop i t) in
-    omega (arith, e, value_grows (digits_value_after 10 n (take i t)) (drop i t))
-
 -- one more digit
 pub value_digit : (n : ℕ) (t : List ℕ) (i : ℕ) → list_all is_ascii_digit t ≡ true → i < length t → digits_value_after 10 n (take (i + 1) t) ≡ digits_value_after 10 n (take i t) * 10 + (get_or t i 0 - 48)
 value_digit n t i h k =
@@ -79,7 +74,7 @@ value_digit n t i h k =
 pub value_past : (most n : ℕ) (t : List ℕ) (i v : ℕ) → list_all is_ascii_digit t ≡ true → i < length t → v ≡ digits_value_after 10 n (take i t) → most < v * 10 + (get_or t i 0 - 48) → None ≡ value_behind most n t
 unfolding value_behind
 value_past most n t i v h k e g =
-    let l : most < digits_value_after 10 n t = omega (arith, value_take n t (i + 1), value_digit n t i h k) in
+    let l : most < digits_value_after 10 n t = omega (arith, value_front n t (i + 1), value_digit n t i h k) in
     rw (lt-leb (digits_value_after 10 n t) most l) refl
 
 pub value_done : (most n : ℕ) (t : List ℕ) (i : ℕ) → length t ≤ i → digits_value_after 10 n (take i t) ≤ most → Some (digits_value_after 10 n (take i t)) ≡ value_behind most n t

@@ -5,13 +5,14 @@ use Rattle.std.specs.List.{list_all}
 use Rattle.std.proofs.lemmas.List.{length-append}
 use Rattle.edm_values.specs.Lists.{same_text}
 use Rattle.edm_values.specs.Names.{goes_on_name, is_name}
+use Rattle.edm_values.proofs.SameTexts.{same_texts, text-self}
 use Rattle.apply_ast.specs.Trees.{Expr, Named, OrderItem}
 use Rattle.apply_ast.specs.Grammar.{is_blank, bws, rws, word, ◌·◌, comma, name_text, as_text, direction_text}
 use Rattle.apply_grammar.specs.Limits.{operations, Bounds}
 use Rattle.apply_grammar.specs.Reading.{◌>>=◌, run, after, blanks_at, comma_at, word_behind, between_blanks, binop_of, name_at, expr_at, primary, parens}
 use Rattle.apply_grammar.specs.PipeReading.{small_at, as_at, with_at, named_at, direction_at, item_at}
 use Rattle.apply_grammar.proofs.Nested.{SmallExpr, named_text, item_text}
-use Rattle.apply_grammar.proofs.Runs.{same_is, same_refl, bind_then, branch_then, guard_then, some_is, Front, then_front, map_front, word_front, run_is, blanks_is, blanks_front, blanks_none, skip_front, stops, solid, solid_on, solid_stops, recut}
+use Rattle.apply_grammar.proofs.Runs.{bind_then, branch_then, guard_then, some_is, Front, then_front, map_front, word_front, run_is, blanks_is, blanks_front, blanks_none, skip_front, stops, solid, solid_on, solid_stops, recut}
 use Rattle.apply_grammar.proofs.Lists.{Items}
 use Rattle.apply_grammar.proofs.Leaves.{ends, bws_ends, ends_go, comma_is, comma_front, name_is, name_front, first_name, op_none, rws_ends, rws_stop, word_run}
 use Rattle.apply_grammar.proofs.ExprFound.{climb_is, prim_is}
@@ -43,11 +44,11 @@ pub behind_is : (w t : List ℕ) {r : List ℕ} → word_behind w t ≡ Some r �
 unfolding word_behind
 behind_is w t h =
     guard_then (same_text (run goes_on_name t).0 w) (run goes_on_name t).1 h (λ e k.
-    subst (λ r. Front (word w) t r) k (record { front = (run goes_on_name t).0; of = same_is _ _ e; cut = (run_is goes_on_name t).cut }))
+    subst (λ r. Front (word w) t r) k (record { front = (run goes_on_name t).0; of = same_texts _ _ e; cut = (run_is goes_on_name t).cut }))
 
 pub behind_front : (w r : List ℕ) → list_all goes_on_name w ≡ true → stops goes_on_name r ≡ true → word_behind w (w ++ r) ≡ Some r
 unfolding word_behind
-behind_front w r h s = rw (word_run w r h s, same_refl w) refl
+behind_front w r h s = rw (word_run w r h s, text-self w) refl
 
 -- another word comes first
 pub behind_other : (w v r : List ℕ) → list_all goes_on_name v ≡ true → stops goes_on_name r ≡ true → same_text v w ≡ false → word_behind w (v ++ r) ≡ None

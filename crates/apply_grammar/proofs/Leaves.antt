@@ -1,14 +1,13 @@
 -- Operators, names, paths and literals: what is read is in front, and what is in front is read.
 use Rattle.std.proofs.Common.{◌≡◌, ℕ, ◌<◌, ◌≤◌, ◌==◌, nat_le, Bool, true, false, not, ◌&&◌, ◌||◌, cond, List, [], ◌∷◌, ◌++◌, length, Some, None, refl, sym, ap, subst, ◌∙◌, append_assoc, arith, eqb-true, ◌⊎◌, inl, inr}
 use Rattle.std.proofs.Math.Dec.{leb-zero}
-use Rattle.std.proofs.lemmas.Bool.{le-leb, leb-true, cases_lt, and_from, or_left}
+use Rattle.std.proofs.lemmas.Bool.{le-leb, leb-true, cases_lt, and_from, or_left, false_from_ne_true}
 use Rattle.std.specs.Str.Parse.{digits_value_after}
 use Rattle.std.specs.Prelude.{codes, slice_index, ℤ, pos, Bool, if◌then◌else◌}
 use Rattle.std.specs.List.{list_all, flat_map}
 use Rattle.std.specs.Int.{is_in_range}
 use Rattle.std.specs.Char.{is_ascii_digit}
 use Rattle.apply_grammar.specs.Limits.{Bounds}
-use Rattle.apply_grammar.proofs.Values.{value_append, value_grows}
 use Rattle.apply_grammar.proofs.ByteLoops.{digit_is}
 use Rattle.std.proofs.lemmas.Int.Digits.{digits_value-lt}
 use Rattle.std.specs.Str.Parse.{digits_value, AllDigits}
@@ -17,6 +16,8 @@ use Rattle.edm_values.specs.Lists.{same_text}
 use Rattle.edm_values.specs.Names.{goes_on_name, begins_name, is_name, is_reserved}
 use Rattle.edm_values.specs.Values.{integer_max}
 use Rattle.edm_values.specs.Parts.{mantissa_max, scale_max, is_day}
+use Rattle.edm_values.proofs.SameTexts.{same_texts}
+use Rattle.edm_values.proofs.DigitLaws.{value_append, value_grows}
 use Rattle.apply_ast.specs.declared.expressions.UnOp.{UnOp}
 use Rattle.apply_ast.specs.declared.expressions.BinOp.{BinOp}
 use Rattle.apply_ast.specs.declared.expressions.Fun1.{Fun1}
@@ -27,14 +28,10 @@ use Rattle.apply_ast.specs.Grammar.{Language, is_blank, bws, rws, word, ◌·◌
 use Rattle.apply_grammar.specs.Reading.{◌>>=◌, run, skip_blanks, blanks_at, after, open_at, close_at, comma_at, with_word, binop_of, op_at, not_at, sign_at, name_at, path_at, value_behind, digits_at, decimal_at, two_digits_at, date_at, number_behind, quote_at, text_at, fun1_of, fun2_of, word_at, atom_at, is_literal}
 use Rattle.apply_grammar.proofs.Nested.{Digits, IntText, Fraction, DecText, Wide, DateText}
 use Rattle.apply_grammar.proofs.Lists.{Items, list_is, list_front}
-use Rattle.apply_grammar.proofs.Runs.{and_parts, not_true, same_is, bind_then, branch_then, cond_then, guard_then, some_is, is_none, none_some, recut, solid_on, stops, solid, solid_stops, run_front, run_is, Front, then_front, map_front, word_front, skip_is, skip_stops, skip_front, blanks_front, blanks_is, blanks_none, after_is, after_front}
+use Rattle.apply_grammar.proofs.Runs.{and_parts, not_true, bind_then, branch_then, cond_then, guard_then, some_is, is_none, none_some, recut, solid_on, stops, solid, solid_stops, run_front, run_is, Front, then_front, map_front, word_front, skip_is, skip_stops, skip_front, blanks_front, blanks_is, blanks_none, after_is, after_front}
 
 pub false_true : false ≡ true → ⊥
 false_true e = absurd cc
-
-pub bool_false : (c : Bool) → (c ≡ true → ⊥) → c ≡ false
-bool_false true k = absurd (k refl)
-bool_false false k = refl
 
 -- ---- what may follow an atom: the end, a blank, a comma or a closing parenthesis
 
@@ -123,7 +120,7 @@ comma_front w v r h k s = rw (skip_front w (44 ∷ (v ++ r)) h refl, after_front
 
 pub word_is : {A : Type 0} (f : A → List ℕ) (xs : List A) (w : List ℕ) {x : A} → with_word f xs w ≡ Some x → w ≡ f x
 word_is f [] w h = absurd cc
-word_is f (y ∷ ys) w h = cond_then (same_text w (f y)) (Some y) (with_word f ys w) h (λ e k. same_is w (f y) e ∙ ap f (some_is k)) (λ e k. word_is f ys w k)
+word_is f (y ∷ ys) w h = cond_then (same_text w (f y)) (Some y) (with_word f ys w) h (λ e k. same_texts w (f y) e ∙ ap f (some_is k)) (λ e k. word_is f ys w k)
 
 -- ---- operators
 
@@ -260,7 +257,7 @@ unfolding not_at
 not_is t h =
     cond_then (same_text (run goes_on_name t).0 (codes "not")) _ None h
     (λ e h. bind_then (blanks_at (run goes_on_name t).1) _ h (λ r f k.
-    let i : Front (word (codes "not")) t (run goes_on_name t).1 = record { front = (run goes_on_name t).0; of = same_is _ _ e; cut = (run_is goes_on_name t).cut } in
+    let i : Front (word (codes "not")) t (run goes_on_name t).1 = record { front = (run goes_on_name t).0; of = same_texts _ _ e; cut = (run_is goes_on_name t).cut } in
     subst (λ x. Front (sign_text x.0) t x.1 × (stops is_blank x.1 ≡ true)) (some_is k)
     (then_front i (blanks_is (run goes_on_name t).1 f).0, (blanks_is (run goes_on_name t).1 f).1)))
     (λ e h. absurd cc)
@@ -597,7 +594,7 @@ WordText _ = λ t. ⊥
 the_word : (w t : List ℕ) (e : Expr) → ((a : List ℕ) → a ≡ w → WordText e a) → same_text (run goes_on_name t).0 w ≡ true → {x : Expr × List ℕ} → Some (e, (run goes_on_name t).1) ≡ Some x → Front (WordText x.0) t x.1
 the_word w t e f h {x} k =
     subst (λ x. Front (WordText x.0) t x.1) (some_is k)
-    (record { front = (run goes_on_name t).0; of = f _ (same_is _ w h); cut = (run_is goes_on_name t).cut })
+    (record { front = (run goes_on_name t).0; of = f _ (same_texts _ w h); cut = (run_is goes_on_name t).cut })
 
 pub word_at_is : (t : List ℕ) {x : Expr × List ℕ} → word_at t ≡ Some x → Front (WordText x.0) t x.1
 unfolding word_at
@@ -615,7 +612,7 @@ leads p [] = false
 leads p (b ∷ t) = p b
 
 differs : (p : ℕ → Bool) (a b : ℕ) → p b ≡ true → p a ≡ false → (b == a) ≡ false
-differs p a b h k = bool_false (b == a) (λ e. false_true (sym (ap p (eqb-true b a e) ∙ k) ∙ h))
+differs p a b h k = false_from_ne_true (b == a) (λ e. false_true (sym (ap p (eqb-true b a e) ∙ k) ∙ h))
 
 pub leads_after : (p : ℕ → Bool) (a : ℕ) (t r : List ℕ) → leads p t ≡ true → p a ≡ false → after a (t ++ r) ≡ None
 unfolding after
@@ -628,7 +625,7 @@ leads_same p a w (b ∷ t) h k = rw (differs p a b h k) refl
 
 letter_no_digit : (b : ℕ) → begins_name b ≡ true → is_ascii_digit b ≡ false
 letter_no_digit b h =
-    bool_false (is_ascii_digit b) (λ e.
+    false_from_ne_true (is_ascii_digit b) (λ e.
     let d = and_parts (nat_le 48 b) (nat_le b 57) e in
     elim (or_cases ((nat_le 65 b && nat_le b 90) || (nat_le 97 b && nat_le b 122)) (b == 95) h) [
       | inl g ↦ elim (or_cases (nat_le 65 b && nat_le b 90) (nat_le 97 b && nat_le b 122) g) [
@@ -804,7 +801,7 @@ path_leads (n ∷ (m ∷ p)) a h = subst (λ l. leads begins_name l ≡ true) (s
 
 -- a name is no keyword
 no_keyword : (n w : List ℕ) → is_name n ≡ true → is_reserved w ≡ true → same_text n w ≡ false
-no_keyword n w h k = bool_false (same_text n w) (λ e. false_true (sym (name_parts n h).free ∙ ap is_reserved (same_is n w e) ∙ k))
+no_keyword n w h k = false_from_ne_true (same_text n w) (λ e. false_true (sym (name_parts n h).free ∙ ap is_reserved (same_texts n w e) ∙ k))
 
 path_word : (p : List (List ℕ)) (a r : List ℕ) → path_text p a → ends r ≡ true → (f : FirstName a r) → word_at (a ++ r) ≡ Some (Expr.Path' p, r)
 unfolding word_at

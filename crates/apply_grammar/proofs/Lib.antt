@@ -27,4 +27,3 @@ pub mod Runs
 pub mod SelectionLaws
 pub mod ShallowTexts
 pub mod StepViews
-pub mod Values

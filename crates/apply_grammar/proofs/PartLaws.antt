@@ -3,6 +3,7 @@ use Rattle.std.proofs.Common.{◌≡◌, ℕ, zero, suc, true, List, [], ◌∷�
 use Rattle.std.specs.Prelude.{codes}
 use Rattle.edm_values.specs.declared.Method.{Method}
 use Rattle.edm_values.specs.Names.{Path, goes_on_name, is_name}
+use Rattle.edm_values.proofs.SameTexts.{same_texts, text-self}
 use Rattle.apply_ast.specs.Trees.{Expr, AggItem, HierName}
 use Rattle.apply_ast.specs.Printing.{method_word}
 use Rattle.apply_ast.specs.Grammar.{Language, word, ◌·◌, comma, path_text, as_text, hier_text}
@@ -10,7 +11,7 @@ use Rattle.apply_grammar.specs.Limits.{Bounds}
 use Rattle.apply_grammar.specs.Reading.{◌>>=◌, run, after, open_at, comma_at, word_behind, binop_of, sign_at, not_at, name_at, list_at, path_at, digits_at, atom_at, word_at, signed, climb, primary, parens}
 use Rattle.apply_grammar.specs.PipeReading.{small_at, as_at, with_at, method_of, standard_at, custom_at, measure_at, count_name_at, agg_at, root_at, hier_at, node_at}
 use Rattle.apply_grammar.proofs.Nested.{SmallExpr, bare, agg_text}
-use Rattle.apply_grammar.proofs.Runs.{same_is, same_refl, bind_then, branch_then, some_is, is_none, none_some, Front, then_front, map_front, word_front, run_is, after_is, after_front, stops, solid, solid_on, solid_stops, recut}
+use Rattle.apply_grammar.proofs.Runs.{bind_then, branch_then, some_is, is_none, none_some, Front, then_front, map_front, word_front, run_is, after_is, after_front, stops, solid, solid_on, solid_stops, recut}
 use Rattle.apply_grammar.proofs.Lists.{Items}
 use Rattle.apply_grammar.proofs.Leaves.{ends, ends_go, IsWord, comma_is, name_is, name_front, path_is, path_front, first_name, rws_stop, word_run, word_is}
 use Rattle.apply_grammar.proofs.ExprAgain.{Follow}
@@ -68,7 +69,7 @@ custom_is limits d t h =
     (then_front (name_is t e).0 (map_front (λ b i. inl i) (as_is n.1 f (name_is s g).0)))))
     (λ f k.
     subst (λ x. Front (agg_text limits d x.0) t x.1) (some_is k)
-    (then_front (name_is t e).0 (map_front (λ b i. inr (same_refl n.0, i)) (word_front [] n.1 n.1 refl)))))
+    (then_front (name_is t e).0 (map_front (λ b i. inr (text-self n.0, i)) (word_front [] n.1 n.1 refl)))))
 
 count_name_is : (limits : Bounds) (d : ℕ) (t r : List ℕ) → t ≡ 36 ∷ r → {x : AggItem × List ℕ} → count_name_at r ≡ Some x → Front (agg_text limits d x.0) t x.1
 unfolding count_name_at
@@ -171,7 +172,7 @@ agg_front limits d (AggItem.Custom n m) a r h s =
       | inr g ↦
           ap (agg_at limits d) (recut h.left h.right r h.cut ∙ ap (λ l. l ++ (h.right ++ r)) (let i = h.first in i.1) ∙ ap (λ l. n ++ (l ++ r)) g.1)
           ∙ custom_front limits d n r (let i = h.first in i.0) s
-          ∙ ap (λ l. Some (AggItem.Custom n l, r)) (same_is n m g.0)
+          ∙ ap (λ l. Some (AggItem.Custom n l, r)) (same_texts n m g.0)
     ]
 
 pub agg_solid : (limits : Bounds) (d : ℕ) (x : AggItem) (a : List ℕ) → agg_text limits d x a → solid a ≡ true

@@ -4,6 +4,7 @@ use Rattle.std.specs.Prelude.{codes}
 use Rattle.edm_values.specs.Lists.{same_text}
 use Rattle.edm_values.specs.Names.{goes_on_name}
 use Rattle.edm_values.specs.Values.{integer_max}
+use Rattle.edm_values.proofs.SameTexts.{same_texts}
 use Rattle.apply_ast.specs.Trees.{HierName, Pipe, Step, Pipes, Key}
 use Rattle.apply_ast.specs.Views.{pipes_from, keys_from}
 use Rattle.apply_ast.specs.Printing.{join_word, climb_word}
@@ -16,7 +17,7 @@ use Rattle.apply_grammar.specs.declared.words.LimitKind.{LimitKind}
 use Rattle.apply_grammar.specs.Reading.{run, after, open_at, close_at, comma_at, list_at, path_at, count_at}
 use Rattle.apply_grammar.specs.PipeReading.{Seen, Counted, PipeReader, small_at, named_at, item_at, agg_at, top_at, traverse_at, rollup_at, node_at, alias_at, climb_end_at, more_at, some_at, inner_at, recursive_at, ended, closed, key_call_at, key_at, keys_at, groupby_at, branches_at, join_at, climb_at, selection_word, word_of, step_words, step_word_of, call_at, body_at, step_at, rest_at, steps_at, below, pipe_at}
 use Rattle.apply_grammar.proofs.Nested.{inside, SmallExpr, Digits, named_text, item_text, agg_text, traverse_text, Text, rest_text, inner_text, more_branches_text, branches_text, key_text, more_keys_text, keys_text, step_text}
-use Rattle.apply_grammar.proofs.Runs.{bind_then, branch_then, cond_then, guard_then, some_is, Front, then_front, map_front, word_front, run_is, same_is, after_is}
+use Rattle.apply_grammar.proofs.Runs.{bind_then, branch_then, cond_then, guard_then, some_is, Front, then_front, map_front, word_front, run_is, after_is}
 use Rattle.apply_grammar.proofs.Lists.{list_is}
 use Rattle.apply_grammar.proofs.Leaves.{Opened, open_is, close_is, comma_is, path_is, word_is}
 use Rattle.apply_grammar.proofs.ExprFound.{spend_then}
@@ -99,7 +100,7 @@ ended_is L count f d n w A whole s t read a o g k h =
     (record { front = map_front (k y.0) (then_front a (in_front o p.0 (close_is y.2 c))); enough = p.1 })))
 
 same_word : (w v : List ℕ) {t r : List ℕ} → same_text w v ≡ true → Front (word w) t r → Front (word v) t r
-same_word w v e f = map_front (λ a h. h ∙ same_is w v e) f
+same_word w v e f = map_front (λ a h. h ∙ same_texts w v e) f
 
 -- ---- inner pipelines
 
@@ -371,7 +372,7 @@ step_is limits d pipe i n t x h =
     cond_then (same_text (run goes_on_name t).0 (codes "identity")) _ _ h
     (λ e k.
     subst (λ x. Front (step_text limits x.0 d) t x.2 × (n ≡ suc (inner_count x.0) + x.1)) (some_is k)
-    (record { front = (run goes_on_name t).0; of = same_is _ _ e; cut = (run_is goes_on_name t).cut }, omega arith))
+    (record { front = (run goes_on_name t).0; of = same_texts _ _ e; cut = (run_is goes_on_name t).cut }, omega arith))
     (λ e h. body_is limits d pipe i m t (run goes_on_name t).0 (run goes_on_name t).1 n z (record { front = (run goes_on_name t).0; of = refl; cut = (run_is goes_on_name t).cut }) x h))
 
 pub rest_is : (limits : Bounds) (d : ℕ) (step : Counted Step) → StepIs limits d step → (f n : ℕ) (t : List ℕ) {x : Pipe × ℕ × List ℕ} → rest_at step f n t ≡ Some x → Front (rest_text limits x.0 d) t x.2 × (n ≡ step_count x.0 + x.1)

@@ -3,7 +3,6 @@ use Rattle.std.proofs.Common.{◌≡◌, ℕ, ◌+◌, ◌==◌, Bool, true, fal
 use Rattle.std.proofs.lemmas.Bool.{and_from}
 use Rattle.std.proofs.lemmas.List.{length-append}
 use Rattle.std.specs.List.{list_all}
-use Rattle.edm_values.specs.Lists.{same_text}
 use Rattle.apply_ast.specs.Grammar.{Language, is_blank, bws, rws, word, ◌·◌}
 use Rattle.apply_grammar.specs.Reading.{◌>>=◌, branch, run, skip_blanks, blanks_at, after}
 
@@ -17,20 +16,6 @@ and_parts false b h = absurd cc
 pub not_true : (a : Bool) → not a ≡ true → a ≡ false
 not_true true h = absurd cc
 not_true false h = refl
-
-pub same_is : (s t : List ℕ) → same_text s t ≡ true → s ≡ t
-same_is [] [] h = refl
-same_is [] (b ∷ t) h = absurd cc
-same_is (a ∷ s) [] h = absurd cc
-same_is (a ∷ s) (b ∷ t) h =
-    let p = and_parts (a == b) (same_text s t) h in
-    let x : a ≡ b = eqb-true a b p.0 in
-    let y : s ≡ t = same_is s t p.1 in
-    cc
-
-pub same_refl : (s : List ℕ) → same_text s s ≡ true
-same_refl [] = refl
-same_refl (a ∷ s) = and_from (a == a) (same_text s s) (eq-eqb a a refl) (same_refl s)
 
 -- what follows from a part that did not fail
 pub bind_then : {A B P : Type 0} (o : Option A) (f : A → Option B) {y : B} → (o >>= f) ≡ Some y → ((x : A) → o ≡ Some x → f x ≡ Some y → P) → P

@@ -290,5 +290,5 @@ pub fn read_expr(alloc: Global, text: &str) -> Result<Expr, ExprRefused>
 
 /// The law that a text has at most one expression: of any bytes, and without a limit. It does nothing when it runs.
 pub fn one_expression()
-    ensures { (t : List ℕ) (a b : trees.Expr) → expr_text a t → expr_text b t → a ≡ b }
+    ensures one { (t : List ℕ) (a b : trees.Expr) → expr_text a t → expr_text b t → a ≡ b }
 {}

@@ -307,7 +307,7 @@ fn limit_at(kind: LimitKind, text: &[u8]) -> Option<(Limit, &[u8])>
 
 /// A selection of this form.
 #[tactic(auto, unfolding(crate::specs::PipeReading::top_at))]
-pub(crate) fn read_top(
+pub(crate) fn read_top_step(
     alloc: Global,
     depth: u8,
     bottom: bool,

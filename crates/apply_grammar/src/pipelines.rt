@@ -16,7 +16,7 @@ use crate::bytes::{after, close_at, comma_at, open_at, same, word_behind, word_r
 use crate::expressions::OPEN_MAX;
 use crate::items::{
     climb_end_at, read_aggs, read_alias, read_named_list, read_node, read_order, read_small,
-    read_top, read_traverse,
+    read_top_step, read_traverse,
 };
 use crate::literals::{INTEGER_MAX, count_at};
 use crate::paths::{path_at, read_paths};
@@ -113,7 +113,7 @@ fn read_selection(
     ensures exact { Gives (λ x. (step_of x.0, x.1, x.2.now)) result (pipes.closed trees.Step.TopBy n (pipes.top_at served depth bottom kind text.now)) }
     ensures less { IfOk result (λ x. x.1 ≤ n) }
 {
-    let (x, rest) = read_top(alloc, depth, bottom, kind, text)?;
+    let (x, rest) = read_top_step(alloc, depth, bottom, kind, text)?;
     match close_at(rest) {
         Some(rest) => Ok((Step::TopBy(x), n, rest)),
         None => Err(ExprRefused::Syntax),

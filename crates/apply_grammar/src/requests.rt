@@ -112,5 +112,5 @@ pub fn read_request(alloc: Global, line: &[u8]) -> Result<Request, GrammarRefuse
 
 /// The law that a text has at most one pipeline: of any bytes, and without a limit. It does nothing when it runs.
 pub fn one_pipeline()
-    ensures { (t : List ℕ) (p q : trees.Pipe) → Text p t → Text q t → p ≡ q }
+    ensures one { (t : List ℕ) (p q : trees.Pipe) → Text p t → Text q t → p ≡ q }
 {}
