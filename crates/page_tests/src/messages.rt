@@ -125,10 +125,10 @@ fn a_model_file_past_its_limit_is_told_so(rt: HostRuntime) -> Result<(), Fail> {
 #[test]
 fn names_hold_nothing_that_a_terminal_obeys(rt: HostRuntime) -> Result<(), Fail> {
     let alloc = rt.alloc();
-    let name = "a\"\u{1b}[31m\u{9b}\u{202e}\n\\é";
+    let name = "a\"\u{1b}[31m\u{9b}\u{202e}\u{2800}\u{1d173}\u{e0041}\n\\é";
     let text = told(alloc, name, b"", Status::ModelRefused)?;
     let expected =
-        "apply_serve: model file \"a\\\"\\u001b[31m\\u009b\\u202e\\n\\\\é\": the file is empty";
+        "apply_serve: model file \"a\\\"\\u001b[31m\\u009b\\u202e\\u2800\\ud834\\udd73\\udb40\\udc41\\n\\\\é\": the file is empty";
     assert_eq!(rt; text.as_str(), expected);
     Ok(())
 }

@@ -1,10 +1,21 @@
 -- What is written for a text, character by character.
-use Rattle.std.proofs.Common.{◌≡◌, ℕ, List, [], ◌++◌, zero, suc, ◌+◌, ◌-◌, ◌<◌, ◌≤◌, nat_lt, Option, None, Some, MatchOption, is_some, arith, length, take, flat_map, chars, encode_utf8, encode_utf8_all, IsUtf8, refl, ap, ◌∙◌}
+use Rattle.std.proofs.Common.{◌≡◌, ℕ, List, [], ◌++◌, zero, suc, ◌+◌, ◌-◌, ◌/◌, ◌%◌, ◌<◌, ◌≤◌, false, true, nat_lt, Option, None, Some, MatchOption, is_some, arith, length, take, flat_map, chars, encode_utf8, encode_utf8_all, IsUtf8, refl, ap, ◌∙◌}
+use Rattle.std.proofs.lemmas.Bool.Decides.{nat_tests}
 use Rattle.std.proofs.lemmas.Str.{chars-nil, encodes-append, chars_past_char}
 use Rattle.std.proofs.lemmas.List.{nil_from_length}
+use Rattle.quoted_text.specs.Quoted.{by_number, unit_number}
 
 pub no_chars : (rest : List ℕ) → length rest ≡ 0 → chars rest ≡ []
 no_chars rest none = ap chars (nil_from_length rest none) ∙ chars-nil
+
+-- a character of one unit, and one of two
+pub one_unit : (c : ℕ) → c < 0x1_0000 → by_number c ≡ unit_number c
+unfolding by_number
+one_unit c small = let below : nat_lt c 0x1_0000 ≡ true = grind (arith, nat_tests) in rw below refl
+
+pub two_units : (c : ℕ) → 0x1_0000 ≤ c → by_number c ≡ unit_number (0xD800 + (c - 0x1_0000) / 0x400) ++ unit_number (0xDC00 + (c - 0x1_0000) % 0x400)
+unfolding by_number
+two_units c large = let past : nat_lt c 0x1_0000 ≡ false = grind (arith, nat_tests) in rw past refl
 
 -- what is written for no character
 pub none_written : (f : ℕ → List ℕ) (rest : List ℕ) → length rest ≡ 0 → encode_utf8_all (flat_map f (chars rest)) ≡ []

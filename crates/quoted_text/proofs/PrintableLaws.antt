@@ -1,5 +1,5 @@
 -- No unprintable character is left in what is shown.
-use Rattle.std.proofs.Common.{◌≡◌, ℕ, ◌/◌, ◌%◌, ◌<◌, ◌≤◌, Bool, false, true, ◌||◌, List, [], ◌∷◌, ◌++◌, Option, None, Some, if◌then◌else◌, unwrap_or, option_map, append_assoc, codes, nat_lt, length, take, flat_map, chars, encode_utf8_all, IsUtf8, IsAscii, refl, true≢false, ap, sym, subst, ◌∙◌, arith}
+use Rattle.std.proofs.Common.{◌≡◌, ℕ, ◌+◌, ◌-◌, ◌/◌, ◌%◌, ◌<◌, ◌≤◌, Bool, false, true, ◌||◌, List, [], ◌∷◌, ◌++◌, Option, None, Some, if◌then◌else◌, unwrap_or, option_map, append_assoc, codes, nat_lt, length, take, flat_map, chars, encode_utf8_all, IsUtf8, IsAscii, refl, true≢false, ap, sym, subst, ◌∙◌, arith}
 use Rattle.std.proofs.lemmas.Bool.{and_parts}
 use Rattle.std.proofs.lemmas.Str.{chars_from_encodes, encodes-append, encodes-IsAscii, encodes-chars, chars-append, chars-IsAscii, IsUtf8-from_ascii}
 use Rattle.std.proofs.lemmas.Str.Ascii.{IsAscii-nil, IsAscii-cons}
@@ -7,7 +7,7 @@ use Rattle.std.specs.Int.{is_in_range}
 use Rattle.std.proofs.lemmas.List.Folds.{list_any-append}
 use Rattle.std.specs.List.{list_all, list_any}
 use Rattle.std.specs.Char.{digit_char, is_control}
-use Rattle.quoted_text.specs.Quoted.{by_number, escape, is_unprintable, escape_all, IsPrintable, is_printable_ascii, letter_of, quote, quote_front, show, show_all, unprintable_rows}
+use Rattle.quoted_text.specs.Quoted.{by_number, escape, is_unprintable, escape_all, IsPrintable, is_printable_ascii, letter_of, quote, quote_front, show, show_all, unit_number, unprintable_rows}
 
 -- rows that begin above ASCII have none of its characters
 not_between : (first last c : ℕ) → nat_lt 126 first ≡ true → c ≤ 126 → is_in_range first last c ≡ false
@@ -32,9 +32,20 @@ digit_shown d below = (grind arith, grind arith)
 digit_printable : (n : ℕ) → is_unprintable (digit_char (n % 16)) ≡ false
 digit_printable n = let shown = digit_shown (n % 16) (omega arith) in ascii_printable (digit_char (n % 16)) shown.0 shown.1
 
+unit_printable : (u : ℕ) → list_any is_unprintable (unit_number u) ≡ false
+unfolding unit_number
+unit_printable u = rw (digit_printable (u / 4096), digit_printable (u / 256), digit_printable (u / 16), digit_printable u) refl
+
+units_printable : (u v : ℕ) → list_any is_unprintable (unit_number u ++ unit_number v) ≡ false
+units_printable u v = list_any-append is_unprintable (unit_number u) (unit_number v) ∙ rw (unit_printable u) (unit_printable v)
+
+number_by : (u v w : ℕ) (b : Bool) → list_any is_unprintable (if b then unit_number u else unit_number v ++ unit_number w) ≡ false
+number_by u v w true = unit_printable u
+number_by u v w false = units_printable v w
+
 number_printable : (c : ℕ) → list_any is_unprintable (by_number c) ≡ false
 unfolding by_number
-number_printable c = rw (digit_printable (c / 4096), digit_printable (c / 256), digit_printable (c / 16), digit_printable c) refl
+number_printable c = number_by c (0xD800 + (c - 0x1_0000) / 0x400) (0xDC00 + (c - 0x1_0000) % 0x400) (nat_lt c 0x1_0000)
 
 show_by : (c : ℕ) (b : Bool) → is_unprintable c ≡ b → list_any is_unprintable (if b then by_number c else c ∷ []) ≡ false
 show_by c true e = number_printable c

@@ -1,5 +1,5 @@
 -- Texts of others as they are shown: which characters stand there by their numbers, and what a JSON string of a text is.
-use Rattle.std.specs.Prelude.{◌≡◌, ℕ, ◌/◌, ◌%◌, Bool, false, ◌||◌, List, [], ◌∷◌, ◌++◌, nat_lt, ◌==◌, if◌then◌else◌, codes, chars, flat_map, take, length, encode_utf8_all, Option, Some, None, option_map, unwrap_or}
+use Rattle.std.specs.Prelude.{◌≡◌, ℕ, ◌+◌, ◌-◌, ◌/◌, ◌%◌, Bool, false, ◌||◌, List, [], ◌∷◌, ◌++◌, nat_lt, ◌==◌, if◌then◌else◌, codes, chars, flat_map, take, length, encode_utf8_all, Option, Some, None, option_map, unwrap_or}
 use Rattle.std.specs.List.{list_all, list_any}
 use Rattle.std.specs.Char.{digit_char, is_control}
 use Rattle.std.specs.Int.{is_in_range}
@@ -8,16 +8,21 @@ use Rattle.std.specs.Int.{is_in_range}
 -- other than ASCII's, ends of lines and paragraphs, marks of the direction of writing, and characters that show nothing
 abbrev pub unprintable_rows : List (ℕ × ℕ)
 unprintable_rows =
-    (0xA0, 0xA0) ∷ (0xAD, 0xAD) ∷ (0x34F, 0x34F) ∷ (0x61C, 0x61C) ∷ (0x115F, 0x1160) ∷ (0x1680, 0x1680) ∷ (0x180B, 0x180F) ∷ (0x2000, 0x200F) ∷ (0x2028, 0x202F)
-    ∷ (0x205F, 0x206F) ∷ (0x3000, 0x3000) ∷ (0x3164, 0x3164) ∷ (0xFE00, 0xFE0F) ∷ (0xFEFF, 0xFEFF) ∷ (0xFFA0, 0xFFA0) ∷ (0xFFF0, 0xFFFB) ∷ []
+    (0xA0, 0xA0) ∷ (0xAD, 0xAD) ∷ (0x34F, 0x34F) ∷ (0x61C, 0x61C) ∷ (0x115F, 0x1160) ∷ (0x1680, 0x1680) ∷ (0x17B4, 0x17B5) ∷ (0x180B, 0x180F)
+    ∷ (0x2000, 0x200F) ∷ (0x2028, 0x202F) ∷ (0x205F, 0x206F) ∷ (0x2800, 0x2800) ∷ (0x3000, 0x3000) ∷ (0x3164, 0x3164) ∷ (0xFE00, 0xFE0F) ∷ (0xFEFF, 0xFEFF)
+    ∷ (0xFFA0, 0xFFA0) ∷ (0xFFF0, 0xFFFB) ∷ (0x1BCA0, 0x1BCA3) ∷ (0x1D173, 0x1D17A) ∷ (0xE0001, 0xE0001) ∷ (0xE0020, 0xE007F) ∷ (0xE0100, 0xE01EF) ∷ []
 
 -- a character that is shown by its number
 abbrev pub is_unprintable : ℕ → Bool
 is_unprintable c = is_control c || list_any (λ r. is_in_range r.0 r.1 c) unprintable_rows
 
--- a character by its number in four digits of base sixteen
+-- a unit of UTF-16 by its number in four digits of base sixteen
+unfoldable pub unit_number : ℕ → List ℕ
+unit_number u = codes "\\u" ++ digit_char (u / 4096 % 16) ∷ digit_char (u / 256 % 16) ∷ digit_char (u / 16 % 16) ∷ digit_char (u % 16) ∷ []
+
+-- a character by the number of its unit in UTF-16, or past 0xFFFF by those of both, as a JSON string has it (RFC 8259, section 7)
 unfoldable pub by_number : ℕ → List ℕ
-by_number c = codes "\\u" ++ digit_char (c / 4096 % 16) ∷ digit_char (c / 256 % 16) ∷ digit_char (c / 16 % 16) ∷ digit_char (c % 16) ∷ []
+by_number c = if nat_lt c 0x1_0000 then unit_number c else unit_number (0xD800 + (c - 0x1_0000) / 0x400) ++ unit_number (0xDC00 + (c - 0x1_0000) % 0x400)
 
 -- the characters that are shown for one
 unfoldable pub show : ℕ → List ℕ

@@ -11,29 +11,36 @@ ghost use Rattle.std.specs.Prelude.{◌≡◌, ◌%◌, ◌++◌, [], ◌∷◌,
 ghost use Rattle.std.specs.Char.{digit_char};
 ghost use Rattle.std.specs.Int.{is_in_range};
 ghost use Rattle.std.specs.List.{list_any};
-ghost use Rattle.quoted_text.specs.Quoted.{IsPrintable, by_number, escape, escape_all, is_unprintable, letter_of, quote, quote_front, show, show_all};
+ghost use Rattle.quoted_text.specs.Quoted.{IsPrintable, by_number, escape, escape_all, is_unprintable, letter_of, quote, quote_front, show, show_all, unit_number};
 
 use std::alloc::{AllocError, Global};
 
 /// The characters besides control characters that are shown by their numbers, from the first to the last of each row: blanks
 /// other than ASCII's, ends of lines and paragraphs, marks of the direction of writing, and characters that show nothing.
-const UNPRINTABLE: [(char, char); 16] = [
+const UNPRINTABLE: [(char, char); 23] = [
     ('\u{a0}', '\u{a0}'),
     ('\u{ad}', '\u{ad}'),
     ('\u{34f}', '\u{34f}'),
     ('\u{61c}', '\u{61c}'),
     ('\u{115f}', '\u{1160}'),
     ('\u{1680}', '\u{1680}'),
+    ('\u{17b4}', '\u{17b5}'),
     ('\u{180b}', '\u{180f}'),
     ('\u{2000}', '\u{200f}'),
     ('\u{2028}', '\u{202f}'),
     ('\u{205f}', '\u{206f}'),
+    ('\u{2800}', '\u{2800}'),
     ('\u{3000}', '\u{3000}'),
     ('\u{3164}', '\u{3164}'),
     ('\u{fe00}', '\u{fe0f}'),
     ('\u{feff}', '\u{feff}'),
     ('\u{ffa0}', '\u{ffa0}'),
     ('\u{fff0}', '\u{fffb}'),
+    ('\u{1bca0}', '\u{1bca3}'),
+    ('\u{1d173}', '\u{1d17a}'),
+    ('\u{e0001}', '\u{e0001}'),
+    ('\u{e0020}', '\u{e007f}'),
+    ('\u{e0100}', '\u{e01ef}'),
 ];
 
 /// Whether a character is among those from the first to the last.
@@ -74,17 +81,29 @@ fn push(c: char, out: &mut String) -> Result<(), AllocError>
     out.push(c)
 }
 
-/// Appends a character by its number.
+/// Appends a unit of UTF-16 by its number.
+fn push_unit(unit: u32, out: &mut String) -> Result<(), AllocError>
+    ensures { OnOk result (string_bytes out.new ≡ string_bytes out.old ++ encode_utf8_all (unit_number unit)) }
+{
+    push('\\', out)?;
+    push('u', out)?;
+    push(last_digit(unit / 4096), out)?;
+    push(last_digit(unit / 256), out)?;
+    push(last_digit(unit / 16), out)?;
+    push(last_digit(unit), out)
+}
+
+/// Appends a character by the number of its unit in UTF-16, or by those of both.
 fn push_number(c: char, out: &mut String) -> Result<(), AllocError>
     ensures { OnOk result (string_bytes out.new ≡ string_bytes out.old ++ encode_utf8_all (by_number c)) }
 {
     let n = c as u32;
-    push('\\', out)?;
-    push('u', out)?;
-    push(last_digit(n / 4096), out)?;
-    push(last_digit(n / 256), out)?;
-    push(last_digit(n / 16), out)?;
-    push(last_digit(n), out)
+    if n < 0x1_0000 {
+        return push_unit(n, out);
+    }
+    let over = n - 0x1_0000;
+    push_unit(0xD800 + over / 0x400, out)?;
+    push_unit(0xDC00 + over % 0x400, out)
 }
 
 /// Appends a character, by its number where it is unprintable.
