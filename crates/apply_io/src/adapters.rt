@@ -1,17 +1,69 @@
 //! The trusted edge: objects over standard input, standard output and the files of the disk. A file, a terminal or a pipe
-//! tells no content.
-ghost use Rattle.std.specs.Prelude.{◌≡◌, ℕ, ◌+◌, ◌-◌, ◌^◌, ◌<◌, List, None, length, min, Ok, Err, IfOk, IfSome, IsSome, IsSomeAnd, IsOk, MatchResult, option_map};
+//! tells no content. What a signal interrupts is done again, so that it is no fault.
+ghost use Rattle.std.specs.Prelude.{◌≡◌, ◌≢◌, ◌↔◌, ℕ, ◌+◌, ◌-◌, ◌^◌, ◌<◌, List, None, length, min, Ok, Err, IfErr, IfOk, IfSome, IsSome, IsSomeAnd, IsOk, IsTrue, MatchResult, option_map};
 ghost use Rattle.std.specs.Io.{ReadsAtMost, WritesAtMost};
-ghost use Rattle.std.specs.Io.KnownBytes.{ReadConsumes, WriteAppends};
+ghost use Rattle.std.specs.Io.KnownBytes.{Keeps, ReadConsumes, WriteAppends};
+ghost use Rattle.std.specs.IoError.{error_kind};
 ghost use Rattle.apply_io.specs.Causes.{HasCause, CountsFault};
 ghost use Rattle.apply_io.specs.Files.{KeepsFiles, ReadsFile, told_content};
 ghost use Rattle.apply_io.specs.Adapters.{PassesOn, kept_name};
 
 use super::{Failed, Folder, Sink, Source};
 use arrayvec::ArrayString;
-use std::io::{Read, Seek, SeekFrom, Write};
+use std::io::{ErrorKind, Read, Seek, SeekFrom, Write};
 use std::rt::Files as HostFiles;
 use std::{fs, io};
+
+/// Whether a signal interrupted the call.
+fn is_interrupted(error: &io::Error) -> bool
+    ensures { IsTrue result ↔ (error_kind error.now ≡ ErrorKind.Interrupted) }
+{
+    error.kind() == ErrorKind::Interrupted
+}
+
+/// Reads. A read that a signal interrupts is done again, up to 2^64 - 1 times.
+fn read_again<R: Read>(reader: &mut R, buf: &mut [u8]) -> io::Result<usize>
+    ensures bound { ReadsAtMost result buf.new }
+    ensures bytes { ReadConsumes (R.remaining reader.old) (R.remaining reader.new) result buf.new }
+    ensures again { IfErr result (λ e. error_kind e ≢ ErrorKind.Interrupted) }
+{
+    'tries: for _ in 0..u64::MAX {
+        match reader.read(buf) {
+            Err(e) if is_interrupted(&e) => {}
+            done => return done,
+        }
+    }
+    Err(io::Error::from(ErrorKind::TimedOut))
+}
+
+/// Writes. A write that a signal interrupts is done again, up to 2^64 - 1 times.
+fn write_again<W: Write>(writer: &mut W, piece: &[u8]) -> io::Result<usize>
+    ensures bound { WritesAtMost result piece.now }
+    ensures bytes { WriteAppends (W.contents writer.old) (W.contents writer.new) result piece.now }
+    ensures again { IfErr result (λ e. error_kind e ≢ ErrorKind.Interrupted) }
+{
+    'tries: for _ in 0..u64::MAX {
+        match writer.write(piece) {
+            Err(e) if is_interrupted(&e) => {}
+            done => return done,
+        }
+    }
+    Err(io::Error::from(ErrorKind::TimedOut))
+}
+
+/// Flushes. A flush that a signal interrupts is done again, up to 2^64 - 1 times.
+fn flush_again<W: Write>(writer: &mut W) -> io::Result<()>
+    ensures bytes { Keeps (W.contents writer.old) (W.contents writer.new) }
+    ensures again { IfErr result (λ e. error_kind e ≢ ErrorKind.Interrupted) }
+{
+    'tries: for _ in 0..u64::MAX {
+        match writer.flush() {
+            Err(e) if is_interrupted(&e) => {}
+            done => return done,
+        }
+    }
+    Err(io::Error::from(ErrorKind::TimedOut))
+}
 
 /// A source over a reader, as standard input. It raises its count at each error, want of memory below it included.
 #[derive(Drop)]
@@ -49,7 +101,7 @@ impl<R: Read + Drop> Source for StdSource<R> {
         if buf.is_empty() {
             return Ok(0);
         }
-        match self.inner.read(buf) {
+        match read_again(&mut self.inner, buf) {
             Ok(count) => Ok(count),
             Err(_) => {
                 self.faults = self.faults.saturating_add(1);
@@ -115,8 +167,8 @@ fn write_through<W: Write>(writer: &mut W, piece: &[u8]) -> io::Result<usize>
     ensures bound { WritesAtMost result piece.now }
     ensures bytes { PassesOn (W.contents writer.old) (W.contents writer.new) result piece.now }
 {
-    let count = writer.write(piece)?;
-    writer.flush()?;
+    let count = write_again(writer, piece)?;
+    flush_again(writer)?;
     Ok(count)
 }
 
@@ -146,7 +198,7 @@ impl<F: Read + Seek + Drop> OpenFile<F> {
         if at != self.at {
             self.file.seek(SeekFrom::Start(at))?;
         }
-        let count = self.file.read(buf)?;
+        let count = read_again(&mut self.file, buf)?;
         self.at = at.saturating_add(count as u64);
         Ok(count)
     }

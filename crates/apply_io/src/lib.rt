@@ -7,9 +7,10 @@
 //!
 //! The crate stands on `std`, on `thiserror` for its error, and on `arrayvec` for the names that a folder keeps.
 //! `MemSource`, `MemSink` and `MemFolder` are objects in memory that fail in the calls that they are told to, for tests.
-//! `StdSource`, `StdSink` and `DiskFolder` are the trusted edge, which only the program's `main` makes. The crate promises
-//! that every object meets its trait and that those in memory do exactly what their contracts say. Of the calls over
-//! objects in memory only `MemSink::new` takes memory; a source or a sink over std takes what its reader or writer takes.
+//! `StdSource`, `StdSink` and `DiskFolder` are the trusted edge, which only the program's `main` makes. A read or a write of
+//! theirs that a signal interrupts is done again. The crate promises that every object meets its trait and that those in
+//! memory do exactly what their contracts say. Of the calls over objects in memory only `MemSink::new` takes memory; a source
+//! or a sink over std takes what its reader or writer takes.
 #![tactic(auto)]
 
 ghost use Rattle.std.specs.Prelude.{◌≡◌, ◌≢◌, ℕ, ◌+◌, ◌-◌, ◌^◌, ◌<◌, ◌≤◌, ◌↔◌, List, [], length, min, take, drop, Contains, OnErr, OnOk, IfOk, IsOk, IsErr, IsSome, Ok, Some, vec_len, vec_capacity};

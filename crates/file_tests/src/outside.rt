@@ -41,6 +41,40 @@ impl Read for BrokenReader {
     }
 }
 
+/// A reader and a writer of single bytes whose first calls a signal interrupts.
+#[derive(Drop)]
+struct Interrupted {
+    interruptions: u32,
+}
+
+impl Interrupted {
+    fn pass(&mut self) -> io::Result<()> {
+        if self.interruptions > 0 {
+            self.interruptions -= 1;
+            return Err(io::Error::from(io::ErrorKind::Interrupted));
+        }
+        Ok(())
+    }
+}
+
+impl Read for Interrupted {
+    fn read(&mut self, buf: &mut [u8]) -> io::Result<usize> {
+        self.pass()?;
+        Ok(buf.len().min(1))
+    }
+}
+
+impl Write for Interrupted {
+    fn write(&mut self, piece: &[u8]) -> io::Result<usize> {
+        self.pass()?;
+        Ok(piece.len().min(1))
+    }
+
+    fn flush(&mut self) -> io::Result<()> {
+        self.pass()
+    }
+}
+
 #[test]
 fn a_source_in_memory_gives_its_bytes_and_fails_where_told(rt: HostRuntime) -> Result<(), Fail> {
     let alloc = rt.alloc();
@@ -121,6 +155,18 @@ fn a_source_over_a_reader_that_fails_counts_its_faults(rt: HostRuntime) -> Resul
     assert_eq!(rt; source.read(&mut buf), Err(Failed));
     assert_eq!(rt; source.read(&mut buf), Err(Failed));
     assert_eq!(rt; source.faults(), 2);
+    Ok(())
+}
+
+#[test]
+fn what_a_signal_interrupts_is_done_again(rt: HostRuntime) -> Result<(), Fail> {
+    let mut source = StdSource::new(Interrupted { interruptions: 3 });
+    let mut buf = [0u8; 2];
+    assert_eq!(rt; source.read(&mut buf), Ok(1));
+    assert_eq!(rt; source.faults(), 0);
+    let mut sink = StdSink::new(Interrupted { interruptions: 3 });
+    assert_eq!(rt; sink.write(b"ab"), Ok(1));
+    assert_eq!(rt; sink.faults(), 0);
     Ok(())
 }
 
