@@ -17,7 +17,7 @@ use Rattle.apply_meaning.specs.Instances.{extended, Instance, fits, rows, no_ins
 use Rattle.apply_meaning.specs.Meaning.{Outcome, mean, step_mean, inner_mean, branch_means, key_shown, keys_shown, grouped, group, keys, same_keys, key_list, keyed, joined, groups_by, node_groups, grouping_mean, level_paths, related_rows, bound_to, refused_at_beyond, climbed, shown_of, at_or_below}
 use Rattle.edm_data.specs.Nodes.{identifier}
 use Rattle.rewrite_rules.specs.Rewrites.{Rule, IsRewrite, pipe_results, inner_results, branch_results, key_results, keys_results, step_results}
-use Rattle.hier_states.specs.NamedHierarchies.{hierarchies, inner_hierarchies, branch_hierarchies, key_hierarchies, keys_hierarchies, step_hierarchies}
+use Rattle.apply_ast.specs.NamedHierarchies.{hierarchies, inner_hierarchies, branch_hierarchies, key_hierarchies, keys_hierarchies, step_hierarchies}
 use Rattle.apply_meaning.specs.MeaningLaws.{AllFit, MeanFits, NodesFit, RelatedFit}
 use Rattle.context_typing.specs.TypingLaws.{TypingKeepsLawful}
 use Rattle.rewrite_rules.specs.RewriteLaws.{SameMeaning, KeepsMeaningInPlace}

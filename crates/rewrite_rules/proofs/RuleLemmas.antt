@@ -22,7 +22,7 @@ use Rattle.context_typing.specs.TypingLaws.{TypingKeepsLawful}
 use Rattle.apply_meaning.specs.Instances.{Instance, val, fits}
 use Rattle.apply_meaning.specs.Meaning.{mean, step_mean, values}
 use Rattle.apply_meaning.specs.MeaningLaws.{AllFit, MeanFits, SureIsNotBeyond, NodesFit, RelatedFit}
-use Rattle.hier_states.specs.NamedHierarchies.{hierarchies, step_hierarchies}
+use Rattle.apply_ast.specs.NamedHierarchies.{hierarchies, step_hierarchies}
 use Rattle.rewrite_rules.specs.Rewrites.{FilterRun, runs, movable, behind, passing}
 use Rattle.rewrite_rules.specs.RewriteLaws.{SameMeaning}
 use Rattle.rewrite_rules.proofs.FilterRuns.{IsRunOf, runs-each, found-each, chains_agree}

@@ -3,7 +3,7 @@ use Rattle.std.specs.Prelude.{◌≡◌, ℕ, suc, Bool, false, ◌||◌, IsTrue
 use Rattle.edm_model.specs.Models.{Model}
 use Rattle.edm_data.specs.Worlds.{World}
 use Rattle.apply_ast.specs.Trees.{HierName, Pipe, Step, pipe, is_long}
-use Rattle.hier_states.specs.NamedHierarchies.{hierarchies}
+use Rattle.apply_ast.specs.NamedHierarchies.{hierarchies}
 use Rattle.context_typing.specs.Shapes.{Shape}
 use Rattle.context_typing.specs.Typing.{Customs, Types, steps_shape, is_lawful, customs_typed}
 use Rattle.apply_meaning.specs.Instances.{Instance}
