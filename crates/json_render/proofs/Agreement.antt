@@ -1,13 +1,6 @@
 -- Rows that agree place by place have one pattern.
-use Rattle.std.proofs.Common.{◌≡◌, ℕ, zero, suc, ◌+◌, ◌<◌, true, List, [], ◌∷◌, length, map, take, get_or, refl, sym, ◌∙◌, ap, arith, add-one}
-use Rattle.edm_values.specs.Names.{Path}
-use Rattle.edm_values.proofs.SameTexts.{same_lists, same_texts}
-use Rattle.edm_values.specs.Lists.{first_or, same_text}
-use Rattle.context_typing.specs.Paths.{same_path}
-
--- paths of the same names are one
-pub same_paths : (p q : Path) → same_path p q ≡ true → p ≡ q
-same_paths p q e = same_lists same_text same_texts p q e
+use Rattle.std.proofs.Common.{◌≡◌, ℕ, zero, suc, ◌+◌, ◌<◌, List, [], ◌∷◌, length, map, take, get_or, refl, sym, ◌∙◌, ap, arith, add-one}
+use Rattle.edm_values.specs.Lists.{first_or}
 
 -- an element is the same whatever stands for one that is not there
 pub same_element : {X : Type 0} (xs : List X) (k : ℕ) (d e : X) → k < length xs → get_or xs k d ≡ get_or xs k e

@@ -1,5 +1,5 @@
 -- Parts in byte order of names, group by group.
-use Rattle.std.proofs.Common.{◌≡◌, ℕ, zero, suc, ◌+◌, Bool, true, false, cond, not, ◌&&◌, List, [], ◌∷◌, ◌++◌, map, filter, flat_map, take, drop, refl, sym, ◌∙◌, ap, inl, inr}
+use Rattle.std.proofs.Common.{◌≡◌, ℕ, zero, suc, Bool, true, false, cond, not, ◌&&◌, List, [], ◌∷◌, ◌++◌, map, filter, flat_map, take, drop, refl, sym, ◌∙◌, ap, inl, inr}
 use Rattle.std.specs.Prelude.{◌⊎◌}
 use Rattle.std.specs.Cmp.{IsStrictWeakOrder, unsigned_tied}
 use Rattle.std.specs.Cmp.Lexicographic.{slice_cmp}
@@ -11,13 +11,14 @@ use Rattle.std.proofs.lemmas.Bool.{cases_Bool, eqb-true, true≢false}
 use Rattle.std.proofs.lemmas.Cmp.{nat_list_cmp_total}
 use Rattle.std.proofs.lemmas.List.Sorted.{ranks_by}
 use Rattle.edm_values.specs.Names.{Name}
-use Rattle.edm_values.specs.Lists.{distinct, in_byte_order, same_text, sorted, text_before}
+use Rattle.edm_values.specs.Lists.{distinct, in_byte_order, same_text, text_before}
 use Rattle.edm_values.proofs.EachLemmas.{Each, each-filter, each-map}
 use Rattle.edm_values.proofs.Reorderings.{Reorders, TestsEquality, distinct-reorders, reorders-map}
 use Rattle.edm_values.proofs.SameTexts.{same_texts, text-self}
 use Rattle.edm_values.proofs.SortedLists.{Ascends, filter-sorted, reorders-sorted, sorted-ascends, sorted-reorders, sorted-unique}
 use Rattle.json_render.specs.Places.{NamedPart, name_before, run_of, first_run, sorted_parts}
 use Rattle.json_render.proofs.SortedEntries.{names_ranked}
+use Rattle.json_render.proofs.Depths.{flat-same}
 
 -- ---- names
 
@@ -239,10 +240,6 @@ order-sorted es =
     sorted-reorders text_before texts_ranked tied_texts (distinct-reorders same_text text_equality (reorders-map (λ (e : NamedPart). e.name) (reorders-sorted name_before names_ranked es)))
     ∙ sorted-unique text_before texts_ranked (distinct same_text (names_in (sorted_parts es))) (distinct same_text (names_in (sorted_parts es)))
     (ascends-distinct (names_in (sorted_parts es)) (names-ascend (sorted_parts es) (sorted-ascends name_before names_ranked es))) (λ t. refl)
-
-flat-same : {A M : Type 0} (f g : A → List M) → ((a : A) → f a ≡ g a) → (xs : List A) → flat_map f xs ≡ flat_map g xs
-flat-same f g h [] = refl
-flat-same f g h (x ∷ xs) = λ i. h x i ++ flat-same f g h xs i
 
 -- what is made of each name in byte order and its parts is what is made of the groups of the sorted parts
 pub groups-sorted : {M : Type 0} (F : Name → List NamedPart → List M) (es : List NamedPart) → flat_map (λ n. F n (named n es)) (in_byte_order (names_in es)) ≡ groups F (sorted_parts es)

@@ -1,5 +1,5 @@
 -- One entry more of those that a loop goes over.
-use Rattle.std.proofs.Common.{◌≡◌, ℕ, zero, suc, ◌+◌, ◌<◌, List, [], ◌∷◌, ◌++◌, Option, Some, None, length, map, take, drop, get_or, refl, sym, ◌∙◌, ap, arith, add-one}
+use Rattle.std.proofs.Common.{◌≡◌, ℕ, zero, suc, ◌+◌, ◌<◌, List, [], ◌∷◌, ◌++◌, Option, Some, None, length, map, take, get_or, refl, sym, ◌∙◌, ap, arith, add-one}
 use Rattle.std.specs.Prelude.{filter_map}
 use Rattle.std.specs.List.{cons_option}
 use Rattle.std.proofs.lemmas.List.{append-nil, map-append}
@@ -11,7 +11,7 @@ abbrev pub listed : {X : Type 0} → Option X → List X
 listed None = []
 listed (Some x) = x ∷ []
 
-cons-append : {X : Type 0} (o : Option X) (xs ys : List X) → cons_option o (xs ++ ys) ≡ cons_option o xs ++ ys
+pub cons-append : {X : Type 0} (o : Option X) (xs ys : List X) → cons_option o (xs ++ ys) ≡ cons_option o xs ++ ys
 cons-append None xs ys = refl
 cons-append (Some x) xs ys = refl
 
@@ -35,14 +35,3 @@ pub skipped_next : (old es : List Entry) (k : ℕ) (e : Entry) → k < length es
     → named_parts old ≡ next_parts (named_parts (take k es)) → named_parts old ≡ next_parts (named_parts (take (k + 1) es))
 skipped_next old es k e h i s r =
     rw (add-one k) (r ∙ sym (append-nil (next_parts (named_parts (take k es)))) ∙ ap (λ o. next_parts (named_parts (take k es)) ++ listed o) (sym s) ∙ sym (filter_map-more seen next_part es k e h i))
-
--- ---- what a loop over entries has before it
-
-named-drop : (es : List Entry) (k : ℕ) (e : Entry) → k < length es → e ≡ get_or es k e → named_parts (drop k es) ≡ seen e ∷ named_parts (drop (suc k) es)
-named-drop [] k e h i = absurd (omega arith)
-named-drop (x ∷ es) zero e h i = ap (λ y. seen y ∷ named_parts es) (sym i)
-named-drop (x ∷ es) (suc k) e h i = named-drop es k e (omega arith) i
-
--- the entry, and those behind it
-pub named-step : (es : List Entry) (k : ℕ) (e : Entry) → k < length es → e ≡ get_or es k e → named_parts (drop k es) ≡ seen e ∷ named_parts (drop (k + 1) es)
-named-step es k e h i = rw (add-one k) (named-drop es k e h i)

@@ -6,14 +6,14 @@ use Rattle.std.proofs.lemmas.Bool.{and_parts, and_right, false≢true}
 use Rattle.std.proofs.lemmas.List.{map-append}
 use Rattle.edm_values.specs.Lists.{in_byte_order, same_text}
 use Rattle.edm_values.specs.Names.{Name, Path}
-use Rattle.edm_values.proofs.Reorderings.{Reorders, reorders-itself}
+use Rattle.edm_values.proofs.Reorderings.{Reorders}
 use Rattle.json_render.specs.Bodies.{first_names, going_on, is_empty, is_here, paths_under}
-use Rattle.json_render.specs.ItemTexts.{column_paths, column_rest, ends_column, first_items, group_items, items_here, place_items, prefix_paths, prefix_rest, segment_items}
+use Rattle.json_render.specs.ItemTexts.{column_paths, column_rest, ends_column, group_items, items_here, place_items, prefix_paths, prefix_rest, segment_items}
 use Rattle.json_render.specs.Places.{NamedPart, goes_inside, inside_of, named_parts, next_parts, part_inside, part_on, seen}
 use Rattle.json_render.specs.declared.entries.Entry.{Entry}
 use Rattle.json_render.specs.declared.entries.Part.{Part}
 use Rattle.json_render.proofs.Depths.{flat-same}
-use Rattle.json_render.proofs.PlaceMembers.{filter_map-joined}
+use Rattle.json_render.proofs.PlaceMembers.{filter_map-joined, to-front}
 use Rattle.json_render.proofs.RowParts.{taken-more}
 use Rattle.json_render.proofs.ItemDepths.{name_items, one-level, star}
 use Rattle.json_render.proofs.Grouping.{named, names_in, order-reorders}
@@ -101,10 +101,6 @@ end-columns n (e ∷ es) = end-column n e.part e.rest es (end-columns n es)
 
 -- ---- the names
 
-to-front : (ms : List Name) (n : Name) (ns : List Name) → Reorders (ms ++ n ∷ ns) (n ∷ (ms ++ ns))
-to-front [] n ns = reorders-itself (n ∷ ns)
-to-front (m ∷ ms) n ns = Reorders.join (Reorders.keep m (to-front ms n ns)) (Reorders.swap m n (ms ++ ns))
-
 part-names : (p : Part) (rest : Path) (es : List NamedPart) → Reorders (flat_map first_names (prefix_paths es) ++ flat_map first_names (column_paths es)) (names_in (next_parts es))
     → Reorders (flat_map first_names (cons_option (prefix_rest p rest) (prefix_paths es)) ++ flat_map first_names (cons_option (column_rest p rest) (column_paths es))) (names_in (cons_option (part_on p rest) (next_parts es)))
 part-names (Part.Prefix k) [] es h = h
@@ -141,11 +137,6 @@ something n rest (Part.Property k q) es h = absurd (false≢true h)
 pub inside-some : (es : List NamedPart) → list_all goes_inside es ≡ true → 0 < length es → (is_empty (prefix_paths es) && is_empty (column_paths es)) ≡ false
 inside-some [] h l = absurd (omega arith)
 inside-some (e ∷ es) h l = something e.name e.rest e.part es (and_parts (goes_inside e) (list_all goes_inside es) h).0
-
--- the items of a group have the name of its first part
-pub first-group : (es : List Entry) (e : Entry) → 0 < length es → e ≡ get_or es 0 e → first_items (named_parts es) ≡ group_items e.name.now (named_parts es)
-first-group [] e l g = absurd (omega arith)
-first-group (x ∷ es) e l g = ap (λ y. group_items y.name.now (named_parts (x ∷ es))) (sym g)
 
 -- ---- the parts of a shape
 

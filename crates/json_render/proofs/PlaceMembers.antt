@@ -1,5 +1,5 @@
 -- The members at a place are those of its parts, group by group.
-use Rattle.std.proofs.Common.{◌≡◌, ℕ, ◌+◌, Bool, true, false, cond, not, List, [], ◌∷◌, ◌++◌, Option, Some, None, map, filter, flat_map, refl, sym, ◌∙◌, ap, subst, append_assoc}
+use Rattle.std.proofs.Common.{◌≡◌, ℕ, Bool, true, false, cond, not, List, [], ◌∷◌, ◌++◌, Option, Some, None, map, filter, flat_map, refl, sym, ◌∙◌, ap, subst, append_assoc}
 use Rattle.std.specs.Prelude.{find, filter_map, option_and_then, option_map, unwrap_or, if◌then◌else◌}
 use Rattle.std.specs.List.{cons_option, enumerate_from}
 use Rattle.std.proofs.lemmas.List.{append-nil, map-append}
@@ -19,6 +19,7 @@ use Rattle.json_render.specs.RowTexts.{bound_at, column_in, column_seen, columns
 use Rattle.json_render.specs.declared.entries.Part.{Part}
 use Rattle.json_render.proofs.Depths.{flat-same, name_members, one-level, place_names}
 use Rattle.json_render.proofs.Grouping.{named, names_in, order-reorders}
+use Rattle.json_render.proofs.KeptEntries.{cons-append}
 
 -- ---- lists in two parts
 
@@ -30,13 +31,9 @@ filter-joined : {X : Type 0} (t : X → Bool) (xs ys : List X) → filter t (xs 
 filter-joined t [] ys = refl
 filter-joined t (x ∷ xs) ys = passed-joined (t x) x (filter t (xs ++ ys)) (filter t xs) (filter t ys) (filter-joined t xs ys)
 
-cons-joined : {X : Type 0} (o : Option X) (xs ys : List X) → cons_option o (xs ++ ys) ≡ cons_option o xs ++ ys
-cons-joined None xs ys = refl
-cons-joined (Some x) xs ys = refl
-
 pub filter_map-joined : {X Y : Type 0} (f : X → Option Y) (xs ys : List X) → filter_map f (xs ++ ys) ≡ filter_map f xs ++ filter_map f ys
 filter_map-joined f [] ys = refl
-filter_map-joined f (x ∷ xs) ys = ap (cons_option (f x)) (filter_map-joined f xs ys) ∙ cons-joined (f x) (filter_map f xs) (filter_map f ys)
+filter_map-joined f (x ∷ xs) ys = ap (cons_option (f x)) (filter_map-joined f xs ys) ∙ cons-append (f x) (filter_map f xs) (filter_map f ys)
 
 -- ---- what stands under a name
 
@@ -196,7 +193,7 @@ property-matches w i es =
 
 -- ---- the names
 
-to-front : (ms : List Name) (n : Name) (ns : List Name) → Reorders (ms ++ n ∷ ns) (n ∷ (ms ++ ns))
+pub to-front : (ms : List Name) (n : Name) (ns : List Name) → Reorders (ms ++ n ∷ ns) (n ∷ (ms ++ ns))
 to-front [] n ns = reorders-itself (n ∷ ns)
 to-front (m ∷ ms) n ns = Reorders.join (Reorders.keep m (to-front ms n ns)) (Reorders.swap m n (ms ++ ns))
 

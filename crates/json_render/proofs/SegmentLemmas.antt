@@ -26,9 +26,6 @@ pub inside-some : (i : Instance) (es : List NamedPart) → list_all goes_inside 
 inside-some i [] h l = absurd (omega arith)
 inside-some i (e ∷ es) h l = something i e.name e.rest e.part es (and_parts (goes_inside e) (list_all goes_inside es) h).0
 
-pub segment-null : (n : Name) (ps : List (Path × _)) (cs : List (Path × Shown)) (ms : List Member) → (is_empty ps && is_empty cs) ≡ false → (is_bound_to_none ps && is_empty cs) ≡ true → segment n ps cs ms ≡ (n, null) ∷ []
-segment-null n ps cs ms h g = (λ i. cond (h i) [] ((n, cond (g i) null (object_of ms)) ∷ []))
-
 pub segment-object : (n : Name) (ps : List (Path × _)) (cs : List (Path × Shown)) (ms : List Member) → (is_empty ps && is_empty cs) ≡ false → (is_bound_to_none ps && is_empty cs) ≡ false → segment n ps cs ms ≡ (n, object_of ms) ∷ []
 segment-object n ps cs ms h g = (λ i. cond (h i) [] ((n, cond (g i) null (object_of ms)) ∷ []))
 

@@ -1,5 +1,5 @@
 -- What stands in the slots of rows: their prefixes with the root before them, and values in range.
-use Rattle.std.proofs.Common.{◌≡◌, ℕ, zero, suc, ◌-◌, ◌<◌, ◌≤◌, Bool, true, false, List, [], ◌∷◌, Option, Some, None, length, refl, sym, ◌∙◌, ap, arith, get_or, inl, inr}
+use Rattle.std.proofs.Common.{◌≡◌, ℕ, zero, suc, ◌<◌, ◌≤◌, true, false, List, [], ◌∷◌, Option, Some, None, length, refl, sym, ◌∙◌, ap, arith, get_or, inl, inr}
 use Rattle.std.specs.Prelude.{◌⊎◌, slice_get, option_and_then, option_map, unwrap_or, is_some, IsTrue}
 use Rattle.std.specs.Bool.{IsFalse}
 use Rattle.std.specs.List.{list_any}
@@ -36,17 +36,6 @@ Prefix = Path × Option Entity
 -- the first prefix is the root, where there is one
 pub bound-root : (i : Instance) (r : Option Entity) (ps : List Prefix) (e : Entity) → i.prefixes ≡ with_root r ps → r ≡ Some e → Some e ≡ bound_at i 0
 bound-root i r ps e h g = sym (ap (λ xs. option_and_then (λ (x : Prefix). x.1) (slice_get xs 0)) (h ∙ ap (λ o. with_root o ps) g))
-
--- and the others stand behind it
-pub bound-behind : (i : Instance) (r : Option Entity) (ps : List Prefix) (e : Entity) (k : ℕ) → i.prefixes ≡ with_root r ps → r ≡ Some e → 0 < k → option_and_then (λ (x : Prefix). x.1) (slice_get ps (k - 1)) ≡ bound_at i k
-bound-behind i r ps e zero h g p = absurd (omega arith)
-bound-behind i r ps e (suc k) h g p =
-    let same : suc k - 1 ≡ k = omega arith in
-    ap (λ n. option_and_then (λ (x : Prefix). x.1) (slice_get ps n)) same ∙ sym (ap (λ xs. option_and_then (λ (x : Prefix). x.1) (slice_get xs (suc k))) (h ∙ ap (λ o. with_root o ps) g))
-
--- without a root they stand alone
-pub bound-alone : (i : Instance) (r : Option Entity) (ps : List Prefix) (k : ℕ) → i.prefixes ≡ with_root r ps → r ≡ None → option_and_then (λ (x : Prefix). x.1) (slice_get ps k) ≡ bound_at i k
-bound-alone i r ps k h g = sym (ap (λ xs. option_and_then (λ (x : Prefix). x.1) (slice_get xs k)) (h ∙ ap (λ o. with_root o ps) g))
 
 -- an entity that stands at a prefix is of a set of the model
 pub set-of_bound : (w : World) (i : Instance) (k : ℕ) (e : Entity) → IsTrue (is_of w i) → bound_at i k ≡ Some e → e.set < length w.model.sets

@@ -1,5 +1,5 @@
 -- The text of items that are still to be written.
-use Rattle.std.proofs.Common.{◌≡◌, ℕ, ◌+◌, ◌-◌, ◌*◌, ◌<◌, ◌≤◌, Bool, true, false, cond, List, [], ◌∷◌, ◌++◌, length, codes, take, drop, refl, sym, ◌∙◌, ap, arith, append_assoc, length-append}
+use Rattle.std.proofs.Common.{◌≡◌, ℕ, ◌+◌, ◌*◌, ◌<◌, ◌≤◌, Bool, true, false, cond, List, [], ◌∷◌, ◌++◌, length, codes, take, drop, refl, sym, ◌∙◌, ap, arith, append_assoc, length-append}
 use Rattle.std.specs.Prelude.{reverse, if◌then◌else◌}
 use Rattle.std.specs.List.{join_with_byte, list_all}
 use Rattle.std.proofs.lemmas.Bool.{false≢true}
@@ -102,7 +102,3 @@ segment-steps after next n p rest mid text left h l =
     let k = length-append n p in
     let m = flag next in
     omega arith
-
-pub close-steps : (after : Bool) (rest : List ℕ) → 2 * length rest + 0 < 2 * length (41 ∷ rest) + cond after 0 1
-close-steps true rest = omega arith
-close-steps false rest = omega arith

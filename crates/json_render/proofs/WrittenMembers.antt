@@ -1,12 +1,11 @@
 -- The text of members that are still to be written.
-use Rattle.std.proofs.Common.{◌≡◌, ℕ, zero, suc, ◌+◌, ◌-◌, ◌<◌, ◌≤◌, Bool, true, false, List, [], ◌∷◌, ◌++◌, Some, None, length, codes, take, drop, refl, sym, ◌∙◌, ap, arith, append_assoc, length-append}
+use Rattle.std.proofs.Common.{◌≡◌, ℕ, zero, suc, ◌+◌, ◌-◌, ◌<◌, ◌≤◌, Bool, true, false, List, [], ◌∷◌, ◌++◌, Some, None, length, codes, take, drop, refl, sym, ◌∙◌, ap, arith, append_assoc}
 use Rattle.std.specs.Prelude.{reverse}
 use Rattle.std.specs.List.{list_all}
 use Rattle.std.proofs.lemmas.List.{append-nil, length-drop, length-map, reverse-append, reverse-reverse, take_all}
 use Rattle.serde_json.specs.Data.{null, string}
 use Rattle.std.proofs.lemmas.Bool.{and_parts, false≢true}
 use Rattle.serde_json.specs.Written.{comma_if, compact_text, members_text}
-use Rattle.edm_values.specs.Names.{Name}
 use Rattle.edm_model.specs.JsonTrees.{Member, members_tree, object_of}
 use Rattle.edm_data.specs.Worlds.{World}
 use Rattle.apply_meaning.specs.Instances.{Instance}
@@ -121,62 +120,3 @@ object-begun w i new text old us left js t a l h e =
     ∙ ap (λ xs. (text ++ 123 ∷ []) ++ xs) (unwritten-close w i false us (reverse old) h)
     ∙ append_assoc text (123 ∷ []) (members_text false (members_tree (all_members w i us)) ++ unwritten_text w i true (reverse old))
     ∙ ap (λ ms. text ++ (compact_text (object_of ms) ++ unwritten_text w i true (reverse old))) e
-
--- a member has been written
-pub member-written : (w : World) (i : Instance) (old new : Template) (left : List Unwritten) (u : Unwritten) → is_member u ≡ true
-    → template_text w i new ≡ template_text w i old ++ members_run old.after_member (unwritten_members w i u) → new.after_member ≡ true → filled w i new left ≡ filled w i old (left ++ u ∷ [])
-member-written w i old new left u h t a =
-    (λ j. t j ++ unwritten_text w i (a j) (reverse left)) ∙ append_assoc (template_text w i old) (members_run old.after_member (unwritten_members w i u)) (unwritten_text w i true (reverse left))
-    ∙ ap (λ xs. template_text w i old ++ xs) (sym (unwritten-first w i old.after_member u (reverse left) h))
-    ∙ ap (λ us. template_text w i old ++ unwritten_text w i old.after_member us) (sym (top-first left u))
-
--- an object has ended
-pub object-ended : (w : World) (i : Instance) (old new : Template) (left : List Unwritten) → template_text w i new ≡ template_text w i old ++ 125 ∷ [] → new.after_member ≡ true → filled w i new left ≡ filled w i old (left ++ Unwritten.Close ∷ [])
-object-ended w i old new left t a =
-    (λ j. t j ++ unwritten_text w i (a j) (reverse left)) ∙ append_assoc (template_text w i old) (125 ∷ []) (unwritten_text w i true (reverse left))
-    ∙ ap (λ us. template_text w i old ++ unwritten_text w i old.after_member us) (sym (top-first left Unwritten.Close))
-
--- an object behind its name has begun
-pub object-named : (w : World) (i : Instance) (old : Template) (named text : List ℕ) (left : List Unwritten) (u : Unwritten) (n : Name) (js : List Member) → is_member u ≡ true → unwritten_members w i u ≡ (n, object_of js) ∷ []
-    → named ≡ template_text w i old ++ (comma_if old.after_member ++ (text_json n ++ 58 ∷ [])) → text ≡ named ++ (compact_text (object_of js) ++ unwritten_text w i true (reverse left)) → text ≡ filled w i old (left ++ u ∷ [])
-object-named w i old named text left u n js h e g t =
-    let o = template_text w i old in
-    let c = comma_if old.after_member in
-    let v = compact_text (object_of js) in
-    let rest = unwritten_text w i true (reverse left) in
-    t ∙ sym (append_assoc named v rest) ∙ ap (λ xs. xs ++ v ++ rest) g
-    ∙ ap (λ xs. xs ++ rest) (append_assoc o (c ++ (text_json n ++ 58 ∷ [])) v ∙ ap (λ xs. o ++ xs) (append_assoc c (text_json n ++ 58 ∷ []) v ∙ ap (λ xs. c ++ xs) (append_assoc (text_json n) (58 ∷ []) v) ∙ sym (append-nil (c ++ (text_json n ++ 58 ∷ v)))))
-    ∙ append_assoc o (members_run old.after_member ((n, object_of js) ∷ [])) rest
-    ∙ ap (λ ms. o ++ (members_run old.after_member ms ++ rest)) (sym e) ∙ ap (λ xs. o ++ xs) (sym (unwritten-first w i old.after_member u (reverse left) h))
-    ∙ ap (λ us. o ++ unwritten_text w i old.after_member us) (sym (top-first left u))
-
--- ---- each member lengthens the text
-
-comma-longer : (later : Bool) (xs : List ℕ) → 0 < length xs → 0 < length (comma_if later ++ xs)
-comma-longer true xs h = omega arith
-comma-longer false xs h = h
-
-run-longer : (later : Bool) (m : Member) (ms : List Member) → 0 < length (members_run later (m ∷ ms))
-run-longer later m ms =
-    let a = length-append (member_text later m) (members_run true ms) in
-    let b : 0 < length (member_text later m) = comma-longer later (text_json m.0 ++ 58 ∷ compact_text m.1) (omega arith) in
-    omega arith
-
-unwritten-longer : (w : World) (i : Instance) (later : Bool) (u : Unwritten) → is_member u ≡ true → 0 < length (members_run later (unwritten_members w i u))
-unwritten-longer w i later (Unwritten.Value n None s) h = run-longer later (n.now, value_json (slot_value w i s)) []
-unwritten-longer w i later (Unwritten.Value n (Some t) s) h = run-longer later (n.now ++ codes "@type", string (type_word t)) ((n.now, value_json (slot_value w i s)) ∷ [])
-unwritten-longer w i later (Unwritten.Null n) h = run-longer later (n.now, null) []
-unwritten-longer w i later (Unwritten.Object n p) h = run-longer later (n.now, object_of (place_members w i (named_parts p.items))) []
-unwritten-longer w i later Unwritten.Close h = absurd (false≢true h)
-
-pub appended-longer : (old new more : List ℕ) → new ≡ old ++ more → 0 < length more → length old < length new
-appended-longer old new more h l = let a = length-append old more in let b = ap length h in omega arith
-
-pub member-longer : (w : World) (i : Instance) (later : Bool) (old new : List ℕ) (u : Unwritten) → is_member u ≡ true → new ≡ old ++ members_run later (unwritten_members w i u) → length old < length new
-member-longer w i later old new u h e = appended-longer old new (members_run later (unwritten_members w i u)) e (unwritten-longer w i later u h)
-
-pub name-longer : (later : Bool) (n : Name) (old mid new : List ℕ) → mid ≡ old ++ (comma_if later ++ (text_json n ++ 58 ∷ [])) → new ≡ mid ++ 123 ∷ [] → length old < length new
-name-longer later n old mid new e g =
-    let a = appended-longer old mid (comma_if later ++ (text_json n ++ 58 ∷ [])) e (comma-longer later (text_json n ++ 58 ∷ []) (omega arith)) in
-    let b = appended-longer mid new (123 ∷ []) g (omega arith) in
-    omega arith

@@ -1,6 +1,6 @@
 -- Rows sorted by the values of items, each evaluated once, are in the order of the items.
 use Rattle.std.proofs.Common.{Bor, ◌≡◌, ℕ, zero, suc, ◌+◌, ◌<◌, Bool, true, false, List, [], ◌∷◌, length, map, drop, get_or, refl, sym, ◌∙◌, ap, drop-cons, add-one}
-use Rattle.std.specs.Prelude.{not, Some, Err, ◌||◌, slice_get, unwrap_or}
+use Rattle.std.specs.Prelude.{not, Some, Err, ◌||◌}
 use Rattle.std.specs.Bool.{then_some}
 use Rattle.std.specs.List.{list_any}
 use Rattle.std.specs.Fn.{Called}
@@ -114,13 +114,6 @@ next-order is vs us k d h e =
     ∙ ap (λ (y : code.OrderItem). ordering_then (own y.desc) (values_cmp (map item_of (drop (suc k) is)) (drop 1 (drop k vs)) (drop 1 (drop k us)))) (sym e)
     ∙ (λ i. ordering_then (own d.desc) (values_cmp (map item_of (drop (suc k) is)) (dropped vs k i) (dropped us k i)))
     ∙ ap (λ n. ordering_then (own d.desc) (values_cmp (map item_of (drop n is)) (drop n vs) (drop n us))) (sym (add-one k))
-
--- the value at a place, null past the end
-pub value-at : (vs : List Value) (k : ℕ) → first_value (drop k vs) ≡ unwrap_or (slice_get vs k) Value.Null
-value-at [] zero = refl
-value-at [] (suc k) = refl
-value-at (v ∷ vs) zero = refl
-value-at (v ∷ vs) (suc k) = value-at vs k
 
 -- two values that tie leave the order to the rest
 pub passed : (o r : Ordering) → is_ne o ≡ false → ordering_then o r ≡ r

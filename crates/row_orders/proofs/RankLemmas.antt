@@ -1,5 +1,5 @@
 -- Ranks: in a list in order, those before an element are those before the first that ties with it, and their number is the same in any order of the list.
-use Rattle.std.proofs.Common.{◌≡◌, ◌⊎◌, inl, inr, ℕ, zero, suc, ◌+◌, ◌-◌, ◌<◌, ◌≤◌, Bool, true, false, cond, List, [], ◌∷◌, length, map, drop, get_or, refl, sym, ◌∙◌, ap, subst, arith, drop-cons, add-one, get_or-set_same, get_or-set_other}
+use Rattle.std.proofs.Common.{◌≡◌, ◌⊎◌, inl, inr, ℕ, zero, suc, ◌+◌, ◌-◌, ◌<◌, ◌≤◌, Bool, true, false, cond, List, [], ◌∷◌, length, map, drop, get_or, refl, sym, ◌∙◌, ap, subst, arith, drop-cons, get_or-set_same, get_or-set_other}
 use Rattle.std.specs.Prelude.{Err, not, count_by, slice_index, slice_set}
 use Rattle.std.specs.Bool.{then_some}
 use Rattle.std.specs.List.Sorted.{IsSortedBy, IsStableBy}
@@ -200,13 +200,6 @@ module _ (w : World) (xs : List OrderItem) where
   placed-apart : (n : ℕ) (l : List Instance) → Apart (placed_from w xs n l)
   placed-apart n [] = tt
   placed-apart n (i ∷ l) = (placed-other (suc n) n l (omega arith), placed-apart (suc n) l)
-
-  -- a place from the loop's next element on
-  pub placed-next : (l : List Instance) (k : ℕ) (i : Instance) → k < length l → i ≡ get_or l k i → placed_from w xs k (drop k l) ≡ (item_values w xs i, k) ∷ placed_from w xs (k + 1) (drop (k + 1) l)
-  placed-next l k i h e =
-      ap (placed_from w xs k) (drop-cons l k i h)
-      ∙ ap (λ j. (item_values w xs j, k) ∷ placed_from w xs (suc k) (drop (suc k) l)) (sym e)
-      ∙ ap (λ n. (item_values w xs i, k) ∷ placed_from w xs n (drop n l)) (sym (add-one k))
 
   -- the rank among the places is that among the instances
   placed-rank : (n m : ℕ) (l : List Instance) (i : Instance) → rank_in (before xs) (placed_from w xs n l) (item_values w xs i, m) ≡ count_by (λ j. order_before w xs j i) l

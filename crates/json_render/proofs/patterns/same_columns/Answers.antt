@@ -1,6 +1,7 @@
 use Rattle.std.proofs.Common.{◌∙◌, ap, sym, arith}
+use Rattle.context_typing.proofs.PathLemmas.{same_paths}
 use Rattle.json_render.specs.RowTexts.{column_path}
-use Rattle.json_render.proofs.Agreement.{agree_more, same_paths}
+use Rattle.json_render.proofs.Agreement.{agree_more}
 use Rattle.json_render.proofs.patterns.same_columns.Goals as goal
 
 pub loop-k-preserved : goal.loop-k-preserved

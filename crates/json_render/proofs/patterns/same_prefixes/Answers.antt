@@ -1,7 +1,8 @@
 use Rattle.std.proofs.Common.{◌∙◌, ap, sym, arith}
 use Rattle.std.specs.Prelude.{option_map}
+use Rattle.context_typing.proofs.PathLemmas.{same_paths}
 use Rattle.json_render.specs.RowTexts.{prefix_set}
-use Rattle.json_render.proofs.Agreement.{agree_more, same_element, same_paths}
+use Rattle.json_render.proofs.Agreement.{agree_more, same_element}
 use Rattle.json_render.proofs.patterns.same_prefixes.Goals as goal
 
 pub loop-k-preserved : goal.loop-k-preserved
