@@ -2,7 +2,7 @@
 use Rattle.std.proofs.Common.{◌≡◌, ℕ, zero, suc, ◌+◌, ◌<◌, ◌≤◌, List, [], ◌∷◌, ◌++◌, Option, Some, None, refl, sym, ap, subst, ◌∙◌, map, take, length, get_or, arith}
 use Rattle.std.specs.Prelude.{slice_get}
 use Rattle.std.specs.List.{AllZip}
-use Rattle.std.proofs.lemmas.List.{take_more, take-map, take_all}
+use Rattle.std.proofs.lemmas.List.{take_more, take-map}
 use Rattle.std.proofs.lemmas.Option.{slice_get-get_or, slice_get_past}
 use Rattle.edm_values.specs.Names.{Path}
 use Rattle.edm_values.proofs.OptionFacts.{none_or, some_value}
@@ -49,13 +49,6 @@ zip-more P xs ys i x y within is h p =
 
 -- ---- paths
 
-no_more : (qs : List Path) → AllZip PathText [] qs → qs ≡ []
-no_more [] h = refl
-no_more (q ∷ qs) h = absurd h
-
-pub paths-none : ArePathsOf [] []
-paths-none = record { are = tt; only = no_more }
-
 pub paths-more : (texts : List (List ℕ)) (ps : List Path) (i : ℕ) (t : List ℕ) (p : Path) → i < length texts → t ≡ get_or texts i t → ArePathsOf (take i texts) ps → PathText t p → ((q : Path) → PathText t q → Some q ≡ Some p) → ArePathsOf (take (i + 1) texts) (ps ++ p ∷ [])
 paths-more texts ps i t p within is h text only =
     let P : List (List ℕ) → Type 0 = λ l. ArePathsOf l (ps ++ p ∷ []) in
@@ -65,9 +58,6 @@ paths-more texts ps i t p within is h text only =
           let r = parted PathText (take i texts) t qs z in
           r.2 ∙ (λ j. h.only r.0 r.3 j ++ some_value (only r.1 r.4) j ∷ []);
     })
-
-pub paths-all : (texts : List (List ℕ)) (ps : List Path) (i : ℕ) → length texts ≤ i → ArePathsOf (take i texts) ps → ArePathsOf texts ps
-paths-all texts ps i past h = let P : List (List ℕ) → Type 0 = λ l. ArePathsOf l ps in subst P (take_all i texts past) h
 
 -- one text that is no path
 pub no-paths : (texts : List (List ℕ)) (i : ℕ) (t : List ℕ) → i < length texts → t ≡ get_or texts i t → ((q : Path) → PathText t q → ◌≡◌ {A = Option Path} (Some q) None) → (ps : List Path) → ¬ AllZip PathText texts ps

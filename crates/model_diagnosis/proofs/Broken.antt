@@ -2,7 +2,7 @@
 use Rattle.std.proofs.Common.{◌≡◌, ℕ, zero, suc, Bool, true, false, not, cond, List, [], ◌∷◌, length, Some, None, refl, sym, ◌∙◌, ap, subst, codes}
 use Rattle.std.specs.Prelude.{◌&&◌, ◌||◌, Option, option_map, option_and_then, unwrap_or, slice_get, filter, IfSome}
 use Rattle.std.specs.List.{list_all}
-use Rattle.std.proofs.lemmas.Bool.{false≢true, not_from_true}
+use Rattle.std.proofs.lemmas.Bool.{false≢true, not_from_true, and_from, false_from_ne_true}
 use Rattle.std.proofs.lemmas.List.Folds.{list_all-map}
 use Rattle.serde_json.specs.Data.{Data, null}
 use Rattle.edm_values.specs.Lists.{same_text, is_some_and, places, exactly_one}
@@ -17,8 +17,8 @@ use Rattle.model_diagnosis.specs.declared.faults.Fault.TheVariants as whole
 use Rattle.model_diagnosis.specs.declared.faults.TypeFault.{TypeFault}
 use Rattle.model_diagnosis.specs.declared.faults.TypeFault.TheVariants as part
 use Rattle.model_diagnosis.specs.Faults.{SomeAt, some_at, has_simple_name, FailsReference, FailsCollection, passes_root, passes_containers, passes_property, passes_key, passes_reference, passes_collection, passes_hierarchy, passes_definition, passes_set, root_tests, containers_tests, property_tests, key_tests, reference_tests, collection_tests, hierarchy_tests, definition_tests, set_tests, failed_property, failed_reference, failed_collection, failed_hierarchy, failed_definition, failed_set, has_other, root_names, property_names, reference_names, collection_names, hierarchy_names, definition_names, set_names, is_schema_member, type_name, IsTypeFault, IsFault}
-use Rattle.model_diagnosis.proofs.Tests.{and_from, and_fails, all_both, none_any, refuted, never_first, passes_among, passes_place, passes_not_none, first_chosen, second_chosen}
-use Rattle.model_diagnosis.proofs.Passes.{no_other, root_passes, containers_pass, property_passes, key_passes, reference_passes, collection_passes, hierarchy_passes, definition_passes, set_passes}
+use Rattle.model_diagnosis.proofs.Tests.{and_fails, all_both, none_any, never_first, passes_among, passes_place, passes_not_none, first_chosen, second_chosen}
+use Rattle.model_diagnosis.proofs.Passes.{no_other, root_passes, containers_pass, property_passes, key_passes, reference_passes, collection_passes, hierarchy_passes, definition_passes, set_passes, not_other}
 
 -- ---- members
 
@@ -57,11 +57,6 @@ known (m ∷ ms) h =
       | false ↦ λ a. known ms (and_right _ _ h)
     ] (and_left _ _ h)
 
-neither : (a b : Bool) → (a || b) ≡ true → (not a && not b) ≡ false
-neither true b h = refl
-neither false true h = refl
-neither false false h = absurd (false≢true h)
-
 -- ---- entity types
 
 type_key : (d : Data) (k : ℕ) (t : Data) → is_type d k t ≡ true → has_one_key t ≡ true
@@ -93,7 +88,7 @@ many d k t n = second_chosen (lacks (codes "$Collection") n) (λ p. is_constrain
 
 -- a type that keeps its rules has no fault
 type_sound : (d : Data) (k : ℕ) (t : Data) → is_type d k t ≡ true → has_simple_parts t ≡ true → (f : TypeFault) → IsTypeFault d k t f → ⊥
-type_sound d k t h s (part.Member name) = denied _ (none_at (λ m. is_property m.1 || is_navigation m.1) name.now (λ x. not (is_property x) && not (is_navigation x)) (own_members t) (known (members_in t) (type_known d k t h)) (λ m a e. neither (is_property m.1) (is_navigation m.1) a))
+type_sound d k t h s (part.Member name) = denied _ (none_at (λ m. is_property m.1 || is_navigation m.1) name.now (λ x. not (is_property x) && not (is_navigation x)) (own_members t) (known (members_in t) (type_known d k t h)) (λ m a e. not_other (is_property m.1) (is_navigation m.1) a))
 type_sound d k t h s (part.Property name test) = none_some (λ m. has_property_type m.1 && has_scale_in_place m.1) name.now (λ p. failed_property p ≡ Some test) (property_members t) (type_properties d k t h) (λ m a e. never_first (λ x. passes_property x m.1) property_tests test (property_passes m.1 (and_left _ _ a) (and_right _ _ a)))
 type_sound d k t h s (part.PropertyMember name other) = denied _ (none_at (λ m. has_property_type m.1 && has_scale_in_place m.1) name.now (λ p. has_other property_names p other.now) (property_members t) (type_properties d k t h) (λ m a e. no_other property_names m.1 other.now (and_right _ _ (and_left _ _ (and_left _ _ (and_left _ _ (and_left _ _ a)))))))
 type_sound d k t h s (part.Key test) = never_first (λ x. passes_key x t) key_tests test (key_passes t (type_key d k t h))
@@ -147,7 +142,7 @@ sound d h (whole.SetName name) = denied _ (none_at (λ m. is_name m.0) name.now 
 
 -- a file that has a fault breaks a rule
 pub fault_breaks : (d : Data) (f : Fault) → IsFault d f → is_model d ≡ false
-fault_breaks d f h = refuted (is_model d) (λ m. sound d m f h)
+fault_breaks d f h = false_from_ne_true (is_model d) (λ m. sound d m f h)
 
 -- so where a fault is found
 pub found_breaks : (d : Data) (o : Option Fault) → IfSome o (λ f. IsFault d f) → IfSome o (λ f. is_model d ≡ false)

@@ -5,6 +5,7 @@ use Rattle.std.specs.List.{list_any, Contains}
 use Rattle.std.proofs.lemmas.List.{get_or-map}
 use Rattle.std.proofs.lemmas.Option.{slice_get-map, slice_get-get_or, get_or_from_slice_get}
 use Rattle.std.proofs.lemmas.List.Folds.{list_any_at}
+use Rattle.std.proofs.lemmas.Bool.{and_from}
 use Rattle.serde_json.specs.Data.{Data}
 use Rattle.edm_values.specs.Lists.{same_text, places}
 use Rattle.edm_values.proofs.SameTexts.{text-self}
@@ -22,7 +23,7 @@ use Rattle.model_diagnosis.specs.declared.faults.Fault.TheVariants as whole
 use Rattle.model_diagnosis.specs.declared.faults.ReferenceTest.{ReferenceTest}
 use Rattle.model_diagnosis.specs.declared.faults.CollectionTest.{CollectionTest}
 use Rattle.model_diagnosis.specs.Faults.{some_at, SomeAt, type_name, IsTypeFault, IsFault, failed_reference, failed_collection, FailsReference, FailsCollection}
-use Rattle.model_diagnosis.proofs.Tests.{and_from, any_place}
+use Rattle.model_diagnosis.proofs.Tests.{any_place}
 
 -- a test that one of what is searched passes
 pub any_seen : {X : Type 0} (f : X → tree.Member) (p : tree.Member → Bool) (items : List X) (ms : List tree.Member) (i : ℕ) (x : X) → map f items ≡ ms → i < length items → x ≡ get_or items i x → p (f x) ≡ true → list_any p ms ≡ true

@@ -25,7 +25,7 @@ use Rattle.model_diagnosis.proofs.Tests.{passes_some, passes_first, passes_secon
 
 -- ---- members that no rule names
 
-not_other : (a b : Bool) → (a || b) ≡ true → (not a && not b) ≡ false
+pub not_other : (a b : Bool) → (a || b) ≡ true → (not a && not b) ≡ false
 not_other true b h = refl
 not_other false true h = refl
 not_other false false h = absurd (false≢true h)

@@ -3,16 +3,12 @@ use Rattle.std.proofs.Common.{◌≡◌, ℕ, zero, suc, ◌<◌, Bool, true, fa
 use Rattle.std.specs.Prelude.{◌&&◌, ◌||◌, Option, is_some, is_none, if◌then◌else◌, filter}
 use Rattle.std.specs.List.{Contains, list_all, list_any}
 use Rattle.std.proofs.Math.Bool.{and-true, or-true, or-false}
-use Rattle.std.proofs.lemmas.Bool.{false≢true, cases_lt, or_from}
+use Rattle.std.proofs.lemmas.Bool.{false≢true, cases_lt, or_from, and_from}
 use Rattle.std.proofs.lemmas.List.Folds.{list_all-append, list_all_at, list_any-append}
 use Rattle.edm_values.specs.Lists.{places, is_some_and}
 use Rattle.edm_schema.proofs.Counted.{all_places_at}
 use Rattle.edm_schema.proofs.Passing.{and_left, and_right}
 use Rattle.model_diagnosis.specs.Faults.{first_failed}
-
--- both parts of a conjunction
-pub and_from : (a b : Bool) → a ≡ true → b ≡ true → (a && b) ≡ true
-and_from a b h e = ap (λ c. c && b) h ∙ e
 
 -- a conjunction fails where its second part fails under its first
 pub and_fails : (a b : Bool) → (a ≡ true → b ≡ false) → (a && b) ≡ false
@@ -25,11 +21,6 @@ neither_holds true b c h = absurd (false≢true (sym h))
 neither_holds false true c h = absurd (false≢true (sym h))
 neither_holds false false true h = absurd (false≢true (sym h))
 neither_holds false false false h = refl
-
--- a test that holds is not refuted
-pub refuted : (b : Bool) → (b ≡ true → ⊥) → b ≡ false
-refuted true h = absurd (h refl)
-refuted false h = refl
 
 -- ---- tests of a part
 

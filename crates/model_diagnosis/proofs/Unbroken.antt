@@ -4,6 +4,7 @@ use Rattle.std.specs.Prelude.{◌&&◌, ◌||◌, option_map, unwrap_or, slice_g
 use Rattle.std.specs.List.{list_all, Contains}
 use Rattle.std.proofs.lemmas.List.{take_all}
 use Rattle.std.proofs.lemmas.List.Folds.{list_all-map, list_all_more}
+use Rattle.std.proofs.lemmas.Bool.{and_from}
 use Rattle.serde_json.specs.Data.{Data, null}
 use Rattle.edm_values.specs.Lists.{places, is_some_and}
 use Rattle.edm_schema.specs.JsonTrees as tree
@@ -14,7 +15,7 @@ use Rattle.edm_schema.specs.ModelTrees.{is_type, is_own, is_property, is_navigat
 use Rattle.edm_schema.proofs.Passing.{and_left, and_right}
 use Rattle.model_diagnosis.specs.Faults.{property_names, reference_names, collection_names}
 use Rattle.model_diagnosis.specs.Searched.{has_only, passes_property_tests, passes_reference_tests, passes_collection_tests, is_sound_property, has_sound_parts, has_sound_terms, has_sound_links}
-use Rattle.model_diagnosis.proofs.Tests.{and_from, all_weaker, all_filtered, all_places, passes_among, passes_place}
+use Rattle.model_diagnosis.proofs.Tests.{all_weaker, all_filtered, all_places, passes_among, passes_place}
 
 -- what all that was searched passes, all members pass
 pub all_searched : {X : Type 0} (f : X → tree.Member) (p : tree.Member → Bool) (items : List X) (ms : List tree.Member) (i : ℕ) → map f items ≡ ms → length items ≤ i → list_all (λ x. p (f x)) (take i items) ≡ true → list_all p ms ≡ true

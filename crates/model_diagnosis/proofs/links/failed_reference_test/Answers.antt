@@ -1,6 +1,7 @@
 -- The one constraint, from a property to the target's key.
 use Rattle.std.proofs.Common.{◌≡◌, true, false, not, cond, Some, None, refl, sym, ◌∙◌, ap, subst, rules, codes}
 use Rattle.std.specs.Prelude.{Option, ◌&&◌, is_some}
+use Rattle.std.proofs.lemmas.Bool.{and_from}
 use Rattle.serde_json.specs.Data.{Data}
 use Rattle.serde_json.specs.View.{view}
 use Rattle.edm_values.specs.Lists.{is_some_and}
@@ -9,7 +10,6 @@ use Rattle.edm_schema.specs.ModelTrees.{constraint, key_name, property_kind, are
 use Rattle.edm_schema.specs.MemberLists.{tree_of}
 use Rattle.model_diagnosis.specs.declared.faults.ReferenceTest.{ReferenceTest}
 use Rattle.model_diagnosis.specs.Faults.{failed_reference}
-use Rattle.model_diagnosis.proofs.Tests.{and_from}
 use Rattle.model_diagnosis.proofs.links.failed_reference_test.Goals as goal
 
 -- a constraint that passes the tests before the last one

@@ -1,6 +1,7 @@
 -- A navigation with another member is among those of the type.
 use Rattle.std.proofs.Common.{◌≡◌, true, false, not, ◌∙◌, sym, codes, ap}
 use Rattle.std.specs.Prelude.{if◌then◌else◌}
+use Rattle.std.proofs.lemmas.Bool.{and_from}
 use Rattle.serde_json.specs.View.{view}
 use Rattle.edm_schema.specs.JsonTrees.{lacks}
 use Rattle.edm_schema.specs.ModelTrees.{navigation_members}
@@ -8,7 +9,6 @@ use Rattle.edm_schema.specs.MemberLists.{member_seen, tree_of}
 use Rattle.model_diagnosis.specs.Faults.{reference_names, collection_names}
 use Rattle.model_diagnosis.specs.Searched.{has_only}
 use Rattle.model_diagnosis.proofs.Found.{some_among}
-use Rattle.model_diagnosis.proofs.Tests.{and_from}
 use Rattle.model_diagnosis.proofs.links.other_fault.Goals as goal
 
 pub returns-in-Some-clause-found : goal.returns-in-Some-clause-found

@@ -1,9 +1,9 @@
 -- A member of the schema that is neither an entity type nor a container.
 use Rattle.std.proofs.Common.{◌≡◌, false, not, ap, arith, length, rules}
 use Rattle.std.specs.Prelude.{◌&&◌}
+use Rattle.std.proofs.lemmas.Bool.{and_from}
 use Rattle.edm_values.specs.Lists.{same_text}
 use Rattle.edm_values.proofs.SameTexts.{text-self}
-use Rattle.model_diagnosis.proofs.Tests.{and_from}
 use Rattle.edm_schema.specs.JsonTrees.{members_in}
 use Rattle.edm_schema.specs.ModelTrees.{schema}
 use Rattle.edm_schema.specs.MemberLists.{member_seen, root_of}

@@ -1,12 +1,12 @@
 -- An entity type with a fault in its navigations or terms.
 use Rattle.std.proofs.Common.{◌≡◌, true, sym, ◌∙◌, ap, arith}
+use Rattle.std.proofs.lemmas.Bool.{and_from}
 use Rattle.edm_schema.specs.ModelTrees.{type_tree}
 use Rattle.edm_schema.specs.MemberLists.{root_of}
 use Rattle.edm_schema.proofs.Counted.{all_places_more}
 use Rattle.edm_schema.proofs.SchemaParts.{tree_at}
 use Rattle.model_diagnosis.specs.Searched.{has_sound_links}
 use Rattle.model_diagnosis.proofs.Found.{type_fault}
-use Rattle.model_diagnosis.proofs.Tests.{and_from}
 use Rattle.model_diagnosis.proofs.search.links_fault.Goals as goal
 
 pub returns-in-Some-clause-found : goal.returns-in-Some-clause-found

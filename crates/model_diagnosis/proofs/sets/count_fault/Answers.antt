@@ -3,6 +3,7 @@ use Rattle.std.proofs.Common.{◌≡◌, ◌<◌, ◌==◌, true, false, not, le
 use Rattle.std.specs.Prelude.{count_by}
 use Rattle.std.specs.List.{list_all}
 use Rattle.std.proofs.lemmas.Bool.Decides.{nat_tests}
+use Rattle.std.proofs.lemmas.Bool.{and_from}
 use Rattle.edm_values.specs.Lists.{exactly_one, places}
 use Rattle.edm_schema.specs.JsonTrees as tree
 use Rattle.edm_schema.specs.ModelTrees.{leads_to, set_members, type_members}
@@ -10,7 +11,6 @@ use Rattle.edm_schema.specs.MemberLists.{root_of}
 use Rattle.edm_schema.proofs.Counted.{all_places_more, length_places}
 use Rattle.edm_schema.proofs.Mapped.{length-mapped}
 use Rattle.model_diagnosis.proofs.Found.{any_type, as_many, count_at}
-use Rattle.model_diagnosis.proofs.Tests.{and_from}
 use Rattle.model_diagnosis.proofs.sets.count_fault.Goals as goal
 
 pub index-requires-then-index-ne1 : goal.index-requires-then-index-ne1

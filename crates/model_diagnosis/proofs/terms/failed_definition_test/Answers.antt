@@ -1,6 +1,7 @@
 -- The custom aggregate of the name, and no property or navigation of it.
 use Rattle.std.proofs.Common.{◌≡◌, ℕ, true, false, not, List, [], ◌∷◌, refl, sym, ◌∙◌, ap, rules, codes}
 use Rattle.std.specs.Prelude.{is_some}
+use Rattle.std.proofs.lemmas.Bool.{and_from}
 use Rattle.serde_json.specs.Data.{Data}
 use Rattle.serde_json.specs.View.{view}
 use Rattle.edm_schema.specs.JsonTrees.{is_object, is_string, passes_at}
@@ -9,7 +10,7 @@ use Rattle.edm_schema.specs.MemberLists.{tree_of}
 use Rattle.edm_schema.proofs.RuleFacts.{own_has_name, term_has_name}
 use Rattle.model_diagnosis.specs.declared.faults.DefinitionTest.{DefinitionTest}
 use Rattle.model_diagnosis.specs.Faults.{first_failed, failed_definition, passes_definition}
-use Rattle.model_diagnosis.proofs.Tests.{and_from, fails_here, passes_here}
+use Rattle.model_diagnosis.proofs.Tests.{fails_here, passes_here}
 use Rattle.model_diagnosis.proofs.terms.failed_definition_test.Goals as goal
 
 -- a definition that passes the tests of its own members
