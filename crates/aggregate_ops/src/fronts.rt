@@ -2,7 +2,7 @@
 //!
 //! The groups' first values are numbered in order of first appearance, each row takes the number of its group's, and the rows
 //! are put at their numbers in their order. So each group's places ascend, and no row's key list is read again.
-ghost use Rattle.std.specs.Prelude.{◌≡◌, ℕ, ◌<◌, ◌≤◌, ◌⊎◌, List, [], All, length, map, take, slice_get, slice_index, IfOk, OnOk};
+ghost use Rattle.std.specs.Prelude.{◌≡◌, ℕ, ◌<◌, ◌≤◌, ◌⊎◌, List, [], All, length, map, take, slice_index, IfOk, OnOk};
 ghost use Rattle.edm_values.specs.declared.Value.{Value as Value'};
 ghost use Rattle.par_stages.specs.Placed.{placed};
 ghost use Rattle.aggregate_ops.specs.Fronts.{AreGroupNumbers, AreGroupsOf, AreRowNumbers, IsApart, filled, fronts_of, key_items};
