@@ -5,17 +5,17 @@ ghost use Rattle.data_diagnosis.specs.FileLaws.{ShapeFaultsAreOfNoEntity, KeysAr
 
 /// An item has a fault of shape exactly where the file's reading has no entity at its place.
 pub fn shape_faults_are_of_no_entity()
-    ensures { ShapeFaultsAreOfNoEntity }
+    ensures shape { ShapeFaultsAreOfNoEntity }
 {}
 
 /// The key of an item is that of the entity at its place.
 pub fn keys_are_of_entities()
-    ensures { KeysAreOfEntities }
+    ensures key { KeysAreOfEntities }
 {}
 
 /// An item has an earlier one of its key exactly where the key of the entity at its place stands earlier.
 pub fn earlier_keys_are_of_entities()
-    ensures { EarlierKeysAreOfEntities }
+    ensures earlier { EarlierKeysAreOfEntities }
 {}
 
 /// An item refers to a key that is not there exactly where the entity at its place does: by a navigation property of its
