@@ -16,8 +16,8 @@
 //! It promises that a row is the instance that it was made of (`specs/Instances`, `specs/RowViews`), that `lookup` and
 //! `eval` are the definitions `lookup` and `val` on it, whatever the types of the expression's parts, and that `aggregate`
 //! is the aggregate of its values (`specs/Aggregates`). `specs/Meaning` says what each pipeline makes of a list of
-//! instances: `run_plain` gives that, and is refused exactly where it is (`specs/Running`). `lookup`, `eval`,
-//! `skip_rows` and `top_rows` take no memory.
+//! instances: `run_plain` gives that, is refused exactly where it is (`specs/Running`), and counts the rows that it makes
+//! (`specs/Counts`). `lookup`, `eval`, `skip_rows` and `top_rows` take no memory.
 //!
 //! `laws` has the laws of these definitions: on instances that fit a shape, values have their types, sure expressions are
 //! never `Beyond`, what a typed pipeline gives fits its shape, and a quiet one is never refused.
