@@ -1,12 +1,10 @@
 -- The groups at a node are those of its rows' key lists, the rows in their order.
-use Rattle.std.proofs.Common.{◌≡◌, ℕ, zero, suc, ◌+◌, ◌<◌, ◌≤◌, Bool, true, false, cond, List, [], ◌∷◌, ◌++◌, length, map, filter, take, get_or, refl, sym, ap, ◌∙◌, arith, Option, None}
-use Rattle.std.specs.Prelude.{slice_get}
-use Rattle.std.specs.Option.{option_map, unwrap_or}
+use Rattle.std.proofs.Common.{◌≡◌, ℕ, zero, suc, ◌+◌, ◌≤◌, Bool, true, false, cond, List, [], ◌∷◌, ◌++◌, length, filter, take, get_or, refl, sym, ap, ◌∙◌, arith, Option}
 use Rattle.std.proofs.lemmas.List.{get_or_default, map-append, take_all}
 use Rattle.std.proofs.lemmas.List.Elements.{filter-append}
 use Rattle.edm_values.specs.declared.Value.{Value}
 use Rattle.edm_values.specs.Lists.{places}
-use Rattle.edm_data.specs.Hierarchies.{is_under, rows_under, rows_whose}
+use Rattle.edm_data.specs.Hierarchies.{rows_under}
 use Rattle.par_stages.specs.Placed.{placed}
 use Rattle.par_stages.proofs.Places.{placed-more}
 use Rattle.aggregate_ops.specs.KeyTables.{groups_of}
