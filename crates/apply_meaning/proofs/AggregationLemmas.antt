@@ -25,12 +25,6 @@ use Rattle.apply_meaning.proofs.MeaningEquations.{step_mean-Aggregate}
 use Rattle.apply_meaning.proofs.MeaningProved.{loaded-values}
 use Rattle.apply_meaning.proofs.RunLemmas.{fits-differ, step-fits}
 
--- an item that is standard has one column
-pub standard-value : (w : World) (c c' : Customs) (S S' : Shape) (l : List Instance) (x : AggItem) → is_standard x ≡ true → item_value w c S l x ≡ item_value w c' S' l x
-standard-value w c c' S S' l (AggItem.Count a) h = refl
-standard-value w c c' S S' l (AggItem.Standard e f a) h = refl
-standard-value w c c' S S' l (AggItem.Custom n a) h = cc
-
 module _ (w : World) (L : IsLoaded w) (c : Customs) (S : Shape) (l : List Instance) (a : AllFit w S l) where
   summable-item : (x : AggItem) (k : ColumnShape) → item_column w.model c S x ≡ Some k → IsSummable w l x
   summable-item (AggItem.Count b) k h = tt

@@ -73,9 +73,6 @@ rooted-free w S i L F n q v f = rooted-from w i (n ∷ q, v) (λ e t p h k g.
 
 -- a computation
 module _ (w : World) (P : IsWellTyped w) (S : Shape) (i : Instance) (L : Law w.model S) (F : Fit w S i) where
-  new_value : Named → Path × Value
-  new_value x = column x.name (val w i x.expr)
-
   computed-fits : (x : Named) (k : ColumnShape) → is_free w.model S x.name ≡ true → option_map (λ k. new_column x.name k (not (is_sure w.model S x.expr))) (expr_kind w.model S x.expr) ≡ Some k
       → (same_path (x.name ∷ []) k.path && column_fits w i (x.name ∷ [], val w i x.expr) k) ≡ true
   computed-fits x k f e =

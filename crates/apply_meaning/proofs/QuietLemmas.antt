@@ -51,16 +51,9 @@ there-is : {X : Type 0} (o : Option X) → is_some o ≡ true → (x : X) × (o 
 there-is None h = cc
 there-is (Some x) h = (x, refl)
 
-is-there : {X : Type 0} (o : Option X) (x : X) → o ≡ Some x → is_some o ≡ true
-is-there o x e = ap is_some e
-
 kind-typed : {X : Type 0} (t : X → Bool) (o : Option X) → is_some_and t o ≡ true → is_some o ≡ true
 kind-typed t None h = h
 kind-typed t (Some x) h = refl
-
--- the keys of a quiet grouping are not risky
-not_risky : Shape → Path → Bool
-not_risky S p = not (is_risky S p)
 
 module _ (w : World) (c : Customs) where
   plain-quiet : (S : Shape) (ks : Keys) → keys_quiet w.model c S ks ≡ true → list_all (λ p. not (is_risky S p)) (plain_paths ks) ≡ true
@@ -284,13 +277,6 @@ pub quiet_is_not_refused : (A : World → Type 0) → ((w : World) → A w → I
 quiet_is_not_refused A P L M N J w c S S' p l a k law t q f =
     there-is (mean w c S p l)
     (pipe_runs w c (P w a) (mean_fits-in A M w c a k) (steps_lawful-in L w c) (λ h g e. N w h g a e) (λ S n v i e. J w S n v i a e) p S S' law t.1 q l f)
-
--- the same without the premise on the shape, where there is an instance
-pub quiet_of_some : (A : World → Type 0) → ((w : World) → A w → IsWellTyped w) → TypingKeepsLawful (λ m. Unit {0}) → MeanFits A → NodesFit A → RelatedFit A
-    → (w : World) (c : Customs) (S S' : Shape) (p : Pipe) (i : Instance) (l : List Instance) → A w → IsTrue (customs_typed w.model c)
-    → Types w.model c S p S' → IsTrue (is_quiet w.model c S p) → AllFit w S (i ∷ l) → (r : List Instance) × (mean w c S p (i ∷ l) ≡ Some r)
-quiet_of_some A P L M N J w c S S' p i l a k t q f =
-    quiet_is_not_refused A P L M N J w c S S' p (i ∷ l) a k (fit-parts w S i (and_parts (fits w S i) (list_all (fits w S) l) f).0).lawful t q f
 
 -- and so with the laws of this crate
 pub quiet_runs : (A : World → Type 0) → ((w : World) → A w → IsWellTyped w) → QuietIsNotRefused A

@@ -99,10 +99,6 @@ pub gives-err : (e : RunRefused) (m m' : Outcome) → Gives (Err e) m → (m ≡
 gives-err Range m m' h k = k h
 gives-err Memory m m' h k = tt
 
-pub gives-range : (e : RunRefused) (m : Outcome) → (e ≡ Range → m ≡ None) → Gives (Err e) m
-gives-range Range m k = k refl
-gives-range Memory m k = tt
-
 -- the next transformation of a pipeline in the program
 pub next-step : (ss : List code.Step) (i : ℕ) (d : code.Step) → i < length ss → d ≡ get_or ss i d → pipe (map step_of (drop i ss)) ≡ Pipe.Then (step_of d) (pipe (map step_of (drop (i + 1) ss)))
 next-step ss i d h e =

@@ -19,11 +19,15 @@ use Rattle.apply_meaning.specs.RowViews.{is_of, columns_differ}
 use Rattle.apply_meaning.specs.declared.refusals.RunRefused.{RunRefused}
 use Rattle.apply_meaning.specs.declared.refusals.RunRefused.TheVariants.{Range, Memory}
 
+-- what was returned is right, or it is refused for its range, where this says so: `Memory` says nothing
+abbrev pub Returns : {T : Type 0} → (T → Type 0) → Type 0 → result.Result T RunRefused → Type 0
+Returns IsRight IsRefused (Ok x) = IsRight x
+Returns IsRight IsRefused (Err Range) = IsRefused
+Returns IsRight IsRefused (Err Memory) = Unit {0}
+
 -- what a run returned, where the meaning is known: `Memory` says nothing
 abbrev pub Gives : result.Result (Vec Instance) RunRefused → Outcome → Type 0
-Gives (Ok v) m = m ≡ Some v.items
-Gives (Err Range) m = m ≡ None
-Gives (Err Memory) m = Unit {0}
+Gives r m = Returns (λ (v : Vec Instance). m ≡ Some v.items) (m ≡ None) r
 
 -- ---- lists of rows
 

@@ -78,10 +78,6 @@ typing-parts n n' k b b' (Some j) e =
     let s = sym (some_value e) in
     ((λ i. Some ((s i).1)), (λ i. (s i).0), (λ i. (s i).2))
 
-typing-none : (n : Name) (b : Bool) (o : Option EdmType) → None ≡ option_map {U = Name × EdmType × Bool} (λ k. (n, k, b)) o → o ≡ None
-typing-none n b None e = refl
-typing-none n b (Some j) e = none_or _ e
-
 pub answers-typed : (m : Model) (u : Custom) (r : ReadCustom) (n : Name) (k : EdmType) (risky : Bool) → IsEntry m u → r.id ≡ u.id → Some (n, k, risky) ≡ typing_for m u r
     → AnswersCustom m r (Ok (record { read = r; owner = u.owner; name = n; kind = k; risky = risky }))
 answers-typed m u r n k risky entry id e =
@@ -89,13 +85,6 @@ answers-typed m u r n k risky entry id e =
     let x : TypedCustom = record { read = r; owner = u.owner; name = n; kind = k; risky = risky } in
     let same : reading_of x ≡ reading_for u r = λ i. record { owner = u.owner; name = (sym t.1) i; of = expr_of r.of; per = r.per } in
     (refl, typed-custom m u r k risky x entry id t.0 t.2 refl refl same refl refl, read-kind-is m u r entry id ∙ t.0)
-
-pub answers-untyped : (m : Model) (u : Custom) (r : ReadCustom) → IsEntry m u → r.id ≡ u.id → None ≡ typing_for m u r → AnswersCustom m r (Err (custom.At u.id))
-answers-untyped m u r entry id e =
-    (sym id, read-kind-is m u r entry id ∙ typing-none u.name (custom_risky m (custom_of u) (reading_for u r)) (custom_kind m (custom_of u) (reading_for u r)) e)
-
-pub answers-memory : (m : Model) (r : ReadCustom) (e : CustomRefused) → e ≡ custom.Memory → AnswersCustom m r (Err e)
-answers-memory m r e is = subst (λ (e : CustomRefused). AnswersCustom m r (Err e)) (sym is) tt
 
 -- ---- many readings
 

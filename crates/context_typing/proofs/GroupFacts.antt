@@ -40,12 +40,6 @@ plain-append (k ∷ ks) ls =
     plain-cons k (keys_from (ks ++ ls)) ∙ ap (λ l. plain_of k ++ l) (plain-append ks ls)
     ∙ sym (append-assoc (plain_of k) (plain_paths (keys_from ks)) (plain_paths (keys_from ls))) ∙ ap (λ l. l ++ plain_paths (keys_from ls)) (sym (plain-cons k (keys_from ks)))
 
-pub part-append : (ks ls : List Key) → rollup_parts (keys_from (ks ++ ls)) ≡ rollup_parts (keys_from ks) ++ rollup_parts (keys_from ls)
-part-append [] ls = refl
-part-append (k ∷ ks) ls =
-    part-cons k (keys_from (ks ++ ls)) ∙ ap (λ l. part_of k ++ l) (part-append ks ls)
-    ∙ sym (append-assoc (part_of k) (rollup_parts (keys_from ks)) (rollup_parts (keys_from ls))) ∙ ap (λ l. l ++ rollup_parts (keys_from ls)) (sym (part-cons k (keys_from ks)))
-
 -- ---- the answers of a function over lists that are joined
 
 abbrev both_lists : {Z : Type 0} → Option (List Z) → Option (List Z) → Option (List Z)
@@ -110,62 +104,10 @@ module _ {X : Type 0} (key : X → Key) (keys : List X) (i : ℕ) (d : X) (withi
   abbrev parts-in : List X → List RollupPart
   parts-in xs = rollup_parts (keys_from (map key xs))
 
-  pub parts-here : parts-in (drop i keys) ≡ part_of (key (get_or keys i d)) ++ parts-in (drop (i + 1) keys)
-  parts-here = ap parts-in (drop_more keys i d within) ∙ part-cons (key (get_or keys i d)) (keys_from (map key (drop (i + 1) keys)))
-
-  pub parts-past : is_rollup_key (key (get_or keys i d)) ≡ false → parts-in (drop i keys) ≡ parts-in (drop (i + 1) keys)
-  parts-past e = parts-here ∙ ap (λ l. l ++ parts-in (drop (i + 1) keys)) (plain (key (get_or keys i d)) e)
-    where
-      plain : (k : Key) → is_rollup_key k ≡ false → part_of k ≡ []
-      plain (Key.Plain p) e = refl
-      plain (Key.Rollup all ps) e = cc
-      plain (Key.Recursive h p T) e = cc
-
 -- ---- the columns of all keys
 
 abbrev pub typed_from : Model → Shape → List Path → List RollupPart → Option (List ColumnShape)
 typed_from m S plain parts = typed_columns m S (record { plain = plain; parts = parts })
-
-pub typed-none : (m : Model) (S : Shape) (plain : List Path) (parts : List RollupPart) → parts ≡ [] → typed_from m S plain parts ≡ all_some (map (typed_key m S false) plain)
-typed-none m S plain parts e = ap (typed_from m S plain) e ∙ same (all_some (map (typed_key m S false) plain))
-  where
-    same : (o : Option (List ColumnShape)) → both_lists o (Some []) ≡ o
-    same None = refl
-    same (Some xs) = ap Some (append-nil xs)
-
-pub typed-one : (m : Model) (S : Shape) (plain : List Path) (parts more : List RollupPart) (k : Key) → is_rollup_key k ≡ true → parts ≡ part_of k ++ more → more ≡ [] → typed_from m S plain parts ≡ both_lists (all_some (map (typed_key m S false) plain)) (rollup_key_columns m S k)
-typed-one m S plain parts more k h e none = ap (typed_from m S plain) (e ∙ ap (λ l. part_of k ++ l) none) ∙ go k h
-  where
-    go : (k : Key) → is_rollup_key k ≡ true → typed_from m S plain (part_of k ++ []) ≡ both_lists (all_some (map (typed_key m S false) plain)) (rollup_key_columns m S k)
-    go (Key.Plain p) h = cc
-    go (Key.Rollup all ps) h = refl
-    go (Key.Recursive h' p T) h = refl
-
-typed-many : (m : Model) (S : Shape) (plain : List Path) (parts : List RollupPart) → 1 < length parts → typed_from m S plain parts ≡ None
-typed-many m S plain parts h =
-    ap (λ b. if b then both_lists (all_some (map (typed_key m S false) plain)) (part_columns m S (rollup_part (record { plain = plain; parts = parts }))) else None) (lt-leb (length parts) 1 h)
-
-pub typed-two : (m : Model) (S : Shape) (plain : List Path) (parts more last : List RollupPart) (k l : Key) → is_rollup_key k ≡ true → is_rollup_key l ≡ true → parts ≡ part_of k ++ more → more ≡ part_of l ++ last → None ≡ typed_from m S plain parts
-typed-two m S plain parts more last k l h g e f = sym (ap (typed_from m S plain) (e ∙ ap (λ x. part_of k ++ x) f) ∙ typed-many m S plain (part_of k ++ (part_of l ++ last)) (go k l h g))
-  where
-    go : (k l : Key) → is_rollup_key k ≡ true → is_rollup_key l ≡ true → 1 < length (part_of k ++ (part_of l ++ last))
-    go (Key.Plain p) l h g = cc
-    go k (Key.Plain p) h g = cc
-    go (Key.Rollup all ps) (Key.Rollup all' qs) h g = omega arith
-    go (Key.Rollup all ps) (Key.Recursive x p T) h g = omega arith
-    go (Key.Recursive x p T) (Key.Rollup all' qs) h g = omega arith
-    go (Key.Recursive x p T) (Key.Recursive y q U) h g = omega arith
-
-pub nodes-first : (ks : Keys) (k : Key) (more : List RollupPart) → is_rollup_key k ≡ true → rollup_parts ks ≡ part_of k ++ more → is_recursive_key k ≡ is_nodes (rollup_part (group_keys ks))
-nodes-first ks k more h e = go k h ∙ sym (ap (λ l. is_nodes (rollup_part (record { plain = plain_paths ks; parts = l }))) e)
-  where
-    go : (k : Key) → is_rollup_key k ≡ true → is_recursive_key k ≡ is_nodes (rollup_part (record { plain = plain_paths ks; parts = part_of k ++ more }))
-    go (Key.Plain p) h = cc
-    go (Key.Rollup all ps) h = refl
-    go (Key.Recursive x p T) h = refl
-
-pub nodes-none : (ks : Keys) → rollup_parts ks ≡ [] → false ≡ is_nodes (rollup_part (group_keys ks))
-nodes-none ks e = sym (ap (λ l. is_nodes (rollup_part (record { plain = plain_paths ks; parts = l }))) e)
 
 -- ---- which keys have columns, and which these are
 

@@ -74,30 +74,12 @@ module _ {X : Type 0} (path : X → Path) (alike : X → X → Bool) (t : List X
   abbrev entered : Option X → Option (List X)
   entered o = elim o [ Some d ↦ then_some (alike d x) t | None ↦ Some (t ++ x ∷ []) ]
 
-  pub entry-same : option_map (λ d. alike d x) (at_path path t (path x)) ≡ Some true → add_entry path alike (Some t) x ≡ Some t
-  entry-same e = go (at_path path t (path x)) e
-    where
-      go : (o : Option X) → option_map (λ d. alike d x) o ≡ Some true → entered o ≡ Some t
-      go None e = cc
-      go (Some d) e = ap (λ b. then_some b t) (some_value e)
-
   pub entry-other : option_map (λ d. alike d x) (at_path path t (path x)) ≡ Some false → add_entry path alike (Some t) x ≡ None
   entry-other e = go (at_path path t (path x)) e
     where
       go : (o : Option X) → option_map (λ d. alike d x) o ≡ Some false → entered o ≡ None
       go None e = cc
       go (Some d) e = ap (λ b. then_some b t) (some_value e)
-
-  pub entry-new : option_map (λ d. alike d x) (at_path path t (path x)) ≡ None → add_entry path alike (Some t) x ≡ Some (t ++ x ∷ [])
-  entry-new e = go (at_path path t (path x)) e
-    where
-      go : (o : Option X) → option_map (λ d. alike d x) o ≡ None → entered o ≡ Some (t ++ x ∷ [])
-      go None e = refl
-      go (Some d) e = cc
-
--- one step more of a fold
-pub fold-more : {A B : Type 0} (f : B → A → B) (b z : B) (xs : List A) (i : ℕ) (d : A) → i < length xs → fold f b (take i xs) ≡ z → fold f b (take (i + 1) xs) ≡ f z (get_or xs i d)
-fold-more f b z xs i d h e = ap (fold f b) (take_more xs i d h) ∙ fold-append f b (take i xs) (get_or xs i d ∷ []) ∙ ap (λ y. f y (get_or xs i d)) e
 
 pub columns-stuck : (t : List ColumnShape) (cs : List ColumnShape) (i : ℕ) (d : ColumnShape) → i < length cs → add_column (fold add_column (Some t) (take i cs)) (get_or cs i d) ≡ None → None ≡ fold add_column (Some t) cs
 columns-stuck t cs i d h e = fold_stuck add_column None (λ x. refl) (Some t) cs i d h e
@@ -136,16 +118,6 @@ branches-next m Ss c i d a b h is e k =
     ap (λ l. in_branches m l c) (take_more Ss i d h) ∙ in_branches-more m (take i Ss) (get_or Ss i d) c
     ∙ (λ j. option_and_then (λ a. option_map (both a) (in_branch m (sym is j) c)) (e j)) ∙ ap (λ o. option_map (both a) o) (sym k)
 
-no-some : {X : Type 0} (b : Bool) (x : X) → None ≡ then_some b x → b ≡ false
-no-some true x e = cc
-no-some false x e = refl
-
-pub branches-none : (m : Model) (Ss : List Shape) (c : ColumnShape) (i : ℕ) (d : Shape) → i < length Ss → d ≡ get_or Ss i d → None ≡ in_branch m d c → None ≡ in_branches m Ss c
-branches-none m Ss c i d h is e =
-    let no : is_none_or (same_kind c.kind) (path_kind m d c.path) ≡ false = no-some _ _ e in
-    let all : column_agrees m Ss c ≡ false = list_all_at (λ S. is_none_or (same_kind c.kind) (path_kind m S c.path)) Ss i d h (ap (λ S. is_none_or (same_kind c.kind) (path_kind m S c.path)) (sym is) ∙ no) in
-    sym (ap (λ b. then_some b (record { declared = list_all (λ S. is_none_or (λ y. y.declared) (column_at S c.path)) Ss; absent = list_any (λ S. is_none_or (λ y. y.absent) (column_at S c.path)) Ss; risky = list_any (λ S. is_risky S c.path) Ss })) all)
-
 -- a column from how the branches have it
 pub column-joined : (m : Model) (Ss : List Shape) (c : ColumnShape) → option_map {T = Joined} (λ j. record c { declared = j.declared; absent = j.absent; risky = j.risky }) (in_branches m Ss c) ≡ joined_column m Ss c
 column-joined m Ss c = go (column_agrees m Ss c)
@@ -154,27 +126,6 @@ column-joined m Ss c = go (column_agrees m Ss c)
         ≡ then_some b (merged_column Ss c)
     go true = refl
     go false = refl
-
-some_lack-more : (Ss : List Shape) (S : Shape) (x : PrefixShape) → some_lack_prefix (Ss ++ S ∷ []) x ≡ option_and_then (λ a. option_map (λ b. a || b) (lacks_prefix S x)) (some_lack_prefix Ss x)
-some_lack-more Ss S x =
-    (λ i. then_some (list_all-append (λ S. is_none_or (λ y. y.of == x.of) (prefix_at S x.path)) Ss (S ∷ []) i) (list_any-append (λ S. is_none_or (λ y. y.absent) (prefix_at S x.path)) Ss (S ∷ []) i))
-    ∙ go (prefix_agrees Ss x) (is_none_or (λ y. y.of == x.of) (prefix_at S x.path)) (list_any (λ S. is_none_or (λ y. y.absent) (prefix_at S x.path)) Ss) (is_none_or (λ y. y.absent) (prefix_at S x.path))
-  where
-    go : (a g b b' : Bool) → then_some (a && (g && true)) (b || (b' || false)) ≡ option_and_then (λ a. option_map (λ b. a || b) (then_some g b')) (then_some a b)
-    go false g b b' = refl
-    go true false b b' = refl
-    go true true b b' = ap (λ c. Some (b || c)) (or-false b')
-
-pub lack-next : (Ss : List Shape) (x : PrefixShape) (i : ℕ) (d : Shape) (a b : Bool) → i < length Ss → d ≡ get_or Ss i d → some_lack_prefix (take i Ss) x ≡ Some a → Some b ≡ lacks_prefix d x → some_lack_prefix (take (i + 1) Ss) x ≡ Some (a || b)
-lack-next Ss x i d a b h is e k =
-    ap (λ l. some_lack_prefix l x) (take_more Ss i d h) ∙ some_lack-more (take i Ss) (get_or Ss i d) x
-    ∙ (λ j. option_and_then (λ a. option_map (λ b. a || b) (lacks_prefix (sym is j) x)) (e j)) ∙ ap (λ o. option_map (λ b. a || b) o) (sym k)
-
-pub lack-none : (Ss : List Shape) (x : PrefixShape) (i : ℕ) (d : Shape) → i < length Ss → d ≡ get_or Ss i d → None ≡ lacks_prefix d x → None ≡ some_lack_prefix Ss x
-lack-none Ss x i d h is e =
-    let no : is_none_or (λ y. y.of == x.of) (prefix_at d x.path) ≡ false = no-some _ _ e in
-    let all : prefix_agrees Ss x ≡ false = list_all_at (λ S. is_none_or (λ y. y.of == x.of) (prefix_at S x.path)) Ss i d h (ap (λ S. is_none_or (λ y. y.of == x.of) (prefix_at S x.path)) (sym is) ∙ no) in
-    sym (ap (λ b. then_some b (list_any (λ S. is_none_or (λ y. y.absent) (prefix_at S x.path)) Ss)) all)
 
 pub prefix-joined : (Ss : List Shape) (x : PrefixShape) → option_map {T = Bool} (λ a. record x { absent = a }) (some_lack_prefix Ss x) ≡ joined_prefix Ss x
 prefix-joined Ss x = go (prefix_agrees Ss x)

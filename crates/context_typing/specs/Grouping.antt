@@ -46,10 +46,6 @@ abbrev pub is_rollup_key : Key → Bool
 is_rollup_key (Key.Plain p) = false
 is_rollup_key _ = true
 
--- one of the paths leads to the other
-abbrev pub key_overlaps : Path → Path → Bool
-key_overlaps p k = is_prefix p k || is_prefix k p
-
 -- a key is a recursive rollup
 abbrev pub is_recursive_key : Key → Bool
 is_recursive_key (Key.Recursive h p T) = true

@@ -32,7 +32,7 @@ use std::alloc::{AllocError, Global};
 const INTEGER_MAX: u64 = i64::MAX as u64;
 
 /// The shape of the instances of an entity set.
-pub(crate) fn set_shape(alloc: Global, of: TypeId) -> Shape
+pub fn set_shape(alloc: Global, of: TypeId) -> Shape
     ensures { result ≡ set_shape of }
 {
     Shape {
@@ -375,13 +375,13 @@ pub(crate) fn top_typed(m: &Model, shape: &Shape, top: &TopStep) -> bool
 
 /// The nodes of a hierarchy: their entity type, and the type of its key.
 #[derive(Clone, Copy, Debug, Drop)]
-pub(crate) struct Nodes {
-    pub(crate) of: TypeId,
-    pub(crate) kind: EdmType,
+pub struct Nodes {
+    pub of: TypeId,
+    pub kind: EdmType,
 }
 
 /// The nodes of the hierarchy that is named in a pipeline.
-pub(crate) fn nodes_of(m: &Model, hier: &HierName) -> Option<Nodes>
+pub fn nodes_of(m: &Model, hier: &HierName) -> Option<Nodes>
     ensures value { option_map nodes_pair result ≡ steps.nodes_at m.now (hier_of hier.now) }
     ensures there { IfSome result (λ x. IsType m.now x.of) }
 {

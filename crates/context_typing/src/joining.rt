@@ -30,7 +30,7 @@ fn many_target(m: &Model, of: TypeId, nav: &Name) -> Option<TypeId>
 }
 
 /// The entity type of what a join relates.
-pub(crate) fn join_target(m: &Model, shape: &Shape, nav: &Name) -> Option<TypeId>
+pub fn join_target(m: &Model, shape: &Shape, nav: &Name) -> Option<TypeId>
     requires { IsTrue (has_types m.now shape.now) }
     ensures value { result ≡ option_map (λ v. v.target) (spec.join_navigation m.now shape.now nav.now) }
     ensures there { IfSome result (IsType m.now) }

@@ -581,7 +581,7 @@ fn is_distance(distance: Option<u64>) -> bool
 
 /// One step: the shape after it, and whether it is quiet.
 #[cycle(typing)]
-fn type_step(
+pub fn type_step(
     alloc: Global,
     m: &Model,
     c: &Customs,

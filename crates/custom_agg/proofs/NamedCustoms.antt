@@ -47,16 +47,6 @@ same-one m t k n u x e typed = same-tests (is_named t n x) (same_part x.read.id 
         let name : x.name ≡ n = sym own.1 ∙ ap (λ (u : Custom). u.name) one ∙ other.1 in
         and_from _ _ (eq-eqb x.owner t (sym typed.0 ∙ ap (λ (p : Part). p.of) same)) (ap (λ a. same_text a n) name ∙ text-self n)
 
--- the custom aggregate of a name and its reading, by the id that the name leads to
-pub custom-named_at : (m : Model) (c : List TypedCustom) (t k : ℕ) (n : Name) (u : Custom) (x : TypedCustom) → AreTypedOver m c → custom_named m t n ≡ Some (k, u) → typed_at c (record { of = t; at = k }) ≡ Some x
-    → custom_at m (readings c) t n ≡ Some (u, reading_of x)
-custom-named_at m c t k n u x all e at =
-    let by_id : TypedCustom → Bool = λ y. same_part y.read.id (record { of = t; at = k }) in
-    let found : find (λ r. (r.owner == t) && same_text r.name n) (readings c) ≡ Some (reading_of x) =
-    find-mapped (λ r. (r.owner == t) && same_text r.name n) (is_named t n) reading_of (λ x. refl) c
-    ∙ ap (option_map reading_of) (same-search (is_named t n) by_id c (λ j d within. same-one m t k n u (get_or c j d) e (all j d within)) ∙ at) in
-    (λ i. option_and_then (λ (y : ℕ × Custom). option_map (λ r. (y.1, r)) (found i)) (e i))
-
 -- the custom aggregate of a name with its reading, by the id that the name leads to
 pub custom-named_from : (m : Model) (c : List TypedCustom) (t k : ℕ) (n : Name) (u : Custom) → AreTypedOver m c → custom_named m t n ≡ Some (k, u)
     → custom_at m (readings c) t n ≡ option_map {U = Custom × Reading} (λ x. (u, reading_of x)) (typed_at c (record { of = t; at = k }))

@@ -58,9 +58,6 @@ flipped : {K : Type 0} {R : K → K → Ordering} (o : IsTotalOrder R) (x y : K)
 flipped o x y r is = o.antisymm y x ∙ ap ordering_reverse is
 
 module _ {K : Type 0} {R : K → K → Ordering} (o : IsTotalOrder R) (d : K) (keys : List K) (order : List ℕ) (sorted : IsKeyOrder R keys order) (v : K) (low high : ℕ) (narrowed : IsNarrowed R d keys order v low high) where
-  key : ℕ → K
-  key i = get_or keys (get_or order i 0) d
-
   -- the key in the middle is below v
   pub IsNarrowed-right : (middle : ℕ) → middle < length order → R (get_or keys (get_or order middle 0) d) v ≡ Less → IsNarrowed R d keys order v (middle + 1) high
   IsNarrowed-right middle within less = record {

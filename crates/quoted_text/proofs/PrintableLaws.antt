@@ -107,24 +107,6 @@ front_printable text cs most u e =
     = ap (λ t. 34 ∷ t) (append_assoc (encode_utf8_all shown) (34 ∷ []) points ∙ ap (λ t. encode_utf8_all shown ++ t) (sym (points_ascii has_more)) ∙ sym (encodes-append shown (34 ∷ points))) in
     written_printable text (34 ∷ shown ++ 34 ∷ points) u (e ∙ whole) (in_quotes_printable (take most cs) (34 ∷ points) (points_printable has_more))
 
--- texts that are printable, one behind the other
-pub printable-append : (xs ys : List ℕ) → IsUtf8 xs → IsUtf8 ys → IsPrintable xs → IsPrintable ys → IsPrintable (xs ++ ys)
-printable-append xs ys u v p q = rw (chars-append xs ys u) (list_any-append is_unprintable (chars xs) (chars ys) ∙ rw p q)
-
--- a printable text is shown as it is
-same_by : (c : ℕ) (cs : List ℕ) (b : Bool) → (b || list_any is_unprintable cs) ≡ false → (list_any is_unprintable cs ≡ false → flat_map show cs ≡ cs)
-    → (if b then by_number c else c ∷ []) ++ flat_map show cs ≡ c ∷ cs
-same_by c cs true e rest = absurd (true≢false e)
-same_by c cs false e rest = ap (λ xs. c ∷ xs) (rest e)
-
-same_chars : (cs : List ℕ) → list_any is_unprintable cs ≡ false → flat_map show cs ≡ cs
-unfolding show
-same_chars [] e = refl
-same_chars (c ∷ cs) e = same_by c cs (is_unprintable c) e (same_chars cs)
-
-pub shown_same : (t : List ℕ) → IsUtf8 t → IsPrintable t → show_all (chars t) ≡ t
-shown_same t u q = ap encode_utf8_all (same_chars (chars t) q) ∙ encodes-chars t u
-
 shown_bounds : (c : ℕ) → is_in_range 32 126 c ≡ true → (32 ≤ c) × (c ≤ 126)
 shown_bounds c e = (grind arith, grind arith)
 
@@ -141,16 +123,6 @@ no_unprintable (c ∷ cs) e =
     let parts = and_parts (is_in_range 32 126 c) (is_printable_ascii cs) e in
     let bounds = shown_bounds c parts.0 in
     rw (ascii_printable c bounds.0 bounds.1) (no_unprintable cs parts.1)
-
-pub printable_utf8 : (t : List ℕ) → is_printable_ascii t ≡ true → IsUtf8 t
-printable_utf8 t e = IsUtf8-from_ascii t (ascii_of_printable t e)
-
-pub ascii_text_printable : (t : List ℕ) → is_printable_ascii t ≡ true → IsPrintable t
-ascii_text_printable t e = rw (chars-IsAscii t (ascii_of_printable t e)) (no_unprintable t e)
-
--- and it is shown as it is
-pub printable_same : (t : List ℕ) → is_printable_ascii t ≡ true → show_all (chars t) ≡ t
-printable_same t e = shown_same t (printable_utf8 t e) (ascii_text_printable t e)
 
 -- a text in which each unprintable character of another stands by its number, between two of ASCII's characters that are shown
 pub framed_printable : (front back cs text : List ℕ) → is_printable_ascii front ≡ true → is_printable_ascii back ≡ true → IsUtf8 text

@@ -26,10 +26,6 @@ use Rattle.row_orders.specs.Orders.{RankedPlace, before, item_values, values_cmp
 use Rattle.row_orders.specs.Ranks.{ArePlaces, GivesNumbers, GivesSorted, HaveRanks, IsFormerRank, placed_from, rank_in, ranks}
 use Rattle.row_orders.proofs.OrderLemmas.{before-order, beyond-values, values-before, values_cmp_total}
 
--- the ranks of the nodes of a hierarchy are those of their instances
-pub node-ranks : (w : World) (h : HierarchyPlace) (xs : List OrderItem) → node_ranks w h xs ≡ ranks w xs (rows w h.set)
-node-ranks w h xs = refl
-
 -- ---- counts
 
 count-cons : {X : Type 0} (p : X → Bool) (x : X) (xs : List X) → count_by p (x ∷ xs) ≡ cond (p x) 1 0 + count_by p xs

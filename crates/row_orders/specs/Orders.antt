@@ -1,7 +1,6 @@
 -- The orders of rows by the values of items, each evaluated once.
 use Rattle.std.specs.Prelude.{◌≡◌, ℕ, Bool, true, false, if◌then◌else◌, List, [], ◌∷◌, map, drop}
 use Rattle.std.specs.declared.result.Result as result
-use Rattle.std.specs.declared.result.Result.TheVariants.{Ok, Err}
 use Rattle.std.specs.declared.cmp.Ordering.{Ordering}
 use Rattle.std.specs.declared.cmp.Ordering.TheVariants.{Equal}
 use Rattle.std.specs.Global.{Vec}
@@ -12,8 +11,8 @@ use Rattle.edm_values.specs.declared.Value.{Value}
 use Rattle.edm_values.specs.Values.{is_beyond, value_cmp}
 use Rattle.apply_ast.specs.Trees.{OrderItem}
 use Rattle.apply_meaning.specs.Instances.{Instance, val}
+use Rattle.apply_meaning.specs.Running.{Returns}
 use Rattle.apply_meaning.specs.declared.refusals.RunRefused.{RunRefused}
-use Rattle.apply_meaning.specs.declared.refusals.RunRefused.TheVariants.{Range, Memory}
 
 -- the values of the items on an instance
 abbrev pub item_values : World → List OrderItem → Instance → List Value
@@ -37,15 +36,11 @@ has_beyond w items i = list_any is_beyond (item_values w items i)
 
 -- what the values of a row are, refused where one is `Beyond`
 abbrev pub GivesValues : result.Result (Vec Value) RunRefused → List Value → Type 0
-GivesValues (Ok v) vs = (v.items ≡ vs) × (list_any is_beyond vs ≡ false)
-GivesValues (Err Range) vs = list_any is_beyond vs ≡ true
-GivesValues (Err Memory) vs = Unit {0}
+GivesValues r vs = Returns (λ (v : Vec Value). (v.items ≡ vs) × (list_any is_beyond vs ≡ false)) (list_any is_beyond vs ≡ true) r
 
 -- the rows with their values, refused where one is `Beyond`
 abbrev pub GivesRanked : result.Result (Vec RankedRow) RunRefused → World → List OrderItem → List Instance → Type 0
-GivesRanked (Ok v) w items l = (v.items ≡ map (ranked w items) l) × (list_any (has_beyond w items) l ≡ false)
-GivesRanked (Err Range) w items l = list_any (has_beyond w items) l ≡ true
-GivesRanked (Err Memory) w items l = Unit {0}
+GivesRanked r w items l = Returns (λ (v : Vec RankedRow). (v.items ≡ map (ranked w items) l) × (list_any (has_beyond w items) l ≡ false)) (list_any (has_beyond w items) l ≡ true) r
 
 -- the first value of a list, null where there is none
 abbrev pub first_value : List Value → Value

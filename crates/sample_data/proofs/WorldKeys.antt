@@ -29,10 +29,6 @@ world_of_sales c g n amounts buyers sellers = record { model = sample_model; ent
 pub differ : (a b : Value) → (a ≡ b → ⊥) → same_value a b ≡ false
 differ a b h = elim (cases_Bool (same_value a b)) as (λ s. same_value a b ≡ false) [ inl same ↦ absurd (h (same_value_is a b same)) | inr not ↦ not ]
 
-text_of : Value → List ℕ
-text_of (Value.Text t) = t
-text_of _ = []
-
 pub names_differ : (letter i j : ℕ) → i < 2 ^ 64 → j < i → Value.Text (letter ∷ decimal i) ≡ Value.Text (letter ∷ decimal j) → ⊥
 names_differ letter i j small less e =
     let digits : decimal i ≡ decimal j = cc in

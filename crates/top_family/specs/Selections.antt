@@ -13,8 +13,12 @@ use Rattle.top_family.specs.declared.refusals.TopRefused.TheVariants.{Range, Mem
 abbrev pub seen_values : List Seen → List Value
 seen_values = map seen_value
 
+-- what was returned: what is right, or a refusal for the range where this holds; `Memory` says nothing
+abbrev pub Returns : {T : Type 0} → (T → Type 0) → Type 0 → result.Result T TopRefused → Type 0
+Returns IsRight refused (Ok x) = IsRight x
+Returns IsRight refused (Err Range) = refused
+Returns IsRight refused (Err Memory) = Unit {0}
+
 -- what a selection returned: the places that it takes, or a refusal where none are defined; `Memory` says nothing
 abbrev pub Takes : Option (List ℕ) → result.Result (Vec ℕ) TopRefused → Type 0
-Takes places (Ok v) = places ≡ Some v.items
-Takes places (Err Range) = places ≡ None
-Takes places (Err Memory) = Unit {0}
+Takes places r = Returns (λ (v : Vec ℕ). places ≡ Some v.items) (places ≡ None) r
