@@ -3,10 +3,8 @@ use Rattle.std.proofs.Common.{◌≡◌, ℕ, ◌<◌, refl, sym, ◌∙◌, ap,
 use Rattle.std.specs.Prelude.{filter_map, if◌then◌else◌, option_map}
 use Rattle.std.specs.Bool.{then_some}
 use Rattle.std.specs.List.{cons_option, list_any}
-use Rattle.std.proofs.lemmas.Bool.{or_left, or_right}
 use Rattle.std.proofs.lemmas.List.{map-append}
 use Rattle.std.proofs.lemmas.List.Elements.{All-cons, All-head, All-nil, All-tail}
-use Rattle.std.proofs.lemmas.List.Folds.{list_any-append}
 use Rattle.edm_values.proofs.ListFacts.{none-append}
 use Rattle.edm_values.specs.declared.Value.{Value}
 use Rattle.edm_values.specs.Lists.{at_places}
@@ -36,14 +34,6 @@ present-within n (o ∷ nodes) a = go o (All-head (λ x. IfSome x (λ y. y < n))
 
 values-joined : (w : World) (p : Path) (l starts : List Instance) → list_any is_beyond (path_values w p (l ++ starts)) ≡ list_any is_beyond (path_values w p l ++ path_values w p starts)
 values-joined w p l starts = ap (list_any is_beyond) (map-append (λ i. lookup w i p) l starts)
-
--- a value of an instance that is Beyond is one of all
-pub beyond-row : (w : World) (p : Path) (l starts : List Instance) → list_any is_beyond (path_values w p l) ≡ true → list_any is_beyond (path_values w p (l ++ starts)) ≡ true
-beyond-row w p l starts h = values-joined w p l starts ∙ list_any-append is_beyond (path_values w p l) (path_values w p starts) ∙ or_left _ _ h
-
--- and so is one of a start instance
-pub beyond-start : (w : World) (p : Path) (l starts : List Instance) → list_any is_beyond (path_values w p starts) ≡ true → list_any is_beyond (path_values w p (l ++ starts)) ≡ true
-beyond-start w p l starts h = values-joined w p l starts ∙ list_any-append is_beyond (path_values w p l) (path_values w p starts) ∙ or_right _ _ h
 
 -- the places that are kept of the nodes of the instances
 pub climb-gives : (w : World) (up : Bool) (f : HierarchyPlace) (p : Path) (limit : Option ℕ) (keep : Bool) (starts l : List Instance) (s : ℕ) (parents own first : List (Option ℕ)) (from ks : List ℕ)

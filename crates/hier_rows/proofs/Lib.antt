@@ -1,4 +1,5 @@
 pub mod ClimbLaws
+pub mod KeyLaws
 pub mod NodeLaws
 pub mod ShownLaws
 pub mod TraversalLaws

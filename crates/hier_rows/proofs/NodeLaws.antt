@@ -3,7 +3,6 @@ use Rattle.std.proofs.Common.{◌≡◌, ℕ, suc, ◌+◌, ◌<◌, ◌≤◌, 
 use Rattle.std.specs.Prelude.{option_map, position}
 use Rattle.std.specs.Bool.{then_some}
 use Rattle.std.specs.List.{list_any}
-use Rattle.std.specs.declared.result.Result.TheVariants.{Err}
 use Rattle.std.proofs.Math.ListN.{drop_of_length-le}
 use Rattle.std.proofs.lemmas.List.{append-nil, length-map}
 use Rattle.std.proofs.lemmas.List.Elements.{All-map}
@@ -22,11 +21,8 @@ use Rattle.apply_meaning.proofs.NodeLemmas.{rows_fit}
 use Rattle.apply_meaning.proofs.RunLemmas.{all-fit-of}
 use Rattle.apply_meaning.specs.Instances.{Instance, entity_instance, lookup, rows}
 use Rattle.apply_meaning.specs.Meaning.{node, refused_at_beyond}
-use Rattle.apply_meaning.specs.declared.refusals.RunRefused.{RunRefused}
-use Rattle.apply_meaning.specs.declared.refusals.RunRefused.TheVariants.{Range, Memory}
 use Rattle.apply_meaning.specs.Running.{all_of}
-use Rattle.hier_rows.specs.HierRows.{AreOptionsBelow, GivesFor, IsNodesOf, node_in, path_values}
-use Rattle.row_orders.specs.Ranks.{GivesNumbers}
+use Rattle.hier_rows.specs.HierRows.{AreOptionsBelow, IsNodesOf, node_in, path_values}
 
 -- ---- nodes
 
@@ -85,13 +81,3 @@ nodes-are w f s p l e = ap (λ s. map (node_in w s p) l) e
 -- where no value is Beyond nothing is refused
 pub not-refused : {A : Type 0} (vs : List Value) (x : A) → list_any is_beyond vs ≡ false → refused_at_beyond vs x ≡ Some x
 not-refused vs x h = ap (λ b. then_some (not b) x) h
-
--- where one is
-pub is-refused : {A : Type 0} (vs : List Value) (x : A) → list_any is_beyond vs ≡ true → refused_at_beyond vs x ≡ None
-is-refused vs x h = ap (λ b. then_some (not b) x) h
-
--- a refusal at some of the values is one at all of them
-pub refused-by : {T : Type 0} (IsRight : T → Type 0) (e : RunRefused) (us vs : List Value) (ks : List ℕ) → GivesFor IsRight us (Err e) → (list_any is_beyond us ≡ true → list_any is_beyond vs ≡ true)
-    → GivesNumbers (Err e) (refused_at_beyond vs ks)
-refused-by IsRight Range us vs ks h more = is-refused vs ks (more h)
-refused-by IsRight Memory us vs ks h more = tt

@@ -1,11 +1,11 @@
 -- The nodes that instances stand at, each once, and that they are nodes of the hierarchy.
-use Rattle.std.proofs.Common.{◌≡◌, ℕ, zero, suc, ◌+◌, ◌<◌, refl, sym, ◌∙◌, ap, subst, Bool, true, false, ◌||◌, not, List, [], ◌∷◌, ◌++◌, length, map, replicate, take, get_or, Option, Some, None, IfSome, ⊎_elim, arith, get_or-set_same, get_or-set_other}
+use Rattle.std.proofs.Common.{◌≡◌, ℕ, zero, suc, ◌+◌, ◌<◌, refl, sym, ◌∙◌, ap, subst, Bool, true, false, ◌||◌, not, List, [], ◌∷◌, ◌++◌, length, map, take, get_or, Option, Some, None, IfSome, ⊎_elim, arith, get_or-set_same, get_or-set_other}
 use Rattle.std.specs.Prelude.{filter_map, if◌then◌else◌, nat_eq, nat_lt, option_and_then, option_map, slice_get, slice_index_or, slice_set, unwrap_or}
 use Rattle.std.specs.Bool.{then_some}
 use Rattle.std.specs.List.{cons_option, list_all, list_any}
 use Rattle.std.proofs.lemmas.Bool.{and_parts, cases_eq, eq-eqb, eqb-true, lt-ltb, ltb-true, ne_eqb, or_left, or_right}
 use Rattle.std.proofs.Math.Bool.{or-false}
-use Rattle.std.proofs.lemmas.List.{get_or-replicate, length-replicate, length-set, take_more}
+use Rattle.std.proofs.lemmas.List.{length-set, take_more}
 use Rattle.std.proofs.lemmas.List.Folds.{list_any-append}
 use Rattle.std.proofs.lemmas.Option.{slice_get-get_or, slice_get_within}
 use Rattle.std.proofs.lemmas.List.Elements.{All-cons, All-head, All-nil, All-tail}
@@ -75,9 +75,6 @@ AreMarked n found marks = (length marks ≡ n) × ((x : ℕ) → x < n → slice
 -- a mark that is there is read whatever stands for one that is not
 pub mark-there : (marks : List Bool) (x : ℕ) (d : Bool) → x < length marks → slice_index_or marks x false ≡ slice_index_or marks x d
 mark-there marks x d h = some_value (sym (slice_get-get_or marks x false h) ∙ slice_get-get_or marks x d h)
-
-pub marks-none : (n : ℕ) → AreMarked n [] (replicate n false)
-marks-none n = (length-replicate n false, λ x h. get_or-replicate n x false false h)
 
 -- a node is marked and is found from then on
 pub marks-fresh : (n : ℕ) (found : List ℕ) (marks : List Bool) (x : ℕ) → AreMarked n found marks → x < n → AreMarked n (found ++ x ∷ []) (slice_set marks x true)

@@ -1,12 +1,12 @@
 -- The places that a traversal lists: they are those of the nodes of the instances by the ranks of the nodes, and the instances there are what the traversal means.
-use Rattle.std.proofs.Common.{◌≡◌, ℕ, zero, suc, ◌≤◌, refl, sym, ◌∙◌, ap, Bool, true, false, not, List, [], ◌∷◌, ◌++◌, length, map, replicate, Option, Some, arith}
+use Rattle.std.proofs.Common.{◌≡◌, ℕ, zero, suc, ◌≤◌, refl, sym, ◌∙◌, ap, Bool, true, false, not, List, [], ◌∷◌, ◌++◌, length, map, replicate, Option, Some, None, Err, arith}
 use Rattle.std.specs.Prelude.{◌==◌, count_by, nat_eq, nat_lt, option_map}
+use Rattle.std.specs.Bool.{then_some}
 use Rattle.std.specs.List.{list_all, list_any}
-use Rattle.std.proofs.lemmas.Bool.{and_from, eqb-true, lt-ltb, not-true, or_left, or_right}
-use Rattle.std.proofs.lemmas.List.{length-map}
+use Rattle.std.proofs.lemmas.Bool.{and_from, eqb-true, lt-ltb, not-true, or_right}
 use Rattle.std.proofs.lemmas.List.Folds.{list_any-append}
 use Rattle.edm_values.proofs.ListFacts.{all-any, all-append, all-filter, all-flat_map, none-append}
-use Rattle.edm_values.proofs.OptionFacts.{then_some-parts}
+use Rattle.edm_values.proofs.OptionFacts.{none_or, then_some-parts}
 use Rattle.edm_values.specs.declared.Value.{Value}
 use Rattle.edm_values.specs.Lists.{at_places, places}
 use Rattle.edm_values.specs.Values.{is_beyond}
@@ -14,13 +14,15 @@ use Rattle.edm_model.specs.LookUps.{HierarchyPlace}
 use Rattle.edm_data.specs.Hierarchies.{rows_whose, traversed_rows, walk}
 use Rattle.edm_data.specs.References.{count}
 use Rattle.edm_data.specs.Worlds.{World}
-use Rattle.apply_ast.specs.Trees.{OrderItem, TraverseStep}
+use Rattle.apply_ast.specs.Trees.{TraverseStep}
 use Rattle.apply_ast.specs.Views.{item_of}
 use Rattle.apply_ast.specs.declared.items.OrderItem as of_item
 use Rattle.apply_meaning.specs.Instances.{Instance, lookup, rows}
-use Rattle.apply_meaning.specs.Meaning.{node, node_ranks, order_before, order_values, refused_at_beyond, traversed}
-use Rattle.row_orders.specs.Ranks.{ranks}
-use Rattle.hier_rows.specs.HierRows.{IsNodesOf, node_in, path_values, traverse_outcome}
+use Rattle.apply_meaning.specs.Meaning.{node, node_ranks, order_values, refused_at_beyond, traversed}
+use Rattle.apply_meaning.specs.declared.refusals.RunRefused.{RunRefused}
+use Rattle.apply_meaning.specs.declared.refusals.RunRefused.TheVariants.{Range, Memory}
+use Rattle.row_orders.specs.Ranks.{GivesNumbers, ranks}
+use Rattle.hier_rows.specs.HierRows.{IsNodesOf, node_in, path_values, traverse_outcome, traversed_places}
 use Rattle.hier_rows.proofs.ClimbLaws.{refused-mapped}
 use Rattle.hier_rows.proofs.NodeLaws.{nodes-are, not-refused, rows-count}
 
@@ -50,11 +52,6 @@ ranks-empty w s items zeros e z =
     ap (λ is. refused_at_beyond (order_values w (map item_of is) (rows w s)) (ranks w (map item_of is) (rows w s))) (nothing-is items e)
     ∙ ap (λ x. Some x) (ranks-none w s ∙ sym z)
 
--- there is a rank for each node
-pub ranks-count : (w : World) (xs : List OrderItem) (s : ℕ) (rank : List ℕ) → refused_at_beyond (order_values w xs (rows w s)) (ranks w xs (rows w s)) ≡ Some rank → length rank ≡ count w s
-ranks-count w xs s rank e =
-    sym (ap length (then_some-parts _ (ranks w xs (rows w s)) rank e).1) ∙ length-map (rows w s) (λ i. count_by (λ j. order_before w xs j i) (rows w s)) ∙ rows-count w s
-
 -- ---- places
 
 -- each of the first n places is before m
@@ -70,18 +67,14 @@ traversed-within post parents rank nodes n e =
 
 -- ---- the value of a traversal
 
+-- where something is refused, a value is Beyond
+refused-beyond : {X : Type 0} (beyond : Bool) (x : X) → then_some (not beyond) x ≡ None → beyond ≡ true
+refused-beyond true x e = refl
+refused-beyond false x e = none_or x (sym e)
+
 module _ (w : World) (f : HierarchyPlace) (t : TraverseStep) (l : List Instance) where
   abbrev all-values : List Value
   all-values = path_values w t.path l ++ order_values w t.items (rows w f.set)
-
-  -- a value of an instance that is Beyond is one of all
-  pub beyond-path : list_any is_beyond (path_values w t.path l) ≡ true → list_any is_beyond all-values ≡ true
-  beyond-path h = list_any-append is_beyond (path_values w t.path l) (order_values w t.items (rows w f.set)) ∙ or_left _ _ h
-
-  -- and so is one of an item on a node
-  pub beyond-item : (s : ℕ) → s ≡ f.set → list_any is_beyond (order_values w t.items (rows w s)) ≡ true → list_any is_beyond all-values ≡ true
-  beyond-item s e h =
-      list_any-append is_beyond (path_values w t.path l) (order_values w t.items (rows w f.set)) ∙ or_right _ _ (ap (λ s. list_any is_beyond (order_values w t.items (rows w s))) (sym e) ∙ h)
 
   -- the places that are listed of the nodes of the instances, by the ranks of the nodes
   pub traverse-gives : (s : ℕ) (parents own : List (Option ℕ)) (rank ks : List ℕ) → IsNodesOf w f s parents → own ≡ map (node_in w s t.path) l → list_any is_beyond (path_values w t.path l) ≡ false
@@ -93,6 +86,13 @@ module _ (w : World) (f : HierarchyPlace) (t : TraverseStep) (l : List Instance)
       let own-is : own ≡ map (node w f t.path) l = o ∙ nodes-are w f s t.path l N.0 in
       not-refused all-values _ (none-append is_beyond (path_values w t.path l) (order_values w t.items (rows w f.set)) quiet-own quiet-items)
       ∙ sym (ap (λ z. Some z) (k ∙ (λ i. traversed_rows t.post (N.1 i) (rank-is i) (own-is i))))
+
+  -- where the ranks of the nodes are refused, so is the traversal
+  pub traverse-refused : (e : RunRefused) (s : ℕ) (parents : List (Option ℕ)) (rank : List ℕ) → IsNodesOf w f s parents → GivesNumbers (Err e) (refused_at_beyond (order_values w t.items (rows w s)) rank) → GivesNumbers (Err e) (traverse_outcome w f t l)
+  traverse-refused Range s parents rank N h =
+      let item : list_any is_beyond (order_values w t.items (rows w f.set)) ≡ true = ap (λ s. list_any is_beyond (order_values w t.items (rows w s))) (sym N.0) ∙ refused-beyond _ rank h in
+      ap (λ beyond. then_some (not beyond) (traversed_places w f t l)) (list_any-append is_beyond (path_values w t.path l) (order_values w t.items (rows w f.set)) ∙ or_right _ _ item)
+  traverse-refused Memory s parents rank N h = tt
 
 -- what a traversal means is the instances at the places that are listed
 pub traverse-mean : (w : World) (f : HierarchyPlace) (t : TraverseStep) (l : List Instance)

@@ -1,7 +1,6 @@
 -- Rows by their nodes in a hierarchy (Data Aggregation 4.0, section 6), and what calls over them return.
 use Rattle.std.specs.Prelude.{ℕ, ◌≡◌, ◌<◌, ◌++◌, true, false, Bool, List, map, filter_map, Option, IfSome, option_map, if◌then◌else◌}
 use Rattle.std.specs.declared.result.Result as result
-use Rattle.std.specs.declared.result.Result.TheVariants.{Ok, Err}
 use Rattle.std.specs.List.{All, list_any}
 use Rattle.edm_values.specs.declared.Value.{Value}
 use Rattle.edm_values.specs.Names.{Path}
@@ -14,8 +13,8 @@ use Rattle.edm_data.specs.Worlds.{World}
 use Rattle.apply_ast.specs.Trees.{TraverseStep}
 use Rattle.apply_meaning.specs.Instances.{Instance, lookup, root_of, rows}
 use Rattle.apply_meaning.specs.Meaning.{node, node_ranks, order_values, refused_at_beyond}
+use Rattle.apply_meaning.specs.Running.{Returns}
 use Rattle.apply_meaning.specs.declared.refusals.RunRefused.{RunRefused}
-use Rattle.apply_meaning.specs.declared.refusals.RunRefused.TheVariants.{Range, Memory}
 
 -- ---- nodes
 
@@ -47,15 +46,11 @@ AreRootsBelow count l = All (λ i. IfSome (root_of i) (λ e. e.at < count)) l
 
 -- of instances whose values at a path are these: something, or a refusal where one is Beyond
 abbrev pub GivesFor : {T : Type 0} → (T → Type 0) → List Value → result.Result T RunRefused → Type 0
-GivesFor IsRight vs (Ok v) = IsRight v × (list_any is_beyond vs ≡ false)
-GivesFor IsRight vs (Err Range) = list_any is_beyond vs ≡ true
-GivesFor IsRight vs (Err Memory) = Unit {0}
+GivesFor IsRight vs r = Returns (λ v. IsRight v × (list_any is_beyond vs ≡ false)) (list_any is_beyond vs ≡ true) r
 
 -- of one instance: its node, or a refusal where the value of the path is Beyond
 abbrev pub GivesNode : World → ℕ → Path → Instance → result.Result (Option ℕ) RunRefused → Type 0
-GivesNode w s p i (Ok n) = (n ≡ node_in w s p i) × (is_beyond (lookup w i p) ≡ false)
-GivesNode w s p i (Err Range) = is_beyond (lookup w i p) ≡ true
-GivesNode w s p i (Err Memory) = Unit {0}
+GivesNode w s p i r = Returns (λ (n : Option ℕ). (n ≡ node_in w s p i) × (is_beyond (lookup w i p) ≡ false)) (is_beyond (lookup w i p) ≡ true) r
 
 -- ---- places of rows
 

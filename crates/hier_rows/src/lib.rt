@@ -3,7 +3,8 @@
 //! What the transformations over hierarchies take of rows: `nodes_of` finds the node of each row, `climb_places` the places of
 //! the rows that an `ancestors` or `descendants` keeps, and `traverse_places` those of the rows that a `traverse` lists.
 //! `shown_nodes` gives the nodes that rows stand at, `all_nodes` all of them, and `identifier` the key of a node. `nodes` looks
-//! up nodes by their keys, `climbs` and `traversals` hand them on to `hier_traverse`, and `shown` marks nodes.
+//! up nodes by their keys, `tried_nodes` has those that are tried first, `climbs` and `traversals` hand them on to
+//! `hier_traverse`, and `shown` marks nodes.
 //!
 //! The crate stands on `hier_states` for the nodes of a hierarchy that is named, on `hier_index` and `hier_traverse` for indexes
 //! and for rows by their nodes, on `row_orders` for the ranks of nodes, on `apply_meaning` for rows, the values of paths and the
@@ -18,6 +19,7 @@ mod climbs;
 mod nodes;
 mod shown;
 mod traversals;
+mod tried_nodes;
 
 pub use climbs::climb_places;
 pub use nodes::{identifier, nodes_of};

@@ -7,6 +7,7 @@ ghost use Rattle.apply_meaning.specs.RowViews.{is_of};
 ghost use Rattle.apply_meaning.specs.Running.{all_of};
 ghost use Rattle.hier_rows.specs.HierRows.{AreOptionsBelow, GivesFor, GivesNode, node_in, path_values};
 
+use crate::tried_nodes::{Tried, node_with, tried_for};
 use apply_ast::Path;
 use apply_meaning::{Row, RunRefused, lookup};
 use edm_data::{Data, EntityRef};
@@ -15,14 +16,20 @@ use edm_values::{Seen, Value};
 use std::alloc::{AllocError, Global};
 
 /// The node of a row.
-fn node_of(store: &Data, set: SetId, path: &Path, row: &Row) -> Result<Option<u32>, RunRefused>
+fn node_of(
+    store: &Data,
+    set: SetId,
+    path: &Path,
+    tried: Tried,
+    row: &Row,
+) -> Result<Option<u32>, RunRefused>
     requires set { IsSet store.now.model set }
     requires of { IsTrue (is_of store.now row.now) }
     ensures { GivesNode store.now set path.now row.now result }
 {
     match lookup(store, row, path) {
         Seen::Beyond => Err(RunRefused::Range),
-        value => Ok(store.by_key(set, value).map(|node| node.at)),
+        value => Ok(node_with(store, set, value, tried, row)),
     }
 }
 
@@ -39,9 +46,10 @@ pub fn nodes_of(
     ensures nodes { GivesFor (λ v. v.items ≡ map (node_in store.now set path.now) rows.now) (path_values store.now path.now rows.now) result }
     ensures within { IfOk result (λ v. AreOptionsBelow (count store.now set) v.items) }
 {
+    let tried = tried_for(store, set, path, rows);
     let mut nodes = Vec::with_capacity(alloc, rows.len())?;
     for row in rows {
-        nodes.push(node_of(store, set, path, row)?)?;
+        nodes.push(node_of(store, set, path, tried, row)?)?;
     }
     Ok(nodes)
 }

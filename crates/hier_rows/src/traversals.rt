@@ -46,6 +46,7 @@ fn node_ranks<L: Ledger>(
     requires { IsSet store.now.model set }
     ensures ranks { let xs = map item_of items.now in let l = rows_in store.now set in GivesNumbers result (refused_at_beyond (order_values store.now xs l) (ranks store.now xs l)) }
     ensures steps { steps.new ≤ steps.old + (if is_nonempty items.now then count store.now set else 0) }
+    ensures grown { steps.old ≤ steps.new }
 {
     let size = store.count(set);
     if items.as_slice().is_empty() {
@@ -71,6 +72,7 @@ pub fn traverse_places<L: Ledger>(
     ensures value { (f : HierarchyPlace) → IsNodesOf store.now f nodes.entry.set nodes.entry.index.now → GivesNumbers result (traverse_outcome store.now f (traverse_of walk.now) rows.now) }
     ensures within { IfOk result (λ v. IsTrue (list_all (λ k. nat_lt k (length rows.now)) v.items)) }
     ensures steps { steps.new ≤ steps.old + (if is_nonempty (traverse_of walk.now).items then count store.now nodes.entry.set else 0) }
+    ensures grown { steps.old ≤ steps.new }
 {
     let own = nodes_of(alloc, store, nodes.set, &walk.path, rows)?;
     let rank = node_ranks(alloc, store, nodes.set, &walk.items, steps)?;

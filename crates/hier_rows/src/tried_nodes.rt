@@ -1,0 +1,126 @@
+//! Nodes that are tried for rows before all keys are searched.
+//!
+//! Where a path is the key of the nodes, a row's node is the row's own entity; where it is the property by which rows refer to
+//! nodes, it is what the row's entity refers to, which the data keeps. A node that is tried is taken only where it has the key.
+ghost use Rattle.std.specs.Prelude.{◌≡◌, Some, true, IsTrue, option_map};
+ghost use Rattle.edm_model.specs.LookUps.{IsNavigation, IsSet};
+ghost use Rattle.edm_values.specs.Values.{seen_value};
+ghost use Rattle.edm_data.specs.References.{by_key};
+ghost use Rattle.edm_data.specs.Worlds.{entity_at};
+ghost use Rattle.apply_meaning.specs.Running.{all_of};
+
+use apply_ast::{Name, Path};
+use apply_meaning::Row;
+use edm_data::{Data, EntityRef};
+use edm_model::{Model, NavId, PropId, SetId};
+use edm_values::{Seen, order};
+
+/// Which node is tried for each row.
+#[derive(Clone, Copy, Drop)]
+pub(crate) enum Tried {
+    /// None.
+    Nothing,
+    /// The row's own entity.
+    Own,
+    /// What the row's entity refers to by this navigation property.
+    Reference(NavId),
+}
+
+/// Whether entities refer to those of a set by this property and this navigation.
+fn refers(model: &Model, nav: NavId, by: PropId, set: SetId) -> bool
+    requires { IsNavigation model.now nav }
+{
+    if model.nav_many(nav) {
+        return false;
+    }
+    model.nav_dependent(nav) == by && model.type_set(model.nav_target(nav)) == set
+}
+
+/// The navigation by which the entities of a set refer to those of another through this property.
+fn reference(store: &Data, of: SetId, by: PropId, set: SetId) -> Option<NavId>
+    requires { IsSet store.now.model of }
+{
+    let model = store.model();
+    for nav in model.navs(model.set_type(of)) {
+        if refers(model, *nav, by, set) {
+            return Some(*nav);
+        }
+    }
+    None
+}
+
+/// Which node is tried for rows that stand at entities of a set and whose path is this name.
+fn tried_at(store: &Data, of: SetId, name: &Name, set: SetId) -> Tried
+    requires { IsSet store.now.model of }
+{
+    let model = store.model();
+    let kind = model.set_type(of);
+    let Some(by) = model.prop_named(kind, name.text()) else {
+        return Tried::Nothing;
+    };
+    if of == set && model.key_of(kind) == by {
+        return Tried::Own;
+    }
+    match reference(store, of, by, set) {
+        Some(nav) => Tried::Reference(nav),
+        None => Tried::Nothing,
+    }
+}
+
+/// Which node is tried for each of these rows, by the entity that the first of them stands at.
+pub(crate) fn tried_for(store: &Data, set: SetId, path: &Path, rows: &[Row]) -> Tried
+    requires { IsTrue (all_of store.now rows.now) }
+{
+    let [name] = path.names() else {
+        return Tried::Nothing;
+    };
+    let Some(row) = rows.first() else {
+        return Tried::Nothing;
+    };
+    match row.root() {
+        Some(e) => tried_at(store, e.set, name, set),
+        None => Tried::Nothing,
+    }
+}
+
+/// Whether this node is the one that has this key.
+fn has_key(store: &Data, set: SetId, node: u32, key: Seen<'_>) -> bool
+    requires { IsSet store.now.model set }
+    ensures { result ≡ true → by_key store.now set (seen_value key.entry) ≡ Some (entity_at set node) }
+{
+    if node >= store.count(set) {
+        return false;
+    }
+    let model = store.model();
+    let place = model.key_of(model.set_type(set));
+    order(key, store.property(EntityRef { set, at: node }, place)).is_eq()
+}
+
+/// The node that is tried for a row.
+fn node_tried(store: &Data, tried: Tried, row: &Row) -> Option<u32> {
+    let e = row.root()?;
+    match tried {
+        Tried::Nothing => None,
+        Tried::Own => Some(e.at),
+        Tried::Reference(nav) => store.follow(e, nav).map(|to| to.at),
+    }
+}
+
+/// The node that has this key.
+pub(crate) fn node_with(
+    store: &Data,
+    set: SetId,
+    key: Seen<'_>,
+    tried: Tried,
+    row: &Row,
+) -> Option<u32>
+    requires { IsSet store.now.model set }
+    ensures { result ≡ option_map (λ e. e.at) (by_key store.now set (seen_value key.entry)) }
+{
+    if let Some(node) = node_tried(store, tried, row) {
+        if has_key(store, set, node, key) {
+            return Some(node);
+        }
+    }
+    store.by_key(set, key).map(|node| node.at)
+}
