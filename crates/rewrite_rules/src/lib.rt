@@ -1,12 +1,22 @@
-//! Rules that rewrite pipelines, the plan that they lead to, and the laws of both: a rewritten pipeline has the shape and the
-//! meaning that it had, rewriting ends, and a plan is one and settled. The code that finds a rule's first place is to come; until
-//! then nothing is rewritten.
+//! Rules that rewrite pipelines, each at its first place in a typed pipeline.
+//!
+//! `rules` has the rules at one place, `places` the walk over the places of a pipeline, once for all rules, and `first` the calls.
+//! `forms` reads the steps that rules look for, `filters` finds the nearest filter that may pass a step, `same` compares
+//! expressions, `shapes` types the steps before a place, `made` puts together the steps that a rule makes, and `trees` copies what
+//! stands beside them.
+//!
+//! A call gives exactly what the rule makes at its first place, which may stand for the pipeline that it was given, and nothing
+//! where the rule applies at no place. The definitions of the rules and their laws are those of `rewrite_laws`.
 #![tactic(auto)]
 
-mod laws;
+mod filters;
+mod first;
+mod forms;
+mod made;
+mod places;
+mod rules;
+mod same;
+mod shapes;
+mod trees;
 
-pub use laws::{
-    first_rewrites_keep_meaning, plan_exists, plan_is_settled, plan_is_unique, plan_keeps_meaning,
-    replacement_keeps_meaning, results_are_typed, rewrites_are_counted, rewrites_are_smaller,
-    rewriting_ends, rules_keep_meaning,
-};
+pub use first::{rule_1, rule_2, rule_3, rule_4, rule_5, rule_13, rule_14};

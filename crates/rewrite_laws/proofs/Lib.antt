@@ -1,0 +1,47 @@
+mod MeasureRows
+mod PlanRows
+mod RuleRows
+pub mod BranchRule
+pub mod Branches
+pub mod ClimbRule
+pub mod ComputeFacts
+pub mod ComputeRule
+pub mod CountRule
+pub mod EndedPipes
+pub mod ExprPaths
+pub mod FactorRule
+pub mod FilterRuns
+pub mod GroupRules
+pub mod GroupingRules
+pub mod InnerLaws
+pub mod JoinRules
+pub mod JoinedResults
+pub mod ListOrders
+pub mod NodeKeys
+pub mod NodeLookups
+pub mod NodeRule
+pub mod OneMeaning
+pub mod OrderRules
+pub mod PlanEnds
+pub mod PlanLaws
+pub mod PlanMeaning
+pub mod RelatedLookups
+pub mod RelatedRule
+pub mod Replacement
+pub mod RewritesSmaller
+pub mod Rising
+pub mod RuleLemmas
+pub mod RulesInPlace
+pub mod RunWeights
+pub mod SameExpressions
+pub mod SameTrees
+pub mod Smaller
+pub mod SmallerInside
+pub mod SmallerNeighbours
+pub mod SmallerNodes
+pub mod SmallerPlaces
+pub mod SplitRule
+pub mod StepLists
+pub mod TraverseRule
+pub mod TypedBranches
+pub mod WorldForms

@@ -1,0 +1,5 @@
+use Rattle.rewrite_laws.proofs.PlanLaws.{plan_is_settled}
+use Rattle.rewrite_laws.proofs.laws.plan_is_settled.Goals as goal
+
+pub returns : goal.returns
+returns c = record { law = plan_is_settled }

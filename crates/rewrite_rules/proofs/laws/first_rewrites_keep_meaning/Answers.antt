@@ -1,5 +1,0 @@
-use Rattle.rewrite_rules.proofs.OneMeaning.{loaded-firsts}
-use Rattle.rewrite_rules.proofs.laws.first_rewrites_keep_meaning.Goals as goal
-
-pub returns : goal.returns
-returns c = record { law = loaded-firsts }

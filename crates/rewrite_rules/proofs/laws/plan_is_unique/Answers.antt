@@ -1,5 +1,0 @@
-use Rattle.rewrite_rules.proofs.PlanLaws.{plan_is_unique}
-use Rattle.rewrite_rules.proofs.laws.plan_is_unique.Goals as goal
-
-pub returns : goal.returns
-returns c = record { law = plan_is_unique }

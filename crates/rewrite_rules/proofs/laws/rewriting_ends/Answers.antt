@@ -1,5 +1,0 @@
-use Rattle.rewrite_rules.proofs.PlanEnds.{rewriting_ends}
-use Rattle.rewrite_rules.proofs.laws.rewriting_ends.Goals as goal
-
-pub returns : goal.returns
-returns c = record { law = rewriting_ends }

@@ -1,0 +1,67 @@
+//! The steps that rules put together.
+ghost use Rattle.std.specs.Prelude.{◌≡◌, ◌<◌, ◌∷◌, IfOk, length, map};
+ghost use Rattle.apply_ast.specs.Views.{expr_of, step_of};
+ghost use Rattle.rewrite_rules.specs.Forms.{count_to};
+
+use crate::trees::put_copies;
+use apply_ast::{Expr, Limit, Step, TopStep};
+use std::alloc::{AllocError, Global};
+
+/// Copies of steps.
+pub(crate) fn copies(alloc: Global, rest: &[Step]) -> Result<Vec<Step>, AllocError>
+    ensures { IfOk result (λ v. map step_of v.items ≡ map step_of rest.now) }
+{
+    let mut made = Vec::new(alloc);
+    put_copies(&mut made, alloc, rest)?;
+    Ok(made)
+}
+
+/// A step, and copies of others behind it.
+pub(crate) fn before_copies(
+    alloc: Global,
+    step: Step,
+    rest: &[Step],
+) -> Result<Vec<Step>, AllocError>
+    ensures value { IfOk result (λ v. map step_of v.items ≡ step_of step ∷ map step_of rest.now) }
+    ensures some { IfOk result (λ v. 0 < length v.items) }
+{
+    let mut made = Vec::new(alloc);
+    made.push(step)?;
+    put_copies(&mut made, alloc, rest)?;
+    Ok(made)
+}
+
+/// Two steps, and copies of others behind them.
+pub(crate) fn two_before_copies(
+    alloc: Global,
+    first: Step,
+    second: Step,
+    rest: &[Step],
+) -> Result<Vec<Step>, AllocError>
+    ensures value { IfOk result (λ v. map step_of v.items ≡ step_of first ∷ step_of second ∷ map step_of rest.now) }
+    ensures some { IfOk result (λ v. 0 < length v.items) }
+{
+    let mut made = Vec::new(alloc);
+    made.push(first)?;
+    made.push(second)?;
+    put_copies(&mut made, alloc, rest)?;
+    Ok(made)
+}
+
+/// The count of so many by an expression, and copies of other steps behind it.
+pub(crate) fn count_before_copies(
+    alloc: Global,
+    n: u64,
+    by: &Expr,
+    rest: &[Step],
+) -> Result<Vec<Step>, AllocError>
+    ensures value { IfOk result (λ v. map step_of v.items ≡ count_to n (expr_of by.now) ∷ map step_of rest.now) }
+    ensures some { IfOk result (λ v. 0 < length v.items) }
+{
+    let top = TopStep {
+        bottom: false,
+        limit: Limit::Count(n),
+        expr: by.copy(alloc)?,
+    };
+    before_copies(alloc, Step::TopBy(top), rest)
+}
