@@ -14,7 +14,7 @@ use Rattle.edm_data.specs.Worlds.{World, all_places}
 use Rattle.edm_data.specs.DataFile.{DataReading, data_limit, data_reading, entities_reading, entities_in_tree, object_reading, rows_reading, items_of_sets, world_of, is_no_entity, is_set_member, keys_reading, has_earlier_key, references_reading, is_dangling, with_world, unless_found}
 use Rattle.context_typing.specs.Typing.{Customs}
 use Rattle.apply_load.specs.Transfers.{IsRead}
-use Rattle.apply_load.specs.CustomReadings.{AreCustoms}
+use Rattle.apply_store.specs.CustomReadings.{AreCustoms}
 use Rattle.apply_load.specs.Loads.{FileNames, Outcome, Missing, RefusedModel, RefusedData, Loaded, untyped, typed, data_outcome, judged_data, IsModelOutcome, IsReadingOutcome, IsPairOutcome, IsFilesOutcome, FilesMake, MakesModel, RefusesModel, RefusesCustom, MakesWorld, RefusesData, Lacks}
 use Rattle.apply_load.proofs.Fronts.{kept_files}
 
@@ -29,15 +29,6 @@ module _ (limit : ℕ) where
   long_data m file is long =
       let past : nat_lt data_limit (length file) ≡ true = grind (arith, nat_tests) in rw past refl
 
-  same_model : (t : Bool) (bytes file : List ℕ) → limit ≡ model_limit → nat_lt limit (length file) ≡ t → bytes ≡ take (limit + 1) file → model_reading file ≡ model_reading bytes
-  same_model false bytes file is short e =
-      let within : length file ≤ limit + 1 = grind (arith, nat_tests) in
-      ap model_reading (sym (e ∙ take_all (limit + 1) file within))
-  same_model true bytes file is long e =
-      let past : limit < length file = grind (arith, nat_tests) in
-      let size : length bytes ≡ length (take (limit + 1) file) = ap length e in
-      long_model file is past ∙ sym (long_model bytes is (omega (arith, length-take (limit + 1) file)))
-
   same_data : (m : Model) (t : Bool) (bytes file : List ℕ) → limit ≡ data_limit → nat_lt limit (length file) ≡ t → bytes ≡ take (limit + 1) file → data_reading m file ≡ data_reading m bytes
   same_data m false bytes file is short e =
       let within : length file ≤ limit + 1 = grind (arith, nat_tests) in
@@ -46,21 +37,6 @@ module _ (limit : ℕ) where
       let past : limit < length file = grind (arith, nat_tests) in
       let size : length bytes ≡ length (take (limit + 1) file) = ap length e in
       long_data m file is past ∙ sym (long_data m bytes is (omega (arith, length-take (limit + 1) file)))
-
-  pub MakesModel-read : (told : Option Files) (name bytes : List ℕ) (m : Model) → limit ≡ model_limit → IsRead limit told name bytes → model_reading bytes ≡ ModelReading.Model' m → MakesModel told name m
-  MakesModel-read told name bytes m is h e = record {
-    makes = λ files t.
-        let f = h.whole files t in
-        (f.0, f.1, same_model (nat_lt limit (length f.0)) bytes f.0 is refl f.2 ∙ e);
-  }
-
-  pub RefusesModel-read : (told : Option Files) (name bytes line : List ℕ) (reading : ModelReading) → limit ≡ model_limit → IsRead limit told name bytes → model_reading bytes ≡ reading → ((entities : Option (List ℕ)) → IsReadingOutcome reading entities (RefusedModel line)) → RefusesModel told name line
-  RefusesModel-read told name bytes line reading is h e judged = record {
-    refuses = λ files entities t.
-        let f = h.whole files t in
-        let P : ModelReading → Type 0 = λ r. IsReadingOutcome r entities (RefusedModel line) in
-        (f.0, f.1, subst P (sym (same_model (nat_lt limit (length f.0)) bytes f.0 is refl f.2 ∙ e)) (judged entities));
-  }
 
   pub MakesWorld-read : (told : Option Files) (name bytes : List ℕ) (m : Model) (w : World) → limit ≡ data_limit → IsRead limit told name bytes → data_reading m bytes ≡ DataReading.World' w → MakesWorld told name m w
   MakesWorld-read told name bytes m w is h e = record {
@@ -79,13 +55,6 @@ module _ (limit : ℕ) where
 -- ---- both files
 
 module _ (a b : Option Files) (names : FileNames) where
-  pub FilesMake-no_model : Lacks a names.model → FilesMake a names Missing
-  FilesMake-no_model h = record {
-    make = λ files t.
-        let P : Option (List ℕ) → Type 0 = λ f. IsPairOutcome f (content files names.entities) Missing in
-        subst P (sym (h.lacks files t)) refl;
-  }
-
   pub FilesMake-refused_model : (line : List ℕ) → RefusesModel a names.model line → FilesMake a names (RefusedModel line)
   FilesMake-refused_model line h = record {
     make = λ files t.

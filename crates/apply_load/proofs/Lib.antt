@@ -1,8 +1,5 @@
-pub mod FirstCustoms
 mod Beside
-mod CustomsRead
 mod Fronts
 mod FilesRead
-mod Named
 pub mod OneOutcome
 mod SetNames

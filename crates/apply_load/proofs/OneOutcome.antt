@@ -11,9 +11,9 @@ use Rattle.apply_grammar.specs.Limits.{PathText}
 use Rattle.apply_grammar.proofs.ExprWhole.{path_text_read}
 use Rattle.apply_grammar.proofs.OneTree.{one_expr}
 use Rattle.context_typing.specs.Typing.{Customs, Reading}
-use Rattle.apply_load.specs.CustomReadings.{AreCustoms, IsTypedReading}
+use Rattle.apply_store.specs.CustomReadings.{AreCustoms, IsTypedReading}
 use Rattle.apply_load.specs.Loads.{FileNames, Outcome, Missing, RefusedModel, RefusedData, Loaded, untyped, typed, data_outcome, IsModelOutcome, IsReadingOutcome, IsPairOutcome, IsFilesOutcome}
-use Rattle.apply_load.proofs.FirstCustoms.{not_both}
+use Rattle.apply_store.proofs.FirstCustoms.{not_both}
 
 -- ---- readings
 

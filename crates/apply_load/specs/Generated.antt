@@ -3,7 +3,7 @@ use Rattle.std.specs.Prelude.{◌≡◌, ℕ}
 use Rattle.edm_data.specs.Worlds.{World}
 use Rattle.sample_data.specs.Generator.{generated_world}
 use Rattle.context_typing.specs.Typing.{Customs}
-use Rattle.apply_load.specs.CustomReadings.{AreCustoms}
+use Rattle.apply_store.specs.CustomReadings.{AreCustoms}
 
 -- it is the world of so many sales, and these are readings of its custom aggregates
 pub record IsGenerated (count : ℕ) (w : World) (c : Customs) : Type 0 where

@@ -1,10 +1,7 @@
 pub mod Checks
-pub mod CustomReadings
 pub mod DataRefusals
-pub mod FirstCustoms
 pub mod Generated
 pub mod LoadStops
 pub mod Loads
 pub mod RefusedFiles
-pub mod Stores
 pub mod Transfers

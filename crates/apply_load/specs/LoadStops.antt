@@ -5,8 +5,8 @@ use Rattle.apply_io.specs.Files.{Files}
 use Rattle.edm_model.specs.Models.{Model}
 use Rattle.apply_load.specs.Loads.{FileNames, RefusedModel, RefusedData, FilesMake, RefusesModel, RefusesCustom, RefusesData}
 use Rattle.line_stream.specs.Outputs.{bytes_of}
-use Rattle.apply_load.specs.FirstCustoms.{IfRefused}
 use Rattle.apply_load.specs.declared.customs.CustomStop.{CustomStop}
+use Rattle.apply_load.specs.declared.customs.CustomStop.TheVariants as stop
 use Rattle.apply_load.specs.declared.loading.ModelStop.{ModelStop}
 use Rattle.apply_load.specs.declared.loading.ModelStop.TheVariants as model_stop
 use Rattle.apply_load.specs.declared.loading.DataStop.{DataStop}
@@ -20,9 +20,14 @@ ModelStopSays told name model_stop.Fault = ⊤
 ModelStopSays told name model_stop.Memory = ⊤
 ModelStopSays told name (model_stop.Refused line) = RefusesModel told name line.now
 
+-- the fact holds of the line of a refusal, if it is one
+abbrev pub IfRefused : CustomStop → (List ℕ → Type 0) → Type 0
+IfRefused stop.Memory P = ⊤
+IfRefused (stop.Refused line) P = P line.items
+
 -- a refused custom aggregate has its line
 abbrev pub CustomStopSays : Model → CustomStop → Type 0
-CustomStopSays m stop = IfRefused stop (RefusesCustom m)
+CustomStopSays m s = IfRefused s (RefusesCustom m)
 
 -- a refused data file has its line
 abbrev pub DataStopSays : Option Files → List ℕ → Model → DataStop → Type 0

@@ -8,7 +8,7 @@ use Rattle.edm_model.specs.ModelFile.{ModelReading, model_reading}
 use Rattle.edm_data.specs.Worlds.{World}
 use Rattle.edm_data.specs.DataFile.{DataReading, data_reading}
 use Rattle.context_typing.specs.Typing.{Customs}
-use Rattle.apply_load.specs.CustomReadings.{AreCustoms, IsFirstUntyped}
+use Rattle.apply_store.specs.CustomReadings.{AreCustoms, IsFirstUntyped}
 use Rattle.apply_load.specs.RefusedFiles.{model_line, custom_line, data_line}
 
 -- the names of the model file and of the data file

@@ -4,9 +4,8 @@ ghost use Rattle.edm_model.specs.LookUps.{IsHierarchy};
 ghost use Rattle.hier_states.specs.States.{IsStateOf};
 ghost use Rattle.apply_load.specs.Checks.{check_text, entity_total, hierarchy_line, state_text};
 
-use crate::identifiers::identifier;
 use crate::refusals::json_text;
-use crate::store::Store;
+use apply_store::{Store, identifier};
 use edm_data::{Data, EntityRef};
 use edm_model::HierId;
 use hier_states::HierState;

@@ -3,8 +3,7 @@ ghost use Rattle.std.specs.Prelude.{ℕ, ◌≤◌, IfOk};
 ghost use Rattle.context_typing.specs.Readings.{readings};
 ghost use Rattle.apply_load.specs.Generated.{IsGenerated};
 
-use crate::customs::judge_customs;
-use crate::store::Store;
+use apply_store::{Store, judge_customs};
 use edm_data::read_data;
 use edm_model::read_model;
 use hier_states::hier_states;

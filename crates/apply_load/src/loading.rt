@@ -11,8 +11,8 @@ ghost use Rattle.apply_load.specs.LoadStops.{ModelStopSays, DataStopSays, LoadSt
 use crate::customs::{CustomStop, load_customs};
 use crate::file::{FileFault, read_file};
 use crate::refusals::{data_line, set_names};
-use crate::store::Store;
 use apply_io::Folder;
+use apply_store::Store;
 use edm_data::{DATA_LIMIT, Data, read_data};
 use edm_model::{MODEL_LIMIT, Model, ModelRefused, read_model};
 use hier_states::hier_states;

@@ -70,3 +70,7 @@ pub reply-memory : (w : World) (cs : Customs) (line bytes : List ℕ) → Told (
 reply-memory w cs line bytes told e =
     let P : List ℕ → Type 0 = λ t. IsReply w cs line t in
     subst P (sym e) (no_memory (within-limit (Err grammar.Memory) line told memory-other))
+
+-- a line that was read as a request keeps its limit
+pub request-within : (r : Request) (line : List ℕ) → Told (Ok r) line → length line ≤ line_limit
+request-within r line told = within-limit (Ok r) line told (found-other r)

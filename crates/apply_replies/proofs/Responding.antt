@@ -1,5 +1,5 @@
 -- From the response that was made to the response to a request.
-use Rattle.std.proofs.Common.{◌≡◌, ◌∙◌, ℕ, List, Some, Ok, Err, IfOk, sym, ap₂, subst}
+use Rattle.std.proofs.Common.{◌≡◌, ◌∙◌, ℕ, ◌+◌, ◌≤◌, false, List, None, Some, Ok, Err, IfOk, arith, sym, ap, ap₂, subst}
 use Rattle.std.specs.declared.option.Option.{Option}
 use Rattle.std.specs.declared.result.Result.{Result}
 use Rattle.line_stream.specs.Outputs.{bytes_of}
@@ -18,6 +18,8 @@ use Rattle.context_typing.specs.declared.customs.TypedCustom.{TypedCustom}
 use Rattle.context_typing.specs.declared.typed.Typed.{Typed}
 use Rattle.hier_states.specs.NamedHierarchies.{hierarchies}
 use Rattle.hier_states.specs.States.{first_cycle}
+use Rattle.plan_run.specs.Costs.{total_cost}
+use Rattle.apply_replies.specs.Costs.{BoundsRequest}
 use Rattle.apply_replies.specs.Replies.{IsResponse, IsTyped}
 
 -- a response with other bytes that are the same
@@ -32,6 +34,13 @@ respond-made (Err x) w cs asked r h e = tt
 -- the first cycle of the pipeline that was asked is that of the pipeline that was typed
 pub cycle-asked : (v w : World) (p q : Pipe) (found : Option Entity) → v ≡ w → p ≡ q → found ≡ first_cycle v (hierarchies p) → first_cycle w (hierarchies q) ≡ found
 cycle-asked v w p q found same pipe e = sym (e ∙ ap₂ (λ (x : World) (y : Pipe). first_cycle x (hierarchies y)) same pipe)
+
+-- a pipeline was run whose cost the request has
+pub run-within : (w : World) (cs : Customs) (asked : Asked) (set : ℕ) (s : Shape) (p : Pipe) (old new : ℕ) → IsTyped w cs asked set s → asked.0 ≡ false → first_cycle w (hierarchies asked.2) ≡ None → p ≡ asked.2 → new ≤ old + total_cost w cs set p → (n : ℕ) → BoundsRequest w cs asked n → new ≤ old + n
+run-within w cs asked set s p old new typed plain no_cycle same risen n bounds =
+    let bound = bounds set s typed plain no_cycle in
+    let cost : total_cost w cs set p ≡ total_cost w cs set asked.2 = ap (total_cost w cs set) same in
+    omega (arith, risen, bound, cost)
 
 module _ (w : World) (asked : Asked) (set : ℕ) (m : Model) (c d : List TypedCustom) (same : m ≡ w.model) (are : c ≡ d) where
   -- a pipeline that was typed

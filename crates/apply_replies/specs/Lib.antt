@@ -1,3 +1,4 @@
+pub mod Costs
 pub mod OutputBytes
 pub mod Replies
 pub mod ReplyLaws

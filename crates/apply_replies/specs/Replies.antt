@@ -15,7 +15,7 @@ use Rattle.context_typing.specs.Typing.{Customs, Types, IsUntypedAt, shape_of_se
 use Rattle.json_render.specs.Bodies.{body}
 use Rattle.hier_states.specs.NamedHierarchies.{hierarchies}
 use Rattle.hier_states.specs.States.{first_cycle}
-use Rattle.apply_load.specs.Stores.{Store}
+use Rattle.apply_store.specs.Stores.{Store}
 use Rattle.apply_replies.specs.Responses.{TooLong, Syntax, NotFound, NotBuilt, Type', Cycle, Range, Memory, answered, refused}
 
 -- the set of a request is there, and the pipeline takes its shape to this one

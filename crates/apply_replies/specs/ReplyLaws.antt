@@ -1,4 +1,4 @@
--- Laws of replies, by which they answer the lines of a stream: every line has one, and lines that are too long have the same.
+-- Laws of replies and of their costs, by which they answer the lines of a stream: every line has a reply, and lines that are too long have the same and cost the same.
 use Rattle.std.proofs.Common.{◌≡◌, ℕ, ◌<◌, ◌≤◌, List, length, refl, true, false, arith, Bool}
 use Rattle.std.specs.Prelude.{nat_lt}
 use Rattle.std.proofs.lemmas.Bool.Decides.{nat_tests}
@@ -6,6 +6,7 @@ use Rattle.edm_data.specs.Worlds.{World}
 use Rattle.context_typing.specs.Typing.{Customs}
 use Rattle.apply_grammar.specs.Frames.{line_limit}
 use Rattle.apply_replies.specs.Responses.{TooLong, Memory, refused}
+use Rattle.apply_replies.specs.Costs.{BoundsLine}
 use Rattle.apply_replies.specs.Replies.{IsReply, too_long, no_request, request, no_memory}
 
 module _ (w : World) (cs : Customs) where
@@ -23,3 +24,7 @@ module _ (w : World) (cs : Customs) where
   long_lines line other r long also (no_request k within none) = absurd (omega (arith, within, long))
   long_lines line other r long also (request asked response within is given) = absurd (omega (arith, within, long))
   long_lines line other r long also (no_memory within) = absurd (omega (arith, within, long))
+
+  -- what bounds the cost of a line that is too long bounds that of all such lines
+  pub long_costs : (line other : List ℕ) (n : ℕ) → line_limit < length line → line_limit < length other → BoundsLine w cs line n → BoundsLine w cs other n
+  long_costs line other n long also h = λ within. absurd (omega (arith, within, also))

@@ -1,5 +1,5 @@
 //! The reply to a line of the input.
-ghost use Rattle.std.specs.Prelude.{◌≡◌, ◌<◌, All, IfOk, Some, None, Err};
+ghost use Rattle.std.specs.Prelude.{◌≡◌, ℕ, ◌+◌, ◌<◌, ◌≤◌, All, IfOk, Some, None, Err};
 ghost use Rattle.apply_ast.specs.Views.{pipe_of};
 ghost use Rattle.apply_grammar.specs.Requests.{asked_of};
 ghost use Rattle.edm_model.specs.LookUps.{IsSet};
@@ -13,6 +13,8 @@ ghost use Rattle.hier_states.specs.States.{IsReadyAt};
 ghost use Rattle.apply_meaning.specs.Instances as instances;
 ghost use Rattle.apply_meaning.specs.Meaning.{mean};
 ghost use Rattle.apply_meaning.specs.MeaningLaws.{AllFit};
+ghost use Rattle.plan_run.specs.Costs.{total_cost};
+ghost use Rattle.apply_replies.specs.Costs.{BoundsLine, BoundsRequest};
 ghost use Rattle.apply_replies.specs.Replies.{IsReply, IsResponse, IsTyped};
 ghost use Rattle.apply_replies.specs.Replies as spec;
 ghost use Rattle.apply_replies.specs.Responses.{Cycle, Syntax, refused};
@@ -25,8 +27,8 @@ use crate::responses::{
 };
 use apply_ast::Request;
 use apply_grammar::{GrammarRefused, read_request};
-use apply_load::{Store, identifier};
 use apply_meaning::{Row, RunRefused, Steps, data_is_loaded};
+use apply_store::{Store, identifier};
 use context_typing::{TypeRefused, Typed, type_pipe};
 use edm_data::EntityRef;
 use hier_states::first_cycle;
@@ -77,6 +79,8 @@ fn body_of<R: Threads + Sync, G: Gate, L: Ledger>(
     requires ready { All (IsReadyAt store.now.world store.now.hiers) (hierarchies (pipe_of typed.pipe)) }
     ensures ok { IfOk result (λ b. spec.answer_body store.now.world (readings store.now.customs) typed.set (pipe_of typed.pipe) typed.shape ≡ Some b.items) }
     ensures range { result ≡ Err RunRefused.Range → spec.answer_body store.now.world (readings store.now.customs) typed.set (pipe_of typed.pipe) typed.shape ≡ None }
+    ensures steps { steps.new ≤ steps.old + total_cost store.now.world (readings store.now.customs) typed.set (pipe_of typed.pipe) }
+    ensures grown { steps.old ≤ steps.new }
 {
     let plan = Plan::written(typed);
     let rows = run(
@@ -128,7 +132,9 @@ fn typed_response<R: Threads + Sync, G: Gate, L: Ledger>(
     requires typing { IsTyping store.now.world.model (readings store.now.customs) typed }
     requires pipe { pipe_of typed.pipe ≡ pipe_of request.now.pipe }
     requires typed { IsTyped store.now.world (readings store.now.customs) (asked_of request.now) typed.set typed.shape }
-    ensures { IfOk result (λ r. IsResponse store.now.world (readings store.now.customs) (asked_of request.now) (bytes_of r)) }
+    ensures response { IfOk result (λ r. IsResponse store.now.world (readings store.now.customs) (asked_of request.now) (bytes_of r)) }
+    ensures steps { (n : ℕ) → BoundsRequest store.now.world (readings store.now.customs) (asked_of request.now) n → steps.new ≤ steps.old + n }
+    ensures grown { steps.old ≤ steps.new }
 {
     if request.explain {
         return Ok(Output::Made(not_built(alloc)?));
@@ -152,7 +158,9 @@ fn response_to<R: Threads + Sync, G: Gate, L: Ledger>(
     gate: &G,
     steps: &mut Steps<L>,
 ) -> Result<Output, AllocError>
-    ensures { IfOk result (λ r. IsResponse store.now.world (readings store.now.customs) (asked_of request.now) (bytes_of r)) }
+    ensures response { IfOk result (λ r. IsResponse store.now.world (readings store.now.customs) (asked_of request.now) (bytes_of r)) }
+    ensures steps { (n : ℕ) → BoundsRequest store.now.world (readings store.now.customs) (asked_of request.now) n → steps.new ≤ steps.old + n }
+    ensures grown { steps.old ≤ steps.new }
 {
     let set_name = request.set.text();
     let Some(set) = store.model().set_named(set_name) else {
@@ -181,7 +189,9 @@ pub fn reply_to<R: Threads + Sync, G: Gate, L: Ledger>(
     gate: &G,
     steps: &mut Steps<L>,
 ) -> Output
-    ensures { IsReply store.now.world (readings store.now.customs) line.now (bytes_of result) }
+    ensures reply { IsReply store.now.world (readings store.now.customs) line.now (bytes_of result) }
+    ensures steps { (n : ℕ) → BoundsLine store.now.world (readings store.now.customs) line.now n → steps.new ≤ steps.old + n }
+    ensures grown { steps.old ≤ steps.new }
 {
     match read_request(alloc, line) {
         Ok(request) => made(response_to(rt, alloc, store, &request, gate, steps)),

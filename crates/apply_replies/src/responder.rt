@@ -1,11 +1,12 @@
 //! What answers the lines of a stream.
-ghost use Rattle.std.specs.Prelude.{◌≡◌};
+ghost use Rattle.std.specs.Prelude.{◌≡◌, ℕ, ◌+◌, ◌≤◌};
 ghost use Rattle.line_stream.specs.Outputs.{bytes_of};
+ghost use Rattle.apply_replies.specs.Costs.{BoundsLineOf};
 ghost use Rattle.apply_replies.specs.Replies.{IsReplyOf};
 
 use crate::replies::reply_to;
-use apply_load::Store;
 use apply_meaning::Steps;
+use apply_store::Store;
 use line_stream::Output;
 use par_stages::Gate;
 use std::alloc::Global;
@@ -34,9 +35,11 @@ impl<'a, R: Threads + Sync, G: Gate> Replies<'a, R, G> {
         }
     }
 
-    /// The reply to a line that is not empty, ready to be written.
+    /// The reply to a line that is not empty, ready to be written. The counter rises by no more than what the line costs.
     pub fn reply<L: Ledger>(&self, steps: &mut Steps<L>, line: &[u8]) -> Output
-        ensures { IsReplyOf self.now.store.now line.now (bytes_of result) }
+        ensures reply { IsReplyOf self.now.store.now line.now (bytes_of result) }
+        ensures steps { (n : ℕ) → BoundsLineOf self.now.store.now line.now n → steps.new ≤ steps.old + n }
+        ensures grown { steps.old ≤ steps.new }
     {
         reply_to(self.rt, self.alloc, self.store, line, self.gate, steps)
     }

@@ -47,8 +47,6 @@ pub fn answered(alloc: Global, body: Vec<u8>) -> Result<Output, AllocError>
     line.extend_from_slice(b"200 ")?;
     line.extend_from_slice(length.as_bytes())?;
     line.push(b'\n')?;
-    let mut body = body;
-    body.push(b'\n')?;
     Ok(Output::Framed(line, body))
 }
 

@@ -1,17 +1,18 @@
 //! The program: it serves over the real files, standard input and standard output.
 //!
-//! `main` makes the real objects, calls [`apply_service::serve`] with the words after the program's name, tells on standard
-//! error what was wrong where something was, and ends with the number of the status. It stands on `apply_service` for the
-//! service, on `run_messages` for what standard error is told, and on `apply_io` for the objects.
+//! `main` takes the room of the stack, makes the real objects, calls [`apply_service::serve`] with the words after the
+//! program's name, tells on standard error what was wrong where something was, and ends with the number of the status. It
+//! stands on `apply_service` for the service, on `run_messages` for what standard error is told, and on `apply_io` for the
+//! objects.
 //!
 //! It promises that `run`, which makes the counter of steps, says of a run what `serve` says, and that the number that the
 //! program ends with is that of the status.
 #![tactic(auto)]
 
-ghost use Rattle.std.specs.Prelude.{◌≡◌, ◌<◌};
+ghost use Rattle.std.specs.Prelude.{◌≡◌, ℕ, ◌<◌};
 ghost use Rattle.serve_options.specs.Command.{texts_of};
 ghost use Rattle.apply_service.specs.ExitCodes.{exit_code};
-ghost use Rattle.apply_service.specs.Runs.{Run, FolderSeen, SourceSeen, SinkSeen};
+ghost use Rattle.apply_service.specs.Runs.{Run, FolderSeen, SourceSeen, SinkSeen, StepsSeen};
 ghost use Rattle.apply_service.specs.Service.{Says};
 
 use apply_io::{DiskFolder, Folder, MemFolder, Sink, Source, StdSink, StdSource};
@@ -28,6 +29,33 @@ use std::rt::Files as HostFiles;
 use std::sync::ledger::{Blank, Ledger};
 use std::thread::Threads;
 use std::{env, fs, io};
+
+/// How many bytes of the stack a run may take. `bench/stack` measures what the deepest lines take of it.
+const STACK_ROOM: usize = 1_048_576;
+
+/// How many bytes of it each call of `take_stack_room` writes to.
+const STACK_PAGE: usize = 4096;
+
+/// Whether the bytes are all the same.
+fn is_filled(bytes: &[u8], mark: u8) -> bool {
+    bytes.iter().all(|byte| *byte == mark)
+}
+
+/// Whether there is memory for the room of the stack. It is given back, so that the stack can have it.
+fn has_stack_room(alloc: Global, mark: u8) -> bool {
+    match Vec::from_elem(alloc, mark, STACK_ROOM) {
+        Ok(room) => is_filled(room.as_slice(), mark),
+        Err(_) => false,
+    }
+}
+
+/// Writes to one more page of the stack than these, each in a call of its own, so that they are the program's from then on,
+/// whatever the heap takes.
+#[inline(never)]
+fn take_stack_room(pages: usize, mark: u8) -> bool {
+    let page = [mark; STACK_PAGE];
+    (pages == 0 || take_stack_room(pages - 1, mark)) && is_filled(page.as_slice(), mark)
+}
 
 /// How a run of the service ended, and the number that tells it.
 #[derive(Clone, Copy, Debug)]
@@ -50,11 +78,12 @@ fn run<R: Threads + Sync, F: Folder, S: Source, K: Sink, L: Ledger>(
     requires parts { blank.parts ≡ L.parts }
     requires some { 0 < blank.parts }
     ensures number { result.number ≡ exit_code result.status }
-    ensures says { Says (record {
+    ensures says { (counted : ℕ) × Says (record {
       words = texts_of words.now;
       folder = record { files = F.files folder.old; faults = F.fault_count folder.old; faults_after = F.fault_count folder.new };
       input = record { left = S.left input.old; left_after = S.left input.new; faults = S.fault_count input.old; faults_after = S.fault_count input.new };
       output = record { held = K.held output.old; held_after = K.held output.new; faults = K.fault_count output.old; faults_after = K.fault_count output.new };
+      steps = record { count = 0; count_after = counted };
       status = result.status;
     }) (F.is_steady folder.old) (folder.new ≡ folder.old) (input.new ≡ input.old) (output.new ≡ output.old) }
 {
@@ -114,8 +143,12 @@ fn is_regular<R: HostFiles>(rt: &R, name: &str) -> bool {
     }
 }
 
-/// Whether what a refusal is about can be read again: the model file, and of a refused data file both.
+/// Whether what a refusal is about can be read again: of a refused model file this file, of a refused data file both. For
+/// any other status no file is looked at.
 fn can_read_again<R: HostFiles>(rt: &R, alloc: Global, status: Status, words: &[String]) -> bool {
+    if !matches!(status, Status::ModelRefused | Status::DataRefused) {
+        return false;
+    }
     let Ok(options) = read_options(alloc, words) else {
         return false;
     };
@@ -152,9 +185,14 @@ fn message_of<R: HostFiles>(
     run_message(alloc, status, words, none, failed_name, is_input_failed)
 }
 
-/// Serves over the real objects, and tells on standard error what was wrong.
+/// Serves over the real objects, and tells on standard error what was wrong. The room of the stack is taken first, since the
+/// stack could not grow once the heap has all memory that a limit leaves.
 fn main(rt: HostRuntime) -> ExitCode {
     let alloc = rt.alloc();
+    if !has_stack_room(alloc, 1) || !take_stack_room(STACK_ROOM / STACK_PAGE, 1) {
+        let _ = eprintln!(&rt; "apply_serve: out of memory");
+        return ExitCode::from(Status::Memory.number());
+    }
     let words = match words_of(&rt) {
         Ok(words) => words,
         Err(unread) => {

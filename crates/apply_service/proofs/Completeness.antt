@@ -42,7 +42,7 @@ told_written (Some old) (Some new) written before h e =
 module _ (r : Run) (is_steady same_folder same_input same_output : Type 0) (ends : Ends r is_steady same_folder same_input same_output) where
   -- ---- what was asked for
 
-  serve_at : (max_bytes : ℕ) (names : FileNames) → AsksServe r max_bytes names → ServeSays r.folder r.input r.output names max_bytes is_steady same_input same_output r.status
+  serve_at : (max_bytes : ℕ) (names : FileNames) → AsksServe r max_bytes names → ServeSays r.folder r.input r.output r.steps names max_bytes is_steady same_input same_output r.status
   serve_at max_bytes names asks =
       let P : Mode → Type 0 = λ m. ModeSays r (asks.0).max_bytes m is_steady same_folder same_input same_output in
       let Q : ℕ → Type 0 = λ n. ModeSays r n (Serve names.model names.entities) is_steady same_folder same_input same_output in
@@ -53,7 +53,7 @@ module _ (r : Run) (is_steady same_folder same_input same_output : Type 0) (ends
       let P : Mode → Type 0 = λ m. ModeSays r (asks.0).max_bytes m is_steady same_folder same_input same_output in
       (subst P asks.2 (ends.asked asks.0 asks.1)).0
 
-  gen_at : (count : ℕ) → AsksGen r count → GenSays r.output count same_output r.status
+  gen_at : (count : ℕ) → AsksGen r count → GenSays r.output r.steps count same_output r.status
   gen_at count asks =
       let P : Mode → Type 0 = λ m. ModeSays r (asks.0).max_bytes m is_steady same_folder same_input same_output in
       (subst P asks.2 (ends.asked asks.0 asks.1)).0
@@ -69,7 +69,7 @@ module _ (r : Run) (is_steady same_folder same_input same_output : Type 0) (ends
   -- ---- a refused model file
 
   module _ (names : FileNames) (line : List ℕ) (make : Make r names (RefusedModel line)) where
-    serve_model : (max_bytes : ℕ) (s : Status) → ServeSays r.folder r.input r.output names max_bytes is_steady same_input same_output s → (s ≡ status.ModelRefused) ⊎ IsFault s
+    serve_model : (max_bytes : ℕ) (s : Status) → ServeSays r.folder r.input r.output r.steps names max_bytes is_steady same_input same_output s → (s ≡ status.ModelRefused) ⊎ IsFault s
     serve_model max_bytes status.Served h = two_kinds names _ (RefusedModel line) (λ e. omega (arith, e)) h.0.loaded make
     serve_model max_bytes status.Usage h = absurd h
     serve_model max_bytes status.ModelRefused h = inl refl
@@ -96,7 +96,7 @@ module _ (r : Run) (is_steady same_folder same_input same_output : Type 0) (ends
   -- ---- a refused data file
 
   module _ (names : FileNames) (line : List ℕ) (make : Make r names (RefusedData line)) where
-    serve_data : (max_bytes : ℕ) (s : Status) → ServeSays r.folder r.input r.output names max_bytes is_steady same_input same_output s → (s ≡ status.DataRefused) ⊎ IsFault s
+    serve_data : (max_bytes : ℕ) (s : Status) → ServeSays r.folder r.input r.output r.steps names max_bytes is_steady same_input same_output s → (s ≡ status.DataRefused) ⊎ IsFault s
     serve_data max_bytes status.Served h = two_kinds names _ (RefusedData line) (λ e. omega (arith, e)) h.0.loaded make
     serve_data max_bytes status.Usage h = absurd h
     serve_data max_bytes status.ModelRefused h = two_kinds names _ (RefusedData line) (λ e. omega (arith, e)) h.0.judged make
@@ -124,7 +124,7 @@ module _ (r : Run) (is_steady same_folder same_input same_output : Type 0) (ends
 
   module _ (names : FileNames) (w : World) (c : Customs) (make : Make r names (Loaded w c)) where
     module _ (max_bytes : ℕ) (bytes : List ℕ) (told : r.input.left ≡ Some bytes) where
-      limit_by : max_bytes < length bytes → (s : Status) → ServeSays r.folder r.input r.output names max_bytes is_steady same_input same_output s → (s ≡ status.InputLimit) ⊎ IsFault s
+      limit_by : max_bytes < length bytes → (s : Status) → ServeSays r.folder r.input r.output r.steps names max_bytes is_steady same_input same_output s → (s ≡ status.InputLimit) ⊎ IsFault s
       limit_by long status.Served h =
           let all = taken_all r.input.left r.input.left_after bytes h.0.answered.bytes told h.0.answered.taken h.1 in
           absurd (omega (arith, long, h.0.answered.has, ap length all.0))
@@ -152,7 +152,7 @@ module _ (r : Run) (is_steady same_folder same_input same_output : Type 0) (ends
         ((s ≡ status.Served) × (r.input.left_after ≡ Some []) × Writes r (IsOut w c (request_lines bytes)))
         ⊎ ((s ≡ status.Memory) × (r.input.left_after ≡ r.input.left) × (r.output.held_after ≡ r.output.held))
 
-    shown_by : (same_input → r.input.left_after ≡ r.input.left) → (same_output → r.output.held_after ≡ r.output.held) → (s : Status) → ServeSays r.folder r.input r.output u.names u.max_bytes is_steady same_input same_output s → Shown s
+    shown_by : (same_input → r.input.left_after ≡ r.input.left) → (same_output → r.output.held_after ≡ r.output.held) → (s : Status) → ServeSays r.folder r.input r.output r.steps u.names u.max_bytes is_steady same_input same_output s → Shown s
     shown_by input output status.Served h =
         let all = taken_all r.input.left r.input.left_after bytes h.0.answered.bytes u.told h.0.answered.taken h.1 in
         let one : Loaded h.0.world h.0.customs ≡ Loaded w c = (both_alike u.names _ (Loaded w c) h.0.loaded u.loads).worlds refl in
@@ -183,7 +183,7 @@ module _ (r : Run) (is_steady same_folder same_input same_output : Type 0) (ends
   check_by names w c make steady fine status.Memory h = inr refl
   check_by names w c make steady fine status.InputLimit h = absurd h
 
-  gen_by : (count : ℕ) → ¬ Rose r.output.faults r.output.faults_after → (s : Status) → GenSays r.output count same_output s → (s ≡ status.Served) ⊎ (s ≡ status.Memory)
+  gen_by : (count : ℕ) → ¬ Rose r.output.faults r.output.faults_after → (s : Status) → GenSays r.output r.steps count same_output s → (s ≡ status.Served) ⊎ (s ≡ status.Memory)
   gen_by count fine status.Served h = inl refl
   gen_by count fine status.Usage h = absurd h
   gen_by count fine status.ModelRefused h = absurd h

@@ -1,5 +1,6 @@
 mod Completeness
 mod Counts
 mod Ends
+mod Folders
 mod Sampled
 mod Saying

@@ -7,7 +7,9 @@ use Rattle.std.proofs.lemmas.Grind.{flat_map-append}
 use Rattle.std.proofs.lemmas.List.{append-nil}
 use Rattle.line_stream.specs.Lines.{shown}
 use Rattle.line_stream.specs.Answers.{IsOut, Writes, WritesPart}
+use Rattle.line_stream.specs.Costs.{Rises}
 use Rattle.line_stream.proofs.Responding.{IsOut-append, SomeReply, some_out}
+use Rattle.line_stream.proofs.Counting.{Rises-both, Rises-still}
 
 -- ---- an item of a list that is gone through
 
@@ -56,3 +58,11 @@ module _ (is_reply : List ℕ → List ℕ → Type 0) where
             let Q : List ℕ → Type 0 = λ t. IsOut is_reply (shown_all ls ++ (shown l ++ shown_all rest)) t in
             subst P (sym lines) (subst Q bytes out);
       }
+
+module _ (bounds : List ℕ → ℕ → Type 0) where
+  -- one line more was answered, of which others may follow
+  pub Rises-more : (a b c : ℕ) (ls : List (List ℕ)) (l : List ℕ) (rest : List (List ℕ)) → Rises bounds (shown_all ls) a b → Rises bounds (shown l) b c → Rises bounds (shown_all (ls ++ l ∷ rest)) a c
+  Rises-more a b c ls l rest h k =
+      let lines : shown_all (ls ++ l ∷ rest) ≡ shown_all ls ++ (shown l ++ shown_all rest) = flat_map-append shown ls (l ∷ rest) in
+      let P : List (List ℕ) → Type 0 = λ t. Rises bounds t a c in
+      subst P (sym lines) (Rises-both bounds (shown_all ls) (shown l ++ shown_all rest) a b c h (Rises-both bounds (shown l) (shown_all rest) b c c k (Rises-still bounds (shown_all rest) c)))

@@ -24,10 +24,16 @@ pub record SinkSeen : Type 0 where
   pub faults : ℕ
   pub faults_after : ℕ
 
--- what is seen of a run: the words, the folder, the source, the sink, and the status
+-- what is seen of the counter of steps: what it stood at before and after
+pub record StepsSeen : Type 0 where
+  pub count : ℕ
+  pub count_after : ℕ
+
+-- what is seen of a run: the words, the folder, the source, the sink, the counter of steps, and the status
 pub record Run : Type 0 where
   pub words : List (List ℕ)
   pub folder : FolderSeen
   pub input : SourceSeen
   pub output : SinkSeen
+  pub steps : StepsSeen
   pub status : Status

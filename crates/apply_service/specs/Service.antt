@@ -10,7 +10,7 @@ use Rattle.serve_options.specs.Options.{Mode, Settings, Serve, Check, Gen}
 use Rattle.serve_options.specs.Command.{settings_in}
 use Rattle.apply_load.specs.Loads.{FileNames, Outcome, RefusedModel, RefusedData, Loaded, IsFilesOutcome}
 use Rattle.apply_service.specs.Runs.{Run}
-use Rattle.apply_service.specs.Outcomes.{IsOut, ServeSays, CheckSays, GenSays}
+use Rattle.apply_service.specs.Outcomes.{IsOut, StandsStill, ServeSays, CheckSays, GenSays}
 use Rattle.apply_service.specs.declared.status.Status.{Status}
 use Rattle.apply_service.specs.declared.status.Status.TheVariants.{Served, Usage, ModelRefused, DataRefused, ReadFault, WriteFault, Memory, InputLimit}
 
@@ -56,18 +56,18 @@ IsFault status = (status ≡ ReadFault) ⊎ ((status ≡ WriteFault) ⊎ (status
 
 -- what the status says of a run that was asked for this; the last three are that the folder, the source and the sink are as they were
 abbrev pub ModeSays : Run → ℕ → Mode → Type 0 → Type 0 → Type 0 → Type 0 → Type 0
-ModeSays r max_bytes (Serve model data_file) is_steady same_folder same_input same_output = ServeSays r.folder r.input r.output (names_of model data_file) max_bytes is_steady same_input same_output r.status
-ModeSays r max_bytes (Check model data_file) is_steady same_folder same_input same_output = CheckSays r.folder r.output (names_of model data_file) is_steady same_output r.status × same_input
-ModeSays r max_bytes (Gen count) is_steady same_folder same_input same_output = GenSays r.output count same_output r.status × same_folder × same_input
+ModeSays r max_bytes (Serve model data_file) is_steady same_folder same_input same_output = ServeSays r.folder r.input r.output r.steps (names_of model data_file) max_bytes is_steady same_input same_output r.status
+ModeSays r max_bytes (Check model data_file) is_steady same_folder same_input same_output = CheckSays r.folder r.output (names_of model data_file) is_steady same_output r.status × same_input × StandsStill r.steps
+ModeSays r max_bytes (Gen count) is_steady same_folder same_input same_output = GenSays r.output r.steps count same_output r.status × same_folder × same_input
 
 -- What each status says of a run.
 pub record Ends (r : Run) (is_steady same_folder same_input same_output : Type 0) : Type 0 where
-  -- the words do not meet the command, or a value breaks a rule; nothing was touched
-  pub usage : r.status ≡ Usage → (settings_in r.words ≡ None) × same_folder × same_input × same_output
+  -- the words do not meet the command, or a value breaks a rule; nothing was touched, and no step counted
+  pub usage : r.status ≡ Usage → (settings_in r.words ≡ None) × same_folder × same_input × same_output × StandsStill r.steps
   -- such words are told so, want of memory aside
   pub usage_comes : settings_in r.words ≡ None → (r.status ≡ Usage) ⊎ (r.status ≡ Memory)
-  -- want of memory: nothing was read from the source and nothing written
-  pub memory : r.status ≡ Memory → same_input × same_output
+  -- want of memory: nothing was read from the source and nothing written, and no step counted
+  pub memory : r.status ≡ Memory → same_input × same_output × StandsStill r.steps
   -- what the words asked for was done, or was stopped by what the status says
   pub asked : (s : Settings) → Asks r s → ModeSays r s.max_bytes s.mode is_steady same_folder same_input same_output
 

@@ -1,8 +1,9 @@
 //! What each mode does.
 ghost use Rattle.std.specs.Prelude.{◌≡◌, ℕ, ◌<◌, ◌≤◌, ◌^◌, length, IfErr, IfOk};
+ghost use Rattle.apply_io.specs.Files.{KeepsFiles};
 ghost use Rattle.apply_load.specs.Loads.{FilesMake, Loaded};
 ghost use Rattle.context_typing.specs.Readings.{readings};
-ghost use Rattle.apply_service.specs.Runs.{FolderSeen, SourceSeen, SinkSeen};
+ghost use Rattle.apply_service.specs.Runs.{FolderSeen, SourceSeen, SinkSeen, StepsSeen};
 ghost use Rattle.apply_service.specs.Outcomes.{LoadSays, ServeSays, CheckSays, GenSays};
 
 use crate::samples::answer_samples;
@@ -10,9 +11,10 @@ use crate::status::Status;
 use crate::stream::{Stop, answer_stream};
 use apply_grammar::LINE_MAX;
 use apply_io::{Folder, Sink, Source};
-use apply_load::{FileNames, LoadStop, Store, check, load, load_generated};
+use apply_load::{FileNames, LoadStop, check, load, load_generated};
 use apply_meaning::Steps;
 use apply_replies::Replies;
+use apply_store::Store;
 use line_stream::{LineBuffer, write_output, write_whole};
 use par_stages::Gate;
 use std::alloc::Global;
@@ -31,6 +33,10 @@ fn load_or_refuse<F: Folder, K: Sink>(
     output: &mut K,
 ) -> Result<Store, Status>
     requires { 0 < length buffer.old }
+    ensures keeps { KeepsFiles (F.files folder.old) (F.files folder.new) }
+    ensures steady_still { F.is_steady folder.old → F.is_steady folder.new }
+    ensures later_folder { F.fault_count folder.old ≤ F.fault_count folder.new }
+    ensures later_out { K.fault_count output.old ≤ K.fault_count output.new }
     ensures ok { IfOk result (λ s. FilesMake (F.files folder.old) (record { model = names.entry.model.now; entities = names.entry.entities.now }) (Loaded s.world (readings s.customs))) }
     ensures same { IfOk result (λ s. output.new ≡ output.old) }
     ensures room { length buffer.new ≡ length buffer.old }
@@ -66,10 +72,16 @@ pub(crate) fn serve_files<R: Threads + Sync, F: Folder, S: Source, K: Sink, G: G
     gate: &G,
     steps: &mut Steps<L>,
 ) -> Status
-    ensures { ServeSays
+    ensures keeps { KeepsFiles (F.files folder.old) (F.files folder.new) }
+    ensures steady_still { F.is_steady folder.old → F.is_steady folder.new }
+    ensures later_folder { F.fault_count folder.old ≤ F.fault_count folder.new }
+    ensures later_in { S.fault_count input.old ≤ S.fault_count input.new }
+    ensures later_out { K.fault_count output.old ≤ K.fault_count output.new }
+    ensures says { ServeSays
         (record { files = F.files folder.old; faults = F.fault_count folder.old; faults_after = F.fault_count folder.new })
         (record { left = S.left input.old; left_after = S.left input.new; faults = S.fault_count input.old; faults_after = S.fault_count input.new })
         (record { held = K.held output.old; held_after = K.held output.new; faults = K.fault_count output.old; faults_after = K.fault_count output.new })
+        (record { count = steps.old; count_after = steps.new })
         (record { model = names.entry.model.now; entities = names.entry.entities.now })
         limit (F.is_steady folder.old) (input.new ≡ input.old) (output.new ≡ output.old) result }
 {
@@ -107,7 +119,11 @@ pub(crate) fn check_files<F: Folder, K: Sink>(
     folder: &mut F,
     output: &mut K,
 ) -> Status
-    ensures { CheckSays
+    ensures keeps { KeepsFiles (F.files folder.old) (F.files folder.new) }
+    ensures steady_still { F.is_steady folder.old → F.is_steady folder.new }
+    ensures later_folder { F.fault_count folder.old ≤ F.fault_count folder.new }
+    ensures later_out { K.fault_count output.old ≤ K.fault_count output.new }
+    ensures says { CheckSays
         (record { files = F.files folder.old; faults = F.fault_count folder.old; faults_after = F.fault_count folder.new })
         (record { held = K.held output.old; held_after = K.held output.new; faults = K.fault_count output.old; faults_after = K.fault_count output.new })
         (record { model = names.entry.model.now; entities = names.entry.entities.now })
@@ -140,8 +156,10 @@ pub(crate) fn answer_generated<R: Threads + Sync, K: Sink, G: Gate, L: Ledger>(
 ) -> Status
     requires some { 1 ≤ count }
     requires few { count ≤ 200000 }
-    ensures { GenSays
+    ensures later_out { K.fault_count output.old ≤ K.fault_count output.new }
+    ensures says { GenSays
         (record { held = K.held output.old; held_after = K.held output.new; faults = K.fault_count output.old; faults_after = K.fault_count output.new })
+        (record { count = steps.old; count_after = steps.new })
         count (output.new ≡ output.old) result }
 {
     let Ok(store) = load_generated(alloc, count) else {

@@ -5,8 +5,10 @@ ghost use Rattle.apply_io.specs.Causes.{HasCause, Rose};
 ghost use Rattle.line_stream.specs.Lines.{is_line_feed, shown, request_lines, ended_lines};
 ghost use Rattle.apply_grammar.specs.Frames.{line_limit};
 ghost use Rattle.line_stream.specs.Buffers.{nothing_kept};
+ghost use Rattle.line_stream.specs.Costs.{Rises};
 ghost use Rattle.line_stream.specs.Answers.{Writes, WritesPart, Responds, RespondsInPart};
 ghost use Rattle.line_stream.specs.Streams.{Answers, BreaksOff, Advances, Overruns, Breaks};
+ghost use Rattle.apply_replies.specs.Costs.{BoundsLineOf};
 ghost use Rattle.apply_replies.specs.Replies.{IsReplyOf};
 
 use apply_io::{Failed, Sink, Source};
@@ -45,6 +47,7 @@ pub(crate) fn answer_line<R: Threads + Sync, G: Gate, L: Ledger, K: Sink>(
     ensures cause { HasCause (K.fault_count output.old) (K.fault_count output.new) result }
     ensures ok { OnOk result (Writes (IsReplyOf replies.now.store.now) (shown line.now) (K.held output.old) (K.held output.new)) }
     ensures err { OnErr result (WritesPart (IsReplyOf replies.now.store.now) (shown line.now) (K.held output.old) (K.held output.new)) }
+    ensures counted { Rises (BoundsLineOf replies.now.store.now) (shown line.now) steps.old steps.new }
 {
     if line.is_empty() {
         return Ok(());
@@ -64,8 +67,10 @@ fn take_bytes<R: Threads + Sync, G: Gate, L: Ledger, K: Sink>(
     requires limit { line.old.limit ≡ line_limit }
     ensures limit { line.new.limit ≡ line_limit }
     ensures cause { HasCause (K.fault_count output.old) (K.fault_count output.new) result }
-    ensures ok { OnOk result (Answers (IsReplyOf replies.now.store.now) (K.held output.old) (K.held output.new) line.old line.new bytes.now) }
-    ensures err { OnErr result (BreaksOff (IsReplyOf replies.now.store.now) (K.held output.old) (K.held output.new) line.old bytes.now) }
+    ensures ok { OnOk result (Answers (IsReplyOf replies.now.store.now) (BoundsLineOf replies.now.store.now)
+        (K.held output.old) (K.held output.new) steps.old steps.new line.old line.new bytes.now) }
+    ensures err { OnErr result (BreaksOff (IsReplyOf replies.now.store.now) (BoundsLineOf replies.now.store.now)
+        (K.held output.old) (K.held output.new) steps.old steps.new line.old bytes.now) }
 {
     let mut rest = bytes;
     while let Some(end) = line_end(rest) {
@@ -113,17 +118,17 @@ fn answer_piece<R: Threads + Sync, G: Gate, L: Ledger, S: Source, K: Sink>(
     ensures later_in { S.fault_count input.old ≤ S.fault_count input.new }
     ensures later_out { K.fault_count output.old ≤ K.fault_count output.new }
     ensures count { IfOk result (λ n. n ≤ left) }
-    ensures ok { IfOk result (λ n. Advances (IsReplyOf replies.now.store.now) (S.left input.old) (S.left input.new)
-        (K.held output.old) (K.held output.new) line.old line.new n) }
+    ensures ok { IfOk result (λ n. Advances (IsReplyOf replies.now.store.now) (BoundsLineOf replies.now.store.now)
+        (S.left input.old) (S.left input.new) (K.held output.old) (K.held output.new) steps.old steps.new line.old line.new n) }
     ensures end { IfOk result (λ n. n ≡ 0 → IsAtEnd (S.left input.new)) }
     ensures read_cause { IsErrOf result Stop.Read → Rose (S.fault_count input.old) (S.fault_count input.new) }
     ensures read { IsErrOf result Stop.Read → Keeps (S.left input.old) (S.left input.new)
-        × (output.new ≡ output.old) × (line.new ≡ line.old) }
+        × (output.new ≡ output.old) × (line.new ≡ line.old) × (steps.new ≡ steps.old) }
     ensures write_cause { IsErrOf result Stop.Write → Rose (K.fault_count output.old) (K.fault_count output.new) }
-    ensures write { IsErrOf result Stop.Write → Breaks (IsReplyOf replies.now.store.now) (S.left input.old) (S.left input.new)
-        (K.held output.old) (K.held output.new) line.old }
-    ensures limit_passed { IsErrOf result Stop.Limit → Overruns (IsReplyOf replies.now.store.now) (S.left input.old) (S.left input.new)
-        (K.held output.old) (K.held output.new) line.old line.new left }
+    ensures write { IsErrOf result Stop.Write → Breaks (IsReplyOf replies.now.store.now) (BoundsLineOf replies.now.store.now)
+        (length buffer.old) left (S.left input.old) (S.left input.new) (K.held output.old) (K.held output.new) steps.old steps.new line.old }
+    ensures limit_passed { IsErrOf result Stop.Limit → Overruns (IsReplyOf replies.now.store.now) (BoundsLineOf replies.now.store.now)
+        (S.left input.old) (S.left input.new) (K.held output.old) (K.held output.new) steps.old steps.new line.old line.new left }
 {
     let Ok(count) = read_piece(input, left, buffer) else {
         return Err(Stop::Read);
@@ -153,22 +158,24 @@ pub(crate) fn answer_stream<R: Threads + Sync, G: Gate, L: Ledger, S: Source, K:
     requires empty { line.old ≡ nothing_kept line.old.limit }
     ensures later_in { S.fault_count input.old ≤ S.fault_count input.new }
     ensures later_out { K.fault_count output.old ≤ K.fault_count output.new }
-    // Nothing is left, and one response for each line was written, in order.
+    // Nothing is left, and one response for each line was written, in order. In each case the counter of steps rose by no
+    // more than what the lines cost.
     ensures end { OnOk result (IsAtEnd (S.left input.new)) }
-    ensures ok { OnOk result (Responds (IsReplyOf replies.now.store.now) request_lines (λ bytes. length bytes ≤ limit)
-        (S.left input.old) (S.left input.new) (K.held output.old) (K.held output.new)) }
+    ensures ok { OnOk result (Responds (IsReplyOf replies.now.store.now) (BoundsLineOf replies.now.store.now) request_lines
+        (λ bytes. length bytes ≤ limit) (S.left input.old) (S.left input.new) (K.held output.old) (K.held output.new) steps.old steps.new) }
     // Where a read failed, the lines that an LF ended within the bytes taken were answered.
     ensures read_cause { IsErrOf result Stop.Read → Rose (S.fault_count input.old) (S.fault_count input.new) }
-    ensures read { IsErrOf result Stop.Read → Responds (IsReplyOf replies.now.store.now) ended_lines (λ bytes. length bytes ≤ limit)
-        (S.left input.old) (S.left input.new) (K.held output.old) (K.held output.new) }
+    ensures read { IsErrOf result Stop.Read → Responds (IsReplyOf replies.now.store.now) (BoundsLineOf replies.now.store.now) ended_lines
+        (λ bytes. length bytes ≤ limit) (S.left input.old) (S.left input.new) (K.held output.old) (K.held output.new) steps.old steps.new }
     // Where one byte more than the limit came, those within the limit.
-    ensures limit_passed { IsErrOf result Stop.Limit → Responds (IsReplyOf replies.now.store.now) (λ bytes. ended_lines (take limit bytes))
-        (λ bytes. length bytes ≡ limit + 1) (S.left input.old) (S.left input.new) (K.held output.old) (K.held output.new) }
-    // Where a write failed, a front of responses to all lines was written: whatever follows the bytes taken, or, in the
-    // response to a last line with no LF, at the end of the source.
+    ensures limit_passed { IsErrOf result Stop.Limit → Responds (IsReplyOf replies.now.store.now) (BoundsLineOf replies.now.store.now)
+        (λ bytes. ended_lines (take limit bytes)) (λ bytes. length bytes ≡ limit + 1)
+        (S.left input.old) (S.left input.new) (K.held output.old) (K.held output.new) steps.old steps.new }
+    // Where a write failed, the responses to all lines that ended before the last read were written, and a front of responses
+    // to all lines: whatever follows the bytes taken, or, in the response to a last line with no LF, at the end of the source.
     ensures write_cause { IsErrOf result Stop.Write → Rose (K.fault_count output.old) (K.fault_count output.new) }
-    ensures write { IsErrOf result Stop.Write → RespondsInPart (IsReplyOf replies.now.store.now) (S.left input.old) (S.left input.new)
-        (K.held output.old) (K.held output.new) }
+    ensures write { IsErrOf result Stop.Write → RespondsInPart (IsReplyOf replies.now.store.now) (BoundsLineOf replies.now.store.now)
+        (length buffer.old) limit (S.left input.old) (S.left input.new) (K.held output.old) (K.held output.new) steps.old steps.new }
 {
     let mut taken = 0;
     loop {

@@ -10,7 +10,7 @@ use Rattle.line_stream.specs.Outputs.{WritesFront}
 use Rattle.line_stream.specs.Answers.{IsOut, Writes, WritesPart}
 use Rattle.line_stream.proofs.Buffered.{StandsFor}
 
-shown-some : (b : ℕ) (line : List ℕ) → shown (b ∷ line) ≡ (b ∷ line) ∷ []
+pub shown-some : (b : ℕ) (line : List ℕ) → shown (b ∷ line) ≡ (b ∷ line) ∷ []
 shown-some b line =
     let some : is_shown (b ∷ line) ≡ true = grind (arith, nat_tests) in rw some refl
 

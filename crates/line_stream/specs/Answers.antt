@@ -1,8 +1,9 @@
 -- The responses to the lines of a stream, and how much of them was written. What a response to a line is, is a parameter.
-use Rattle.std.specs.Prelude.{◌≡◌, ◌⊎◌, ℕ, List, [], ◌∷◌, ◌++◌}
+use Rattle.std.specs.Prelude.{◌≡◌, ◌⊎◌, ℕ, ◌+◌, ◌≤◌, List, [], ◌∷◌, ◌++◌, length}
 use Rattle.std.specs.declared.option.Option.{Option}
 use Rattle.std.specs.Io.KnownBytes.{Appends, Consumes, IsAtEnd}
-use Rattle.line_stream.specs.Lines.{request_lines}
+use Rattle.line_stream.specs.Lines.{request_lines, ended_lines}
+use Rattle.line_stream.specs.Costs.{Rises}
 
 -- one response for each line, in order
 abbrev pub IsOut : (List ℕ → List ℕ → Type 0) → List (List ℕ) → List ℕ → Type 0
@@ -26,19 +27,25 @@ pub record WritesPart (is_reply : List ℕ → List ℕ → Type 0) (lines : Lis
   pub appended : Appends held0 held1 written
   pub replies : IsOut is_reply lines (written ++ lost)
 
--- bytes that have P were taken from the source, and the responses to the lines of them were written
-pub record Responds (is_reply : List ℕ → List ℕ → Type 0) (lines : List ℕ → List (List ℕ)) (P : List ℕ → Type 0) (left0 left1 held0 held1 : Option (List ℕ)) : Type 0 where
+-- bytes that have P were taken from the source, the responses to the lines of them were written, and a count rose by no more than what bounds their costs
+pub record Responds (is_reply : List ℕ → List ℕ → Type 0) (bounds : List ℕ → ℕ → Type 0) (lines : List ℕ → List (List ℕ)) (P : List ℕ → Type 0) (left0 left1 held0 held1 : Option (List ℕ)) (count0 count1 : ℕ) : Type 0 where
   pub bytes : List ℕ
   pub has : P bytes
   pub taken : Consumes left0 left1 bytes
   pub written : List ℕ
   pub appended : Appends held0 held1 written
   pub replies : IsOut is_reply (lines bytes) written
+  pub counted : Rises bounds (lines bytes) count0 count1
 
--- bytes were taken from the source, and a front of responses to all lines was written: whatever follows the bytes, or at the end of the source
-pub record RespondsInPart (is_reply : List ℕ → List ℕ → Type 0) (left0 left1 held0 held1 : Option (List ℕ)) : Type 0 where
-  pub bytes : List ℕ
-  pub taken : Consumes left0 left1 bytes
-  pub written : List ℕ
-  pub appended : Appends held0 held1 written
-  pub front : ((more : List ℕ) → IsFront is_reply (request_lines (bytes ++ more)) written) ⊎ (IsAtEnd left1 × IsFront is_reply (request_lines bytes) written)
+-- The writing broke off. The bytes taken from the source are one more than the limit at most, and the last of them came in one read, of so many bytes at most. What was written begins with the responses to all lines that an LF ended before that read, and it is a front of responses to all lines: whatever follows the bytes, or at the end of the source. A count rose by no more than what bounds the costs of the lines.
+pub record RespondsInPart (is_reply : List ℕ → List ℕ → Type 0) (bounds : List ℕ → ℕ → Type 0) (room limit : ℕ) (left0 left1 held0 held1 : Option (List ℕ)) (count0 count1 : ℕ) : Type 0 where
+  pub earlier : List ℕ
+  pub last : List ℕ
+  pub one_read : length last ≤ room
+  pub within : length (earlier ++ last) ≤ limit + 1
+  pub taken : Consumes left0 left1 (earlier ++ last)
+  pub prompt : List ℕ
+  pub begun : List ℕ
+  pub appended : Appends held0 held1 (prompt ++ begun)
+  pub replies : IsOut is_reply (ended_lines earlier) prompt
+  pub front : (((more : List ℕ) → IsFront is_reply (request_lines ((earlier ++ last) ++ more)) (prompt ++ begun)) × Rises bounds (ended_lines (earlier ++ last)) count0 count1) ⊎ (IsAtEnd left1 × IsFront is_reply (request_lines (earlier ++ last)) (prompt ++ begun) × Rises bounds (request_lines (earlier ++ last)) count0 count1)

@@ -1,16 +1,16 @@
 -- Lists that are made one after the other, each of which may be refused.
 use Rattle.std.proofs.Common.{◌≡◌, ℕ, ◌+◌, ◌<◌, ◌≤◌, refl, sym, ◌∙◌, ap, Err, List, [], ◌∷◌, ◌++◌, length, drop, map, get_or, Option, Some, None}
 use Rattle.std.specs.Prelude.{option_map}
+use Rattle.std.specs.Global.{Vec}
 use Rattle.std.proofs.Math.ListN.{drop_of_length-le}
 use Rattle.std.proofs.lemmas.List.{append-nil, append_assoc, length-map}
 use Rattle.edm_values.specs.Lists.{all_some}
 use Rattle.edm_values.proofs.SearchFacts.{all_some-map}
 use Rattle.apply_meaning.specs.Instances.{Instance}
 use Rattle.apply_meaning.specs.Meaning.{Outcome}
-use Rattle.apply_meaning.specs.Running.{Gives}
+use Rattle.apply_meaning.specs.Running.{Gives, Returns}
 use Rattle.apply_meaning.specs.declared.refusals.RunRefused.{RunRefused}
 use Rattle.apply_meaning.specs.declared.refusals.RunRefused.TheVariants.{Range, Memory}
-use Rattle.plan_run.specs.Conditions.{GivesAll}
 use Rattle.plan_run.proofs.GroupLemmas.{next-map}
 
 -- several lists, refused where one of them is
@@ -45,15 +45,19 @@ last-list f xs i a o h total = total ∙ ap (λ ys. option_map (λ rest. a ++ re
 
 -- ---- what several runs returned
 
+-- several runs are refused so, where it is known what all of them give
+abbrev pub AreRefused : RunRefused → Lists → Type 0
+AreRefused e all = Returns (λ (v : Vec (Vec Instance)). all ≡ Some (map (λ l. l.items) v.items)) (all ≡ None) (Err e)
+
 -- a refusal of one run is one of all
-pub gives-all_err : (e : RunRefused) (m : Outcome) (os : List Outcome) → Gives (Err e) m → (m ≡ None → all_some os ≡ None) → GivesAll (Err e) os
-gives-all_err Range m os h k = k h
-gives-all_err Memory m os h k = tt
+pub gives-all_err : (e : RunRefused) (m : Outcome) (all : Lists) → Gives (Err e) m → (m ≡ None → all ≡ None) → AreRefused e all
+gives-all_err Range m all h k = k h
+gives-all_err Memory m all h k = tt
 
 -- and of the lists one after the other
-pub joined-err : (e : RunRefused) (os : List Outcome) (f : List (List Instance) → List Instance) (m : Outcome) → m ≡ option_map f (all_some os) → GivesAll (Err e) os → Gives (Err e) m
-joined-err Range os f m j h = j ∙ ap (option_map f) h
-joined-err Memory os f m j h = tt
+pub joined-err : (e : RunRefused) (all : Option (List (List Instance))) (f : List (List Instance) → List Instance) (m : Outcome) → m ≡ option_map f all → AreRefused e all → Gives (Err e) m
+joined-err Range all f m j h = j ∙ ap (option_map f) h
+joined-err Memory all f m j h = tt
 
 -- one list for each
 pub all-long : {X : Type 0} (f : X → Outcome) (xs : List X) (ls : List (List Instance)) → all_some (map f xs) ≡ Some ls → length ls ≡ length xs

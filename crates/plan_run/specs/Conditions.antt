@@ -2,7 +2,6 @@
 use Rattle.std.specs.Prelude.{◌≡◌, ℕ, ◌≤◌, All, IsTrue, List, Option, Some, None, length, map, nat_lt, slice_get, is_some, option_and_then}
 use Rattle.std.specs.List.{list_all}
 use Rattle.std.specs.declared.result.Result as result
-use Rattle.std.specs.declared.result.Result.TheVariants.{Ok, Err}
 use Rattle.std.specs.Global.{Vec}
 use Rattle.edm_values.specs.declared.Value.{Value}
 use Rattle.edm_values.specs.Lists.{all_some, at_places}
@@ -19,9 +18,8 @@ use Rattle.apply_meaning.specs.Instances.{Instance, extended, rows}
 use Rattle.apply_meaning.specs.Meaning.{Outcome, custom_value, item_value, keyed, mean, related_rows}
 use Rattle.apply_meaning.specs.MeaningLaws.{AllFit}
 use Rattle.apply_meaning.specs.RowViews.{columns_differ}
-use Rattle.apply_meaning.specs.Running.{Runs, StepRuns}
+use Rattle.apply_meaning.specs.Running.{Returns, Runs, StepRuns}
 use Rattle.apply_meaning.specs.declared.refusals.RunRefused.{RunRefused}
-use Rattle.apply_meaning.specs.declared.refusals.RunRefused.TheVariants.{Range, Memory}
 use Rattle.hier_states.specs.States.{IsReadyAt}
 use Rattle.plan_run.specs.Contexts.{Context}
 use Rattle.plan_run.specs.Costs.{application, cost}
@@ -145,9 +143,7 @@ LevelsReady x root levels p l = (S : Shape) × (G : Shape) × LevelsRun x root S
 
 -- what several runs returned, where the meaning of each is known: `Memory` says nothing
 abbrev pub GivesAll : result.Result (Vec (Vec Instance)) RunRefused → List Outcome → Type 0
-GivesAll (Ok v) os = all_some os ≡ Some (map (λ l. l.items) v.items)
-GivesAll (Err Range) os = all_some os ≡ None
-GivesAll (Err Memory) os = Unit {0}
+GivesAll r os = Returns (λ (v : Vec (Vec Instance)). all_some os ≡ Some (map (λ l. l.items) v.items)) (all_some os ≡ None) r
 
 -- ---- concatenations
 

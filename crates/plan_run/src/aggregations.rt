@@ -96,6 +96,7 @@ fn aggregate_row<R: Threads + Sync, G: Gate, L: Ledger>(
     ensures row { (S : Shape) → root_type S ≡ root.now
         → IfOk result (λ row. row ≡ record no_instance { columns = map (spec.item_value context.now.world (readings context.now.customs) S rows.now) (map agg_of items.now) }) }
     ensures steps { steps.new ≤ steps.old + 1 }
+    ensures grown { steps.old ≤ steps.new }
 {
     let mut columns = Vec::with_capacity(alloc, items.len())?;
     for item in items {
@@ -130,6 +131,7 @@ pub(crate) fn aggregated<R: Threads + Sync, G: Gate, L: Ledger>(
     ensures mean { (S : Shape) → root_type S ≡ root.now
         → IfOk result (λ made. step_mean context.now.world (readings context.now.customs) S (tree.Step.Aggregate (map agg_of items.now)) rows.now ≡ Some made.items) }
     ensures steps { steps.new ≤ steps.old + 1 }
+    ensures grown { steps.old ≤ steps.new }
 {
     aggregation_ready(context, root, items, rows);
     let mut made = Vec::new(alloc);

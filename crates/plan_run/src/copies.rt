@@ -13,6 +13,7 @@ pub(crate) fn copy_rows<L: Ledger>(
 ) -> Result<Vec<Row>, AllocError>
     ensures rows { IfOk result (λ copies. copies.items ≡ rows.now) }
     ensures steps { steps.new ≤ steps.old + length rows.now }
+    ensures grown { steps.old ≤ steps.new }
 {
     let mut copies = Vec::with_capacity(alloc, rows.len())?;
     for row in rows {

@@ -24,6 +24,7 @@ pub(crate) fn members<L: Ledger>(
     requires { IsTrue (list_all (λ k. nat_lt k (length rows.now)) places.now) }
     ensures rows { IfOk result (λ copies. copies.items ≡ at_places rows.now places.now) }
     ensures steps { steps.new ≤ steps.old + length (at_places rows.now places.now) }
+    ensures grown { steps.old ≤ steps.new }
 {
     let mut copies = Vec::with_capacity(alloc, places.len())?;
     for at in places {
@@ -58,6 +59,7 @@ pub(crate) fn with_keys<L: Ledger>(
     requires free { IsTrue (list_all (λ r. columns_differ (extended r (keyed paths.now key.now)).columns) results.items) }
     ensures rows { IfOk result (λ v. v.items ≡ map (λ r. extended r (keyed paths.now key.now)) results.items) }
     ensures steps { steps.new ≤ steps.old + length results.items }
+    ensures grown { steps.old ≤ steps.new }
 {
     let mut all = Vec::with_capacity(alloc, results.len())?;
     for row in results {
@@ -77,6 +79,7 @@ fn add_keys<L: Ledger>(
     requires differ { IsTrue (list_all (λ g. columns_differ (keyed level.now.0 g.0)) level.now.1) }
     ensures rows { IfOk result (λ v. v.items ≡ all.items ++ level_rows level.now) }
     ensures steps { steps.new ≤ steps.old + length level.now.1 }
+    ensures grown { steps.old ≤ steps.new }
 {
     let mut all = all;
     for k in 0..level.len() {
@@ -96,6 +99,7 @@ pub(crate) fn key_rows<L: Ledger>(
     requires differ { IsTrue (list_all (λ level. list_all (λ g. columns_differ (keyed level.0 g.0)) level.1) levels.now) }
     ensures rows { IfOk result (λ v. v.items ≡ flat_map level_rows levels.now) }
     ensures steps { steps.new ≤ steps.old + length (flat_map level_rows levels.now) }
+    ensures grown { steps.old ≤ steps.new }
 {
     let mut all = Vec::new(alloc);
     for level in levels {

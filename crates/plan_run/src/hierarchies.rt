@@ -60,6 +60,7 @@ pub(crate) fn traverse_rows<R: Threads + Sync, G: Gate, L: Ledger>(
     requires ready { IsReadyAt context.now.world context.now.hiers (traverse_of walk.now).hier }
     ensures mean { Gives result (traversal context.now.world (traverse_of walk.now) rows.now) }
     ensures steps { steps.new ≤ steps.old + result_length (traversal context.now.world (traverse_of walk.now) rows.now) + walk_cost context.now.world (traverse_of walk.now) }
+    ensures grown { steps.old ≤ steps.new }
 {
     let nodes = context.nodes(&walk.hier);
     let places = traverse_places(alloc, context.store(), nodes, walk, rows, steps)?;

@@ -15,9 +15,10 @@
 //! aggregates, on `apply_ast` for pipelines, and on `edm_data` and `edm_model` for the data.
 //!
 //! It promises that what `run` answers is the meaning of the pipeline that was written, refused exactly where that is, and
-//! that the steps rise by no more than the pipeline that is run costs (`specs/Costs`). Rows that a transformation passes on
-//! are moved and not copied, but for those of a traversal, which leave in another order; the rows of a group are copied for a
-//! pipeline that is run on them, and all rows for each branch of a concatenation and for the pipeline of a climb.
+//! that the counter of steps rises by no more than the pipeline that is run costs (`specs/Costs`) and never falls. Rows that a
+//! transformation passes on are moved and not copied, but for those of a traversal, which leave in another order; the rows of a
+//! group are copied for a pipeline that is run on them, and all rows for each branch of a concatenation and for the pipeline of
+//! a climb.
 #![tactic(auto)]
 
 mod aggregations;

@@ -188,6 +188,7 @@ pub(crate) fn run_pipe<R: Threads + Sync, G: Gate, L: Ledger>(
         → Gives result (mean context.now.world (readings context.now.customs) S (pipe_of pipe.now) rows.items) }
     ensures steps { (S S' : Shape) → RunsFrom context.now root.now S S' (pipe_of pipe.now) rows.items
         → steps.new ≤ steps.old + cost context.now.world (readings context.now.customs) S (pipe_of pipe.now) rows.items }
+    ensures grown { steps.old ≤ steps.new }
 {
     data_is_loaded(context.store());
     let mut rows = rows;
@@ -217,6 +218,7 @@ fn run_step<R: Threads + Sync, G: Gate, L: Ledger>(
         → Gives result (step_mean context.now.world (readings context.now.customs) S (step_of step.now) rows.items) }
     ensures steps { (S S' : Shape) → StepRunsFrom context.now root.now S S' (step_of step.now) rows.items
         → steps.new ≤ steps.old + step_cost context.now.world (readings context.now.customs) S (step_of step.now) rows.items }
+    ensures grown { steps.old ≤ steps.new }
 {
     let store = context.store();
     data_is_loaded(store);
@@ -272,6 +274,7 @@ fn grouping_levels<R: Threads + Sync, G: Gate, L: Ledger>(
     requires named { AreReady context.now (keys_hierarchies (keys_of keys.now)) }
     ensures levels { GivesLevels result context.now.world (readings context.now.customs) (keys_of keys.now) rows.now }
     ensures steps { steps.new ≤ steps.old + keys_cost context.now.world (readings context.now.customs) (keys_of keys.now) }
+    ensures grown { steps.old ≤ steps.new }
 {
     let items = keys.as_slice();
     for key in items {
@@ -307,6 +310,7 @@ fn run_shown<R: Threads + Sync, G: Gate, L: Ledger>(
         → IfOk result (λ shown. All (λ x. x < count context.now.world f.set) shown.items) }
     ensures steps { (f : HierarchyPlace) → hierarchy_at context.now.world.model (hier_of hier.now) ≡ Some f
         → steps.new ≤ steps.old + given_applications context.now.world (readings context.now.customs) (set_shape f.type) (inner_of (option_map pipe_of inner.now)) (instances.rows context.now.world f.set ∷ []) }
+    ensures grown { steps.old ≤ steps.new }
 {
     let store = context.store();
     data_is_loaded(store);
@@ -339,6 +343,7 @@ fn run_levels<R: Threads + Sync, G: Gate, L: Ledger>(
         → Gives result (joined (map (level_made (mean context.now.world (readings context.now.customs) S (pipe_of pipe.now)) rows.now) levels.now)) }
     ensures steps { (S G' : Shape) → LevelsRun context.now root.now S G' levels.now (pipe_of pipe.now) rows.now
         → steps.new ≤ steps.old + sum (map (application (cost context.now.world (readings context.now.customs) S (pipe_of pipe.now)) (mean context.now.world (readings context.now.customs) S (pipe_of pipe.now))) (flat_map (level_lists rows.now) levels.now)) }
+    ensures grown { steps.old ≤ steps.new }
 {
     let mut all = Vec::new(alloc);
     for (i, level) in levels.iter().enumerate() {
@@ -366,6 +371,7 @@ fn run_groups<R: Threads + Sync, G: Gate, L: Ledger>(
         → Gives result (level_made (mean context.now.world (readings context.now.customs) S (pipe_of pipe.now)) rows.now level.now) }
     ensures steps { (S G' : Shape) → GroupRuns context.now root.now S G' level.now (pipe_of pipe.now) rows.now
         → steps.new ≤ steps.old + sum (map (application (cost context.now.world (readings context.now.customs) S (pipe_of pipe.now)) (mean context.now.world (readings context.now.customs) S (pipe_of pipe.now))) (level_lists rows.now level.now)) }
+    ensures grown { steps.old ≤ steps.new }
 {
     let mut all = Vec::new(alloc);
     for k in 0..level.len() {
@@ -396,6 +402,7 @@ fn run_group<R: Threads + Sync, G: Gate, L: Ledger>(
     ensures steps { (S G' : Shape) (g : List Value' × List ℕ) → GroupRuns context.now root.now S G' level.now (pipe_of pipe.now) rows.now
         → slice_get level.now.1 k ≡ Some g
         → steps.new ≤ steps.old + charge_of context.now S (pipe_of pipe.now) rows.now g }
+    ensures grown { steps.old ≤ steps.new }
 {
     let places = level.places(k);
     group_ready(context, root, pipe, level, rows, places);
@@ -421,6 +428,7 @@ fn run_climb<R: Threads + Sync, G: Gate, L: Ledger>(
         → Gives result (step_mean context.now.world (readings context.now.customs) S (climb_of climb.now) rows.items) }
     ensures steps { (S S' : Shape) → StepRunsFrom context.now root.now S S' (climb_of climb.now) rows.items
         → steps.new ≤ steps.old + step_cost context.now.world (readings context.now.customs) S (climb_of climb.now) rows.items }
+    ensures grown { steps.old ≤ steps.new }
 {
     data_is_loaded(context.store());
     let copies = copy_rows(alloc, rows.as_slice(), steps)?;
@@ -444,6 +452,7 @@ fn run_concat<R: Threads + Sync, G: Gate, L: Ledger>(
         → Gives result (step_mean context.now.world (readings context.now.customs) S (tree.Step.Concat (pipes_of branches.now)) rows.now) }
     ensures steps { (S S' : Shape) → StepRunsFrom context.now root.now S S' (tree.Step.Concat (pipes_of branches.now)) rows.now
         → steps.new ≤ steps.old + step_cost context.now.world (readings context.now.customs) S (tree.Step.Concat (pipes_of branches.now)) rows.now }
+    ensures grown { steps.old ≤ steps.new }
 {
     data_is_loaded(context.store());
     branches_ready(context, root, branches, rows);
@@ -467,6 +476,7 @@ fn run_branches<R: Threads + Sync, G: Gate, L: Ledger>(
         → GivesAll result (map (λ p. mean context.now.world (readings context.now.customs) S p rows.now) (map pipe_of branches.now)) }
     ensures steps { (S : Shape) → BranchesRun context.now root.now S (map pipe_of branches.now) rows.now
         → steps.new ≤ steps.old + sum (map (λ p. application (cost context.now.world (readings context.now.customs) S p) (mean context.now.world (readings context.now.customs) S p) rows.now) (map pipe_of branches.now)) }
+    ensures grown { steps.old ≤ steps.new }
 {
     let mut parts = Vec::with_capacity(alloc, branches.len())?;
     for (k, branch) in branches.iter().enumerate() {
@@ -493,6 +503,7 @@ fn run_join<R: Threads + Sync, G: Gate, L: Ledger>(
         → Gives result (step_mean context.now.world (readings context.now.customs) S (join_of join.now) rows.now) }
     ensures steps { (S S' : Shape) → StepRunsFrom context.now root.now S S' (join_of join.now) rows.now
         → steps.new ≤ steps.old + step_cost context.now.world (readings context.now.customs) S (join_of join.now) rows.now }
+    ensures grown { steps.old ≤ steps.new }
 {
     run_joined(
         alloc,
@@ -526,6 +537,7 @@ fn run_joined<R: Threads + Sync, G: Gate, L: Ledger>(
         (S S' : Shape) → StepRunsFrom context.now root.now S S' s rows.now → Gives result (step_mean context.now.world (readings context.now.customs) S s rows.now) }
     ensures steps { let s = tree.Step.Join outer nav.now alias.now (inner_of (option_map pipe_of inner.now)) in
         (S S' : Shape) → StepRunsFrom context.now root.now S S' s rows.now → steps.new ≤ steps.old + step_cost context.now.world (readings context.now.customs) S s rows.now }
+    ensures grown { steps.old ≤ steps.new }
 {
     let found = join_navigation(context, root, outer, nav, alias, inner, rows);
     related_ready(context, root, outer, nav, alias, inner, rows, found);
@@ -559,6 +571,7 @@ fn run_related<R: Threads + Sync, G: Gate, L: Ledger>(
     ensures steps { (v : Navigation) (T' : Shape) → navigation_on context.now.world.model nav ≡ Some v
         → RelatedRun context.now v T' (inner_of (option_map pipe_of inner.now)) rows.now
         → steps.new ≤ steps.old + applications context.now.world (readings context.now.customs) (set_shape v.target) (inner_of (option_map pipe_of inner.now)) (map (meaning.related_rows context.now.world v) rows.now) }
+    ensures grown { steps.old ≤ steps.new }
 {
     let target = context.store().model().nav_target(nav);
     let root = Some(target);
@@ -587,6 +600,7 @@ fn run_inner<R: Threads + Sync, G: Gate, L: Ledger>(
         → Gives result (inner_mean context.now.world (readings context.now.customs) S (λ r. Some r) (inner_of (option_map pipe_of inner.now)) rows.items) }
     ensures steps { (S S' : Shape) → InnerRuns context.now root.now S S' (inner_of (option_map pipe_of inner.now)) rows.items
         → steps.new ≤ steps.old + inner_cost context.now.world (readings context.now.customs) S (inner_of (option_map pipe_of inner.now)) rows.items }
+    ensures grown { steps.old ≤ steps.new }
 {
     match inner {
         Some(pipe) => run_pipe(alloc, context, root, pipe, rows, steps),

@@ -67,6 +67,7 @@ pub fn run<R: Threads + Sync, G: Gate, L: Ledger>(
     ensures mean { let t = written_of plan.now in
         Gives result (mean store.now (readings c.now) (shape_of_set store.now.model t.set) (pipe_of t.pipe) (instances.rows store.now t.set)) }
     ensures steps { let t = own_of plan.now in steps.new ≤ steps.old + total_cost store.now (readings c.now) t.set (pipe_of t.pipe) }
+    ensures grown { steps.old ≤ steps.new }
 {
     let typed = plan.typed();
     let rows = set_rows(alloc, store, typed.set, steps)?;

@@ -6,11 +6,11 @@ use Rattle.edm_model.specs.ModelFile.{ModelReading, model_reading}
 use Rattle.edm_model.specs.declared.read.ModelRefused.{ModelRefused}
 use Rattle.edm_model.specs.declared.read.ModelRefused.TheVariants as refused
 use Rattle.context_typing.specs.Typing.{Customs}
-use Rattle.apply_load.specs.CustomReadings.{AreCustoms, IsFirstUntyped}
-use Rattle.apply_load.specs.FirstCustoms.{IfNames, owned}
-use Rattle.apply_load.specs.declared.customs.CustomFault.{CustomFault}
-use Rattle.apply_load.specs.declared.customs.CustomFault.TheVariants as fault
-use Rattle.apply_load.proofs.FirstCustoms.{not_both}
+use Rattle.apply_store.specs.CustomReadings.{AreCustoms, IsFirstUntyped}
+use Rattle.apply_store.specs.FirstCustoms.{IfNames, owned}
+use Rattle.apply_store.specs.declared.judging.CustomFault.{CustomFault}
+use Rattle.apply_store.specs.declared.judging.CustomFault.TheVariants as fault
+use Rattle.apply_store.proofs.FirstCustoms.{not_both}
 use Rattle.edm_data.specs.Worlds.{World, entity_at}
 use Rattle.edm_data.specs.DataFile.{DataReading, data_reading}
 use Rattle.edm_data.specs.declared.DataRefused.{DataRefused}

@@ -5,7 +5,7 @@ use Rattle.edm_model.specs.ModelFile.{ModelReading, model_reading}
 use Rattle.edm_data.specs.Worlds.{World}
 use Rattle.edm_data.specs.DataFile.{DataReading, data_reading}
 use Rattle.context_typing.specs.Typing.{Customs}
-use Rattle.apply_load.specs.CustomReadings.{AreCustoms}
+use Rattle.apply_store.specs.CustomReadings.{AreCustoms}
 
 -- a model file: its custom aggregates have typed readings
 abbrev pub IsModelFile : List ℕ → Type 0

@@ -2,12 +2,12 @@
 ghost use Rattle.std.specs.Prelude.{◌≡◌, IfOk, IsErr, IsNone, IsSome};
 ghost use Rattle.edm_model.specs.LookUps.{IsType};
 ghost use Rattle.context_typing.specs.Typing.{Customs};
-ghost use Rattle.apply_load.specs.CustomReadings.{AreCustoms};
-ghost use Rattle.apply_load.specs.FirstCustoms.{IfNames};
+ghost use Rattle.apply_store.specs.CustomReadings.{AreCustoms};
+ghost use Rattle.apply_store.specs.FirstCustoms.{IfNames};
 
 use crate::values::shown_text;
 use apply_grammar::{ExprRefused, read_expr, read_path};
-use apply_load::{CustomFault, judge_customs};
+use apply_store::{CustomFault, judge_customs};
 use edm_model::{Custom, Model};
 use std::alloc::{AllocError, Global};
 

@@ -4,7 +4,7 @@ ghost use Rattle.quoted_text.specs.Quoted.{IsPrintable};
 ghost use Rattle.serve_options.specs.Command.{AsksHelp, settings_in, texts_of};
 ghost use Rattle.serve_options.specs.Options.{Settings};
 ghost use Rattle.serve_options.specs.Seen.{settings_seen};
-ghost use Rattle.serve_options.specs.Usage.{IsUsageLine};
+ghost use Rattle.serve_options.specs.Usage.{IsUsageText};
 ghost use Rattle.run_messages.specs.RunLines as spec;
 ghost use Rattle.run_messages.specs.RunLines.{BeginsWith, IsLineThatBegins};
 
@@ -245,7 +245,7 @@ pub fn run_message<F: Folder>(
     ensures limit { status ≡ Status.InputLimit → IfOk result (λ t. string_bytes t ≡ spec.run_line (codes "the input has more bytes than --max-bytes allows")) }
     ensures model { (s : Settings) → status ≡ Status.ModelRefused → settings_in (texts_of words.now) ≡ Some s → IfOk result (λ t. IsLineThatBegins (spec.refused_file Status.ModelRefused s.mode) (string_bytes t)) }
     ensures entities { (s : Settings) → status ≡ Status.DataRefused → settings_in (texts_of words.now) ≡ Some s → IfOk result (λ t. IsLineThatBegins (spec.refused_file Status.DataRefused s.mode) (string_bytes t)) }
-    ensures usage { status ≡ Status.Usage → settings_in (texts_of words.now) ≡ None → ¬ (AsksHelp (texts_of words.now)) → IfOk result (λ t. IsUsageLine (string_bytes t)) }
+    ensures usage { status ≡ Status.Usage → settings_in (texts_of words.now) ≡ None → ¬ (AsksHelp (texts_of words.now)) → IfOk result (λ t. IsUsageText (texts_of words.now) (string_bytes t)) }
     ensures printable { (status ≡ Status.Usage → ¬ (AsksHelp (texts_of words.now))) → IfOk result (λ t. IsPrintable (string_bytes t)) }
 {
     match status {

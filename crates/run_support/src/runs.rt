@@ -1,5 +1,5 @@
 //! Runs of the service over objects in memory.
-ghost use Rattle.std.specs.Prelude.{◌≡◌, ◌<◌, IfOk, map, string_bytes};
+ghost use Rattle.std.specs.Prelude.{◌≡◌, ℕ, ◌<◌, IfOk, map, string_bytes};
 ghost use Rattle.apply_io.specs.Files.{files_of};
 ghost use Rattle.apply_service.specs.Service.{Says};
 ghost use Rattle.run_support.specs.Cases.{failing_calls, case_words, case_files};
@@ -29,11 +29,12 @@ pub struct Case<'a> {
     pub output_fails: u64,
 }
 
-/// How a run ended, and what it wrote.
+/// How a run ended, what it wrote, and how often the folder failed.
 #[derive(Drop)]
 pub struct RunResult {
     pub status: Status,
     pub output: Vec<u8>,
+    pub folder_faults: u64,
 }
 
 /// The number alone, or nothing for 0.
@@ -98,11 +99,12 @@ fn serve_counted<R: Threads + Sync, F: Folder, S: Source, K: Sink, L: Ledger>(
     requires name { blank.name ≡ L.name }
     requires parts { blank.parts ≡ L.parts }
     requires some { 0 < blank.parts }
-    ensures { Says (record {
+    ensures { (counted : ℕ) × Says (record {
       words = map string_bytes words.now;
       folder = record { files = F.files folder.old; faults = F.fault_count folder.old; faults_after = F.fault_count folder.new };
       input = record { left = S.left input.old; left_after = S.left input.new; faults = S.fault_count input.old; faults_after = S.fault_count input.new };
       output = record { held = K.held output.old; held_after = K.held output.new; faults = K.fault_count output.old; faults_after = K.fault_count output.new };
+      steps = record { count = 0; count_after = counted };
       status = result;
     }) (F.is_steady folder.old) (folder.new ≡ folder.old) (input.new ≡ input.old) (output.new ≡ output.old) }
 {
@@ -137,6 +139,7 @@ pub fn outcome_over<R: Threads + Sync, S: Source>(
     Ok(RunResult {
         status,
         output: output.bytes().to_vec(alloc)?,
+        folder_faults: folder.faults(),
     })
 }
 

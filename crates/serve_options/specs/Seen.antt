@@ -7,8 +7,11 @@ use Rattle.serve_options.specs.declared.rules.Asked.{Asked}
 use Rattle.serve_options.specs.declared.rules.AskedMode.{AskedMode}
 use Rattle.serve_options.specs.declared.rules.AskedMode.TheVariants as lent
 use Rattle.serve_options.specs.declared.rules.Names.{Names}
+use Rattle.serve_options.specs.declared.rules.Problem.{Problem}
+use Rattle.serve_options.specs.declared.rules.Problem.TheVariants as broken
 use Rattle.serve_options.specs.declared.words.Given.{Given}
 use Rattle.serve_options.specs.Options as asked
+use Rattle.serve_options.specs.Usage.{files_told, mode_told, number_told, plan_told}
 
 -- a mode
 abbrev pub mode_seen : Mode → asked.Mode
@@ -45,3 +48,10 @@ lent_mode_seen (lent.Gen count) = asked.Gen count
 -- the options with lent names, as settings
 abbrev pub lent_settings_seen : Asked → asked.Settings
 lent_settings_seen a = record { mode = lent_mode_seen a.mode; workers = a.workers; max_bytes = a.max_bytes; is_optimised = a.is_optimised }
+
+-- a rule that a value breaks, as it is told
+abbrev pub problem_seen : Problem → List ℕ
+problem_seen (broken.Number option low high given) = number_told option.now low high given.now
+problem_seen (broken.Plan given) = plan_told given.now
+problem_seen (broken.Mode given) = mode_told given.now
+problem_seen (broken.Files mode) = files_told mode.now

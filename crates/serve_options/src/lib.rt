@@ -8,8 +8,9 @@
 //! digits, and on `quoted_text` for words that are shown. It promises that the answer is the one of `settings_in` in
 //! `specs/Command.antt`: options come exactly where `clap`'s statement of the command takes the words and their values keep
 //! the rules of `settings_of` in `specs/Options.antt`, and only want of memory may come in place of an answer. Of wrong words
-//! that do not ask for help [`usage_text`] has one line in the form of `specs/Usage.antt`, in which nothing is left that a
-//! terminal would obey; what problem it tells is shown by tests only.
+//! that do not ask for help [`usage_text`] has one line, in which nothing is left that a terminal would obey: that of the first
+//! rule that a value breaks, as `specs/Usage.antt` has it, and where the words do not meet the command a line of the same form
+//! with what `clap` says, which is shown by tests only.
 //!
 //! `words` has the command and the values in the words, `rules` the rules on the values, `messages` the texts.
 #![tactic(auto)]
@@ -19,7 +20,7 @@ ghost use Rattle.clap.specs.Values.{kind_of};
 ghost use Rattle.quoted_text.specs.Quoted.{IsPrintable};
 ghost use Rattle.serve_options.specs.Command.{AsksHelp, settings_in, texts_of};
 ghost use Rattle.serve_options.specs.Seen.{settings_seen};
-ghost use Rattle.serve_options.specs.Usage.{IsUsageLine};
+ghost use Rattle.serve_options.specs.Usage.{IsUsageText};
 
 mod messages;
 mod rules;
@@ -107,10 +108,10 @@ pub fn read_options(alloc: Global, words: &[String]) -> Result<Options, OptionsR
 
 /// What is wrong with words that [`read_options`] refuses by `Usage`, in one line without an end: what `clap` says, or which
 /// rule a value breaks; for a call for help the help text. For words that name a run it is empty. Characters of the words that
-/// a terminal would obey stand there by their numbers. The problem's wording is shown by tests only.
+/// a terminal would obey stand there by their numbers. What `clap` says is shown by tests only.
 pub fn usage_text(alloc: Global, words: &[String]) -> Result<String, AllocError>
     ensures named { settings_in (texts_of words.now) ≢ None → IfOk result (λ t. string_bytes t ≡ []) }
-    ensures line { settings_in (texts_of words.now) ≡ None → ¬ (AsksHelp (texts_of words.now)) → IfOk result (λ t. IsUsageLine (string_bytes t)) }
+    ensures told { settings_in (texts_of words.now) ≡ None → ¬ (AsksHelp (texts_of words.now)) → IfOk result (λ t. IsUsageText (texts_of words.now) (string_bytes t)) }
     ensures printable { ¬ (AsksHelp (texts_of words.now)) → IfOk result (λ t. IsPrintable (string_bytes t)) }
 {
     match given_values(alloc, words) {

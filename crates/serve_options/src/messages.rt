@@ -1,8 +1,10 @@
 //! The texts for words that are refused.
-ghost use Rattle.std.specs.Prelude.{◌≡◌, ◌≢◌, IfOk, IsErr, string_bytes};
+ghost use Rattle.std.specs.Prelude.{◌≡◌, ◌≢◌, ◌++◌, IfOk, IsErr, chars, codes, string_bytes};
 ghost use Rattle.clap.specs.Values.{kind_of};
 ghost use Rattle.clap.specs.declared.error.kind.ErrorKind.TheVariants.{DisplayHelp, OutOfMemory};
-ghost use Rattle.serve_options.specs.Usage.{IsUsageLine, usage_line};
+ghost use Rattle.quoted_text.specs.Quoted.{quote};
+ghost use Rattle.serve_options.specs.Seen.{problem_seen};
+ghost use Rattle.serve_options.specs.Usage.{IsUsageLine, files_told, limits_told, mode_told, number_told, plan_told, usage_line};
 
 use crate::rules::Problem;
 use crate::words::given_values;
@@ -19,32 +21,81 @@ fn line(alloc: Global, problem: &str) -> Result<String, AllocError>
     format!(in alloc; "apply_serve: {problem}; see apply_serve --help")
 }
 
-/// Which rule a value breaks.
-pub(crate) fn problem_text(alloc: Global, problem: &Problem<'_>) -> Result<String, AllocError>
-    ensures { IfOk result (λ t. IsUsageLine (string_bytes t)) }
+/// The limits of a number.
+fn limits_text(alloc: Global, least: u64, most: u64) -> Result<String, AllocError>
+    ensures { IfOk result (λ t. string_bytes t ≡ limits_told least most) }
 {
-    let text = match problem {
+    format!(in alloc; "{least} to {most}")
+}
+
+/// What a value would have to be, and the value.
+fn against_text(alloc: Global, wanted: &str, given: &str) -> Result<String, AllocError>
+    ensures { IfOk result (λ t. string_bytes t ≡ wanted.now ++ (codes ", not " ++ quote (chars given.now))) }
+{
+    let given = quoted(alloc, given)?;
+    format!(in alloc; "{wanted}, not {given}")
+}
+
+/// A value that is no number within its option's limits.
+fn number_text(
+    alloc: Global,
+    option: &str,
+    least: u64,
+    most: u64,
+    given: &str,
+) -> Result<String, AllocError>
+    ensures { IfOk result (λ t. string_bytes t ≡ number_told option.now least most given.now) }
+{
+    let limits = limits_text(alloc, least, most)?;
+    let rest = against_text(alloc, limits.as_str(), given)?;
+    format!(in alloc; "{option} takes a whole number from {rest}")
+}
+
+/// A value that is no plan.
+fn plan_text(alloc: Global, given: &str) -> Result<String, AllocError>
+    ensures { IfOk result (λ t. string_bytes t ≡ plan_told given.now) }
+{
+    let given = quoted(alloc, given)?;
+    format!(in alloc; "--plan takes written or optimised, not {given}")
+}
+
+/// A value that is no mode.
+fn mode_text(alloc: Global, given: &str) -> Result<String, AllocError>
+    ensures { IfOk result (λ t. string_bytes t ≡ mode_told given.now) }
+{
+    let given = quoted(alloc, given)?;
+    format!(in alloc; "--mode takes serve, check or gen, not {given}")
+}
+
+/// A mode that lacks a file.
+fn files_text(alloc: Global, mode: &str) -> Result<String, AllocError>
+    ensures { IfOk result (λ t. string_bytes t ≡ files_told mode.now) }
+{
+    format!(in alloc; "mode {mode} wants --model FILE and --data FILE")
+}
+
+/// Which rule a value breaks.
+fn rule_text(alloc: Global, problem: &Problem<'_>) -> Result<String, AllocError>
+    ensures { IfOk result (λ t. string_bytes t ≡ problem_seen problem.now) }
+{
+    match problem {
         Problem::Number {
             option,
             least,
             most,
             given,
-        } => {
-            let given = quoted(alloc, given)?;
-            format!(in alloc; "{option} takes a whole number from {least} to {most}, not {given}")?
-        }
-        Problem::Plan(given) => {
-            let given = quoted(alloc, given)?;
-            format!(in alloc; "--plan takes written or optimised, not {given}")?
-        }
-        Problem::Mode(given) => {
-            let given = quoted(alloc, given)?;
-            format!(in alloc; "--mode takes serve, check or gen, not {given}")?
-        }
-        Problem::Files(mode) => {
-            format!(in alloc; "mode {mode} wants --model FILE and --data FILE")?
-        }
-    };
+        } => number_text(alloc, option, *least, *most, given),
+        Problem::Plan(given) => plan_text(alloc, given),
+        Problem::Mode(given) => mode_text(alloc, given),
+        Problem::Files(mode) => files_text(alloc, mode),
+    }
+}
+
+/// The line that says which rule a value breaks.
+pub(crate) fn problem_text(alloc: Global, problem: &Problem<'_>) -> Result<String, AllocError>
+    ensures { IfOk result (λ t. string_bytes t ≡ usage_line (problem_seen problem.now)) }
+{
+    let text = rule_text(alloc, problem)?;
     line(alloc, text.as_str())
 }
 

@@ -2,10 +2,11 @@
 ghost use Rattle.std.specs.Prelude.{◌≡◌, ◌≤◌, IfOk, codes, option_map, unwrap_or, string_bytes};
 ghost use Rattle.std.specs.Char.{is_digit};
 ghost use Rattle.std.specs.List.{list_all};
-ghost use Rattle.std.specs.Result.{result_ok};
+ghost use Rattle.std.specs.Result.{result_err, result_ok};
 ghost use Rattle.edm_values.specs.Literals.{is_digits};
 ghost use Rattle.serve_options.specs.Options as spec;
-ghost use Rattle.serve_options.specs.Seen.{lent_mode_seen, lent_settings_seen, mode_seen, names_seen, settings_seen, values_seen};
+ghost use Rattle.serve_options.specs.Seen.{lent_mode_seen, lent_settings_seen, mode_seen, names_seen, problem_seen, settings_seen, values_seen};
+ghost use Rattle.serve_options.specs.Usage.{files_told, mode_problem, number_problem, plan_problem, problem_of, told_unless};
 
 use crate::words::Given;
 use crate::{FileNames, Mode, Options};
@@ -92,6 +93,7 @@ fn number<'a>(
 ) -> Result<u64, Problem<'a>>
     requires { default ≤ most }
     ensures value { result_ok result ≡ spec.number_or default least most (option_map (λ s. s.now) given.entry) }
+    ensures problem { option_map problem_seen (result_err result) ≡ number_problem option.entry.now least most (option_map (λ s. s.now) given.entry) }
     ensures within { IfOk result (λ n. n ≤ most) }
 {
     let Some(given) = given else {
@@ -110,7 +112,8 @@ fn number<'a>(
 
 /// Whether the plan is optimised.
 fn is_optimised<'a>(plan: Option<&'a str>) -> Result<bool, Problem<'a>>
-    ensures { result_ok result ≡ spec.plan_named (unwrap_or (option_map (λ s. s.now) plan.entry) (codes "optimised")) }
+    ensures value { result_ok result ≡ spec.plan_named (unwrap_or (option_map (λ s. s.now) plan.entry) (codes "optimised")) }
+    ensures problem { option_map problem_seen (result_err result) ≡ plan_problem (unwrap_or (option_map (λ s. s.now) plan.entry) (codes "optimised")) }
 {
     match plan.unwrap_or("optimised") {
         "optimised" => Ok(true),
@@ -121,7 +124,8 @@ fn is_optimised<'a>(plan: Option<&'a str>) -> Result<bool, Problem<'a>>
 
 /// The names of both files, for a mode that needs them.
 fn file_names<'a>(given: Given<'a>, mode: &'static str) -> Result<Names<'a>, Problem<'a>>
-    ensures { option_map names_seen (result_ok result) ≡ spec.both_files (values_seen given.entry) }
+    ensures value { option_map names_seen (result_ok result) ≡ spec.both_files (values_seen given.entry) }
+    ensures problem { option_map problem_seen (result_err result) ≡ told_unless (spec.both_files (values_seen given.entry)) (files_told mode.entry.now) }
 {
     match (given.model, given.entities) {
         (Some(model), Some(entities)) => Ok(Names { model, entities }),
@@ -131,7 +135,8 @@ fn file_names<'a>(given: Given<'a>, mode: &'static str) -> Result<Names<'a>, Pro
 
 /// The mode, which is to serve where none was given.
 fn mode<'a>(given: Given<'a>, count: u32) -> Result<AskedMode<'a>, Problem<'a>>
-    ensures { option_map lent_mode_seen (result_ok result) ≡ spec.mode_named (values_seen given.entry) count (unwrap_or (option_map (λ s. s.now) given.entry.mode) (codes "serve")) }
+    ensures value { option_map lent_mode_seen (result_ok result) ≡ spec.mode_named (values_seen given.entry) count (unwrap_or (option_map (λ s. s.now) given.entry.mode) (codes "serve")) }
+    ensures problem { option_map problem_seen (result_err result) ≡ mode_problem (values_seen given.entry) (unwrap_or (option_map (λ s. s.now) given.entry.mode) (codes "serve")) }
 {
     match given.mode.unwrap_or("serve") {
         "serve" => Ok(AskedMode::Serve(file_names(given, "serve")?)),
@@ -143,7 +148,8 @@ fn mode<'a>(given: Given<'a>, count: u32) -> Result<AskedMode<'a>, Problem<'a>>
 
 /// What the values ask for, or a rule that one of them breaks.
 pub(crate) fn check_values<'a>(given: Given<'a>) -> Result<Asked<'a>, Problem<'a>>
-    ensures { option_map lent_settings_seen (result_ok result) ≡ spec.settings_of (values_seen given.entry) }
+    ensures value { option_map lent_settings_seen (result_ok result) ≡ spec.settings_of (values_seen given.entry) }
+    ensures problem { option_map problem_seen (result_err result) ≡ problem_of (values_seen given.entry) }
 {
     let workers = number("--workers", given.workers, 1, 64, 4)?;
     let max_bytes = number(

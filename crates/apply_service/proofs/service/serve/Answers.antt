@@ -5,30 +5,25 @@ use Rattle.apply_service.proofs.Counts.{gen-within}
 use Rattle.apply_service.proofs.Saying.{says-serve, says-check, says-gen, says-usage, says-memory}
 use Rattle.apply_service.proofs.service.serve.Goals as goal
 
-pub returns-in-Serve : goal.returns-in-Serve
-returns-in-Serve g c = record {
-  says = says-serve _ _ _ _ _ (λ e. ap g.S.Source.left e) (λ e. ap g.K.Sink.held e) (settings_seen c.in-Ok.options) c.in-Ok.ensures.ok (string_bytes c.in-Serve.files.model) (string_bytes c.in-Serve.files.entities) (ap mode_seen c.in-Serve.is) (rw (c.as_str.ensures.value, c.as_str-in-Serve.ensures.value) at c.serve_files.ensures);
-}
+pub returns-in-Serve-clause-says : goal.returns-in-Serve-clause-says
+returns-in-Serve-clause-says g c =
+    says-serve _ _ _ _ _ (λ e. ap g.S.Source.left e) (λ e. ap g.K.Sink.held e) (settings_seen c.in-Ok.options) c.in-Ok.ensures.ok (string_bytes c.in-Serve.files.model) (string_bytes c.in-Serve.files.entities) (ap mode_seen c.in-Serve.is) (rw (c.as_str.ensures.value, c.as_str-in-Serve.ensures.value) at c.serve_files.ensures.says)
 
-pub returns-in-Check : goal.returns-in-Check
-returns-in-Check g c = record {
-  says = says-check _ _ _ _ _ (λ e. ap g.S.Source.left e) (λ e. ap g.K.Sink.held e) (settings_seen c.in-Ok.options) c.in-Ok.ensures.ok (string_bytes c.in-Check.files.model) (string_bytes c.in-Check.files.entities) (ap mode_seen c.in-Check.is) (rw (c.as_str-in-Check.ensures.value, c.as_str-in-Check-2.ensures.value) at c.check_files.ensures) refl;
-}
+pub returns-in-Check-clause-says : goal.returns-in-Check-clause-says
+returns-in-Check-clause-says g c =
+    says-check _ _ _ _ _ (λ e. ap g.S.Source.left e) (λ e. ap g.K.Sink.held e) (settings_seen c.in-Ok.options) c.in-Ok.ensures.ok (string_bytes c.in-Check.files.model) (string_bytes c.in-Check.files.entities) (ap mode_seen c.in-Check.is) (rw (c.as_str-in-Check.ensures.value, c.as_str-in-Check-2.ensures.value) at c.check_files.ensures.says) refl refl
 
-pub returns-in-Err-Usage : goal.returns-in-Err-Usage
-returns-in-Err-Usage g c = record {
-  says = says-usage _ _ _ _ _ (λ e. ap g.S.Source.left e) (λ e. ap g.K.Sink.held e) refl (c.in-Err-Usage.ensures.usage (ap Err c.in-Err-Usage.field-0-is)) refl refl refl;
-}
+pub returns-in-Err-Usage-clause-says : goal.returns-in-Err-Usage-clause-says
+returns-in-Err-Usage-clause-says g c =
+    says-usage _ _ _ _ _ (λ e. ap g.S.Source.left e) (λ e. ap g.K.Sink.held e) refl (c.in-Err-Usage.ensures.usage (ap Err c.in-Err-Usage.field-0-is)) refl refl refl refl
 
-pub returns-in-Err-Memory : goal.returns-in-Err-Memory
-returns-in-Err-Memory g c = record {
-  says = says-memory _ _ _ _ _ (λ e. ap g.S.Source.left e) (λ e. ap g.K.Sink.held e) refl refl refl refl;
-}
+pub returns-in-Err-Memory-clause-says : goal.returns-in-Err-Memory-clause-says
+returns-in-Err-Memory-clause-says g c =
+    says-memory _ _ _ _ _ (λ e. ap g.S.Source.left e) (λ e. ap g.K.Sink.held e) refl refl refl refl refl
 
-pub returns : goal.returns
-returns g c = record {
-  says = says-gen _ _ _ _ _ (λ e. ap g.S.Source.left e) (λ e. ap g.K.Sink.held e) (settings_seen c.in-Ok.options) c.in-Ok.ensures.ok c.in-Gen.count (ap mode_seen c.in-Gen.is) c.answer_generated.ensures refl refl;
-}
+pub returns-clause-says : goal.returns-clause-says
+returns-clause-says g c =
+    says-gen _ _ _ _ _ (λ e. ap g.S.Source.left e) (λ e. ap g.K.Sink.held e) (settings_seen c.in-Ok.options) c.in-Ok.ensures.ok c.in-Gen.count (ap mode_seen c.in-Gen.is) c.answer_generated.ensures.says refl refl
 
 pub answer_generated-requires-clause-few : goal.answer_generated-requires-clause-few
 answer_generated-requires-clause-few g c =

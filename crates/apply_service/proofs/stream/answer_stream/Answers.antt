@@ -1,24 +1,26 @@
-use Rattle.std.proofs.Common.{◌≡◌, arith, sym, ap, subst, Err}
+use Rattle.std.proofs.Common.{◌≡◌, arith, refl, sym, ap, subst, Err}
 use Rattle.apply_service.specs.declared.stream.Stop.TheVariants.{Read, Write, Limit}
 use Rattle.line_stream.specs.Buffers.{Kept, nothing_kept}
 use Rattle.line_stream.specs.Streams.{Advances}
 use Rattle.line_stream.proofs.Responding.{LongLines}
+use Rattle.line_stream.proofs.Counting.{LongBounds}
 use Rattle.line_stream.proofs.Streaming.{Advances-nil, Advances-more, Overruns-after, Breaks-after, Responds-ended, Responds-limit, Responds-all, RespondsInPart-middle, RespondsInPart-last}
+use Rattle.apply_replies.specs.Costs.{BoundsLineOf}
 use Rattle.apply_replies.specs.Replies.{IsReplyOf}
-use Rattle.apply_replies.specs.ReplyLaws.{long_lines}
+use Rattle.apply_replies.specs.ReplyLaws.{long_costs, long_lines}
 use Rattle.context_typing.specs.Readings.{readings}
 use Rattle.apply_service.proofs.stream.answer_stream.Goals as goal
 
 pub loop-count-init : goal.loop-count-init
 loop-count-init g c = record {
   within = omega arith;
-  room = c.requires.room;
+  room = refl;
   limit = c.requires.limit;
   later_in = omega arith;
   later_out = omega arith;
   advanced =
-      let P : Kept → Type 0 = λ k. Advances (IsReplyOf c.args.replies.now.store.now) (g.S.Source.left c.args.input.now) (g.S.Source.left c.args.input.now) (g.K.Sink.held c.args.output.now) (g.K.Sink.held c.args.output.now) (nothing_kept c.args.line.now.limit) k 0 in
-      subst P (sym c.requires.empty) (Advances-nil _ _ _ (nothing_kept c.args.line.now.limit));
+      let P : Kept → Type 0 = λ k. Advances (IsReplyOf c.args.replies.now.store.now) (BoundsLineOf c.args.replies.now.store.now) (g.S.Source.left c.args.input.now) (g.S.Source.left c.args.input.now) (g.K.Sink.held c.args.output.now) (g.K.Sink.held c.args.output.now) c.args.steps.now c.args.steps.now (nothing_kept c.args.line.now.limit) k 0 in
+      subst P (sym c.requires.empty) (Advances-nil _ _ _ _ _ (nothing_kept c.args.line.now.limit));
 }
 
 pub loop-count-preserved : goal.loop-count-preserved
@@ -31,36 +33,39 @@ loop-count-preserved g c =
       limit = now.limit;
       later_in = omega (arith, before.later_in, now.later_in);
       later_out = omega (arith, before.later_out, now.later_out);
-      advanced = Advances-more _ _ _ _ _ _ _ _ _ _ _ _ before.advanced now.ok;
+      advanced = Advances-more _ _ _ _ _ _ _ _ _ _ _ _ _ _ _ _ before.advanced now.ok;
     }
 
 pub returns-in-Err-clause-read : goal.returns-in-Err-clause-read
 returns-in-Err-clause-read g c = λ h.
     let stop : c.in-Err.stop ≡ Read = cc in
     let kept = c.in-Err.ensures.read (ap Err stop) in
-    rw (kept.1) (Responds-ended _ _ _ _ _ _ _ _ _ _ c.loop-count.invariant.within c.loop-count.invariant.advanced kept.0)
+    rw (kept.1, kept.3) (Responds-ended _ _ _ _ _ _ _ _ _ _ _ _ _ c.loop-count.invariant.within c.loop-count.invariant.advanced kept.0)
 
 pub returns-in-Err-clause-limit_passed : goal.returns-in-Err-clause-limit_passed
 returns-in-Err-clause-limit_passed g c = λ h.
     let stop : c.in-Err.stop ≡ Limit = cc in
     let over = c.in-Err.ensures.limit_passed (ap Err stop) in
-    Responds-limit _ _ _ _ _ _ _ _ (Overruns-after _ _ _ _ _ _ _ _ _ _ _ _ _ (omega (arith, c.loop-count.invariant.within)) c.loop-count.invariant.advanced over)
+    Responds-limit _ _ _ _ _ _ _ _ _ _ _ (Overruns-after _ _ _ _ _ _ _ _ _ _ _ _ _ _ _ _ _ (omega (arith, c.loop-count.invariant.within)) c.loop-count.invariant.advanced over)
 
 pub returns-in-Err-clause-write : goal.returns-in-Err-clause-write
 returns-in-Err-clause-write g c = λ h.
     let stop : c.in-Err.stop ≡ Write = cc in
     let broken = c.in-Err.ensures.write (ap Err stop) in
-    RespondsInPart-middle _ _ _ _ _ _ (Breaks-after _ _ _ _ _ _ _ _ _ _ c.loop-count.invariant.advanced broken)
+    rw (sym c.loop-count.invariant.room) (RespondsInPart-middle _ _ _ _ _ _ _ _ _ _ _ (Breaks-after _ _ _ _ _ _ _ _ _ _ _ _ _ _ _ _ _ (omega (arith, c.loop-count.invariant.within)) c.loop-count.invariant.advanced broken))
 
 pub returns-in-Ok-answer_line-clause-ok : goal.returns-in-Ok-answer_line-clause-ok
 returns-in-Ok-answer_line-clause-ok g c =
     let long = subst (LongLines (IsReplyOf c.args.replies.now.store.now)) (sym c.in-Ok-eq0.ensures.limit) (long_lines c.args.replies.now.store.now.world (readings c.args.replies.now.store.now.customs)) in
-    let last = Advances-more _ _ _ _ _ _ _ _ _ _ _ _ c.loop-count.invariant.advanced c.in-Ok-eq0.ensures.ok in
+    let bound = subst (LongBounds (BoundsLineOf c.args.replies.now.store.now)) (sym c.in-Ok-eq0.ensures.limit) (long_costs c.args.replies.now.store.now.world (readings c.args.replies.now.store.now.customs)) in
+    let last = Advances-more _ _ _ _ _ _ _ _ _ _ _ _ _ _ _ _ c.loop-count.invariant.advanced c.in-Ok-eq0.ensures.ok in
     let within = c.in-Ok-eq0.ensures.count in
-    Responds-all _ _ _ _ _ _ _ _ _ _ (omega (arith, within, c.loop-count.invariant.within)) long last (rw c.whole.ensures at c.in-Ok-answer_line.ensures.ok)
+    Responds-all _ _ _ _ _ _ _ _ _ _ _ _ _ _ (omega (arith, within, c.loop-count.invariant.within)) long bound last (rw c.whole.ensures at c.in-Ok-answer_line.ensures.ok) (rw c.whole.ensures at c.answer_line.ensures.counted)
 
 pub returns-in-Err-answer_line-clause-write : goal.returns-in-Err-answer_line-clause-write
 returns-in-Err-answer_line-clause-write g c = λ _.
     let long = subst (LongLines (IsReplyOf c.args.replies.now.store.now)) (sym c.in-Ok-eq0.ensures.limit) (long_lines c.args.replies.now.store.now.world (readings c.args.replies.now.store.now.customs)) in
-    let last = Advances-more _ _ _ _ _ _ _ _ _ _ _ _ c.loop-count.invariant.advanced c.in-Ok-eq0.ensures.ok in
-    RespondsInPart-last _ _ _ _ _ _ _ _ _ (c.in-Ok-eq0.ensures.end (omega arith)) long last (rw c.whole.ensures at c.in-Err-answer_line.ensures.err)
+    let bound = subst (LongBounds (BoundsLineOf c.args.replies.now.store.now)) (sym c.in-Ok-eq0.ensures.limit) (long_costs c.args.replies.now.store.now.world (readings c.args.replies.now.store.now.customs)) in
+    let last = Advances-more _ _ _ _ _ _ _ _ _ _ _ _ _ _ _ _ c.loop-count.invariant.advanced c.in-Ok-eq0.ensures.ok in
+    let within = c.in-Ok-eq0.ensures.count in
+    RespondsInPart-last _ _ _ _ _ _ _ _ _ _ _ _ _ _ _ (omega (arith, within, c.loop-count.invariant.within)) (c.in-Ok-eq0.ensures.end (omega arith)) long bound last (rw c.whole.ensures at c.in-Err-answer_line.ensures.err) (rw c.whole.ensures at c.answer_line.ensures.counted)

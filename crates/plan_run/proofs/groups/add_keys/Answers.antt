@@ -37,10 +37,12 @@ loop-k-preserved g c =
     let row : c.in_ok-make.field-0 ≡ group_row level.0 d.0 = made ∙ (λ i. record { prefixes = c.new.ensures.items i; columns = columns i }) in
     let fewer = next-length level.1 k d.0 within in
     let spent = c.make.ensures.steps in
-    let left = c.loop-k.invariant.1 in (
+    let left = c.loop-k.invariant.1 in
+    let grown = c.loop-k.invariant.2 in (
       c.loop-k.invariant.0 ∙ ap (λ xs. c.loop-k.all.items ++ xs) next
           ∙ sym (append_assoc c.loop-k.all.items (group_row level.0 d.0 ∷ []) rest)
           ∙ ap (λ x. (c.loop-k.all.items ++ x ∷ []) ++ rest) (sym row)
           ∙ ap (λ xs. xs ++ rest) (sym c.in_ok-push.ensures.items),
       omega (arith, spent, left, fewer),
+      omega (arith, spent, grown),
     )

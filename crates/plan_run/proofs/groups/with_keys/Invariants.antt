@@ -11,3 +11,4 @@ invariant-loop-row g l =
     (map (λ r. extended r (keyed l.paths l.key)) l.fn.results.items ≡ l.all.items ++ map (λ r. extended r (keyed l.paths l.key)) (into_iter_items l.row-iterator))
     × IsTrue (list_all (λ r. columns_differ (extended r (keyed l.paths l.key)).columns) (into_iter_items l.row-iterator))
     × (l.steps + length (into_iter_items l.row-iterator) ≤ l.fn.steps + length l.fn.results.items)
+    × (l.fn.steps ≤ l.steps)

@@ -69,3 +69,9 @@ returns-clause-steps g c =
     let found = c.traverse_places.ensures.steps in
     let copied = c.members.ensures.steps in
     omega (arith, long, walked, found, copied)
+
+pub returns-in_err-members-clause-grown : goal.returns-in_err-members-clause-grown
+returns-in_err-members-clause-grown g c = omega (arith, c.traverse_places.ensures.grown, c.members.ensures.grown)
+
+pub returns-clause-grown : goal.returns-clause-grown
+returns-clause-grown g c = omega (arith, c.traverse_places.ensures.grown, c.members.ensures.grown)

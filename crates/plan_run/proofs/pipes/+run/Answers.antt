@@ -91,6 +91,9 @@ run_pipe-returns-in_err-rows-clause-steps g t c = λ S S' R.
     let left = i.3 in
     omega (arith, s, least, left)
 
+pub run_pipe-returns-in_err-rows-clause-grown : goal.run_pipe-returns-in_err-rows-clause-grown
+run_pipe-returns-in_err-rows-clause-grown g t c = omega (arith, c.run_step.ensures.grown, c.loop-i.invariant.2)
+
 pub run_pipe-loop-i-preserved : goal.run_pipe-loop-i-preserved
 run_pipe-loop-i-preserved g t c = (
   ready-next c.args.context.now c.steps-all.result.now c.loop-i.i c.index-all-i.result c.loop-i-test.true c.index-all-i.is c.loop-i.invariant.0,
@@ -115,6 +118,7 @@ run_pipe-loop-i-preserved g t c = (
         i.2 ∙ u.meaning ∙ ap (option_and_then (mean w cs u.between rest)) m,
         omega (arith, s, spent, left),
       ),
+  omega (arith, c.run_step.ensures.grown, c.loop-i.invariant.2),
 )
 
 pub run_pipe-returns-clause-mean : goal.run_pipe-returns-clause-mean
@@ -128,6 +132,9 @@ pub run_pipe-returns-clause-steps : goal.run_pipe-returns-clause-steps
 run_pipe-returns-clause-steps g t c = λ S S' R.
     let left = (c.loop-i.invariant.1 S S' R).3 in
     omega (arith, left)
+
+pub run_pipe-returns-clause-grown : goal.run_pipe-returns-clause-grown
+run_pipe-returns-clause-grown g t c = omega (arith, c.loop-i.invariant.2)
 
 pub run_step-filter_rows-requires : goal.run_step-filter_rows-requires
 run_step-filter_rows-requires g t c =
@@ -176,6 +183,9 @@ run_step-returns-in_err-compute_rows-in-Compute-clause-steps g t c = λ S S' R.
     let whole = ap (λ s. step_cost x.world (readings x.customs) S s c.args.rows.items) e ∙ compute-cost x.world (readings x.customs) S (map named_of c.in-Compute.items) c.args.rows.items in
     omega (arith, spent, whole)
 
+pub run_step-returns-in_err-compute_rows-in-Compute-clause-grown : goal.run_step-returns-in_err-compute_rows-in-Compute-clause-grown
+run_step-returns-in_err-compute_rows-in-Compute-clause-grown g t c = omega (arith, c.compute_rows.ensures.grown)
+
 pub run_step-returns-in-Compute-clause-mean :
     goal.run_step-returns-in-Compute-clause-mean
 run_step-returns-in-Compute-clause-mean g t c = λ S S' R.
@@ -194,6 +204,9 @@ run_step-returns-in-Compute-clause-steps g t c = λ S S' R.
     let spent = c.compute_rows.ensures.steps in
     let whole = ap (λ s. step_cost x.world (readings x.customs) S s c.args.rows.items) e ∙ compute-cost x.world (readings x.customs) S (map named_of c.in-Compute.items) c.args.rows.items in
     omega (arith, spent, whole)
+
+pub run_step-returns-in-Compute-clause-grown : goal.run_step-returns-in-Compute-clause-grown
+run_step-returns-in-Compute-clause-grown g t c = omega (arith, c.compute_rows.ensures.grown)
 
 pub run_step-returns-in-OrderBy-clause-mean : goal.run_step-returns-in-OrderBy-clause-mean
 run_step-returns-in-OrderBy-clause-mean g t c = λ S S' R.
@@ -238,6 +251,9 @@ run_step-returns-in_err-aggregated-in-Aggregate-clause-steps g t c = λ S S' R.
     let whole = ap (λ s. step_cost x.world (readings x.customs) S s c.args.rows.items) e ∙ aggregate-cost x.world (readings x.customs) S (map agg_of c.in-Aggregate.items) c.args.rows.items in
     omega (arith, spent, whole)
 
+pub run_step-returns-in_err-aggregated-in-Aggregate-clause-grown : goal.run_step-returns-in_err-aggregated-in-Aggregate-clause-grown
+run_step-returns-in_err-aggregated-in-Aggregate-clause-grown g t c = omega (arith, c.aggregated.ensures.grown)
+
 pub run_step-returns-clause-steps :
     goal.run_step-returns-clause-steps
 run_step-returns-clause-steps g t c = λ S S' R.
@@ -246,6 +262,9 @@ run_step-returns-clause-steps g t c = λ S S' R.
     let spent = c.aggregated.ensures.steps in
     let whole = ap (λ s. step_cost x.world (readings x.customs) S s c.args.rows.items) e ∙ aggregate-cost x.world (readings x.customs) S (map agg_of c.in-Aggregate.items) c.args.rows.items in
     omega (arith, spent, whole)
+
+pub run_step-returns-clause-grown : goal.run_step-returns-clause-grown
+run_step-returns-clause-grown g t c = omega (arith, c.aggregated.ensures.grown)
 
 -- ---- one group
 
@@ -268,6 +287,9 @@ run_group-returns-in_err-copies-clause-steps g t c = λ S G d R at.
     let charged : charge_of x S T l d ≡ length (at_places l d.1) + cost x.world (readings x.customs) S T (at_places l d.1) + result_length (mean x.world (readings x.customs) S T (at_places l d.1)) = refl in
     omega (arith, few, copied, charged)
 
+pub run_group-returns-in_err-copies-clause-grown : goal.run_group-returns-in_err-copies-clause-grown
+run_group-returns-in_err-copies-clause-grown g t c = omega (arith, c.members.ensures.grown)
+
 pub run_group-returns-in_err-results-clause-mean : goal.run_group-returns-in_err-results-clause-mean
 run_group-returns-in_err-results-clause-mean g t c = λ S G d R at.
     let u = group-run c.args.k R at c.places-places.ensures c.in_ok-copies.ensures.rows in
@@ -287,6 +309,9 @@ run_group-returns-in_err-results-clause-steps g t c = λ S G d R at.
     let charged : charge_of x S T l d ≡ length (at_places l d.1) + cost x.world (readings x.customs) S T (at_places l d.1) + result_length (mean x.world (readings x.customs) S T (at_places l d.1)) = refl in
     omega (arith, few, copied, charged, ran, costs)
 
+pub run_group-returns-in_err-results-clause-grown : goal.run_group-returns-in_err-results-clause-grown
+run_group-returns-in_err-results-clause-grown g t c = omega (arith, c.members.ensures.grown, c.run_pipe.ensures.grown)
+
 pub run_group-returns-in_err-key-clause-steps : goal.run_group-returns-in_err-key-clause-steps
 run_group-returns-in_err-key-clause-steps g t c = λ S G d R at.
     let x = c.args.context.now in
@@ -299,6 +324,9 @@ run_group-returns-in_err-key-clause-steps g t c = λ S G d R at.
     let copied = c.members.ensures.steps in
     let charged : charge_of x S T l d ≡ length (at_places l d.1) + cost x.world (readings x.customs) S T (at_places l d.1) + result_length (mean x.world (readings x.customs) S T (at_places l d.1)) = refl in
     omega (arith, few, copied, charged, ran, costs)
+
+pub run_group-returns-in_err-key-clause-grown : goal.run_group-returns-in_err-key-clause-grown
+run_group-returns-in_err-key-clause-grown g t c = omega (arith, c.members.ensures.grown, c.run_pipe.ensures.grown)
 
 pub run_group-with_keys-requires : goal.run_group-with_keys-requires
 run_group-with_keys-requires g t c =
@@ -332,6 +360,9 @@ run_group-returns-in_err-with_keys-clause-steps g t c = λ S G d R at.
     let charged : charge_of x S T l d ≡ length (at_places l d.1) + cost x.world (readings x.customs) S T (at_places l d.1) + result_length (mean x.world (readings x.customs) S T (at_places l d.1)) = refl in
     omega (arith, few, copied, charged, ran, costs, made, spent)
 
+pub run_group-returns-in_err-with_keys-clause-grown : goal.run_group-returns-in_err-with_keys-clause-grown
+run_group-returns-in_err-with_keys-clause-grown g t c = omega (arith, c.members.ensures.grown, c.run_pipe.ensures.grown, c.with_keys.ensures.grown)
+
 pub run_group-returns-clause-steps : goal.run_group-returns-clause-steps
 run_group-returns-clause-steps g t c = λ S G d R at.
     let x = c.args.context.now in
@@ -346,6 +377,9 @@ run_group-returns-clause-steps g t c = λ S G d R at.
     let spent = c.with_keys.ensures.steps in
     let charged : charge_of x S T l d ≡ length (at_places l d.1) + cost x.world (readings x.customs) S T (at_places l d.1) + result_length (mean x.world (readings x.customs) S T (at_places l d.1)) = refl in
     omega (arith, few, copied, charged, ran, costs, made, spent)
+
+pub run_group-returns-clause-grown : goal.run_group-returns-clause-grown
+run_group-returns-clause-grown g t c = omega (arith, c.members.ensures.grown, c.run_pipe.ensures.grown, c.with_keys.ensures.grown)
 
 pub run_group-returns-clause-mean : goal.run_group-returns-clause-mean
 run_group-returns-clause-mean g t c = λ S G d R at.
@@ -366,7 +400,7 @@ run_groups-returns-in_err-made-clause-mean g t c = λ S G R.
     let u = next-group x S level T l c.loop-k.k _ c.loop-k-test.true c.len-k-end.ensures in
     let p = err_from_is_err_and c.from_residual.result c.from_residual.ensures.1 in
     rw (p.1, p.2) (gives-err c.in_err-made.field-0.0 _ _ (c.in_err-made.ensures.mean S G u.group R u.at)
-    (next-refused (group_made level.0 (mean x.world (readings x.customs) S T) l) level.1 c.loop-k.k u.group c.loop-k.all.items _ u.within u.here (c.loop-k.invariant S G R).0))
+    (next-refused (group_made level.0 (mean x.world (readings x.customs) S T) l) level.1 c.loop-k.k u.group c.loop-k.all.items _ u.within u.here (c.loop-k.invariant.1 S G R).0))
 
 pub run_groups-returns-in_err-made-clause-steps : goal.run_groups-returns-in_err-made-clause-steps
 run_groups-returns-in_err-made-clause-steps g t c = λ S G R.
@@ -375,11 +409,14 @@ run_groups-returns-in_err-made-clause-steps g t c = λ S G R.
     let T = pipe_of c.args.pipe.now in
     let l = c.args.rows.now in
     let u = next-group x S level T l c.loop-k.k _ c.loop-k-test.true c.len-k-end.ensures in
-    let left = (c.loop-k.invariant S G R).1 in
+    let left = (c.loop-k.invariant.1 S G R).1 in
     let next = u.costs in
     let total = total-charge x S level T l in
     let spent = c.run_group.ensures.steps S G u.group R u.at in
     omega (arith, left, next, total, spent)
+
+pub run_groups-returns-in_err-made-clause-grown : goal.run_groups-returns-in_err-made-clause-grown
+run_groups-returns-in_err-made-clause-grown g t c = omega (arith, c.run_group.ensures.grown, c.loop-k.invariant.0)
 
 pub run_groups-returns-in_err-append-clause-steps : goal.run_groups-returns-in_err-append-clause-steps
 run_groups-returns-in_err-append-clause-steps g t c = λ S G R.
@@ -388,29 +425,35 @@ run_groups-returns-in_err-append-clause-steps g t c = λ S G R.
     let T = pipe_of c.args.pipe.now in
     let l = c.args.rows.now in
     let u = next-group x S level T l c.loop-k.k _ c.loop-k-test.true c.len-k-end.ensures in
-    let left = (c.loop-k.invariant S G R).1 in
+    let left = (c.loop-k.invariant.1 S G R).1 in
     let next = u.costs in
     let total = total-charge x S level T l in
     let spent = c.run_group.ensures.steps S G u.group R u.at in
     omega (arith, left, next, total, spent)
 
+pub run_groups-returns-in_err-append-clause-grown : goal.run_groups-returns-in_err-append-clause-grown
+run_groups-returns-in_err-append-clause-grown g t c = omega (arith, c.run_group.ensures.grown, c.loop-k.invariant.0)
+
 pub run_groups-loop-k-preserved : goal.run_groups-loop-k-preserved
-run_groups-loop-k-preserved g t c = λ S G R.
-    let x = c.args.context.now in
-    let level = c.args.level.now in
-    let T = pipe_of c.args.pipe.now in
-    let l = c.args.rows.now in
-    let f : List Value × List ℕ → Outcome = group_made level.0 (mean x.world (readings x.customs) S T) l in
-    let u = next-group x S level T l c.loop-k.k _ c.loop-k-test.true c.len-k-end.ensures in
-    let inv = c.loop-k.invariant S G R in
-    let left = inv.1 in
-    let next = u.costs in
-    let spent = c.run_group.ensures.steps S G u.group R u.at in
-    let appended : c.append.new.self.items ≡ c.loop-k.all.items ++ c.in_ok-made.made.items = search rules in (
-      next-joined f level.1 c.loop-k.k u.group c.loop-k.all.items _ c.in_ok-made.made.items u.within u.here inv.0 (c.in_ok-made.ensures.mean S G u.group R u.at)
-          ∙ ap (λ xs. option_map (λ rest. xs ++ rest) (joined (map f (drop (c.loop-k.k + 1) level.1)))) (sym appended),
-      omega (arith, left, next, spent),
-    )
+run_groups-loop-k-preserved g t c = (
+  omega (arith, c.run_group.ensures.grown, c.loop-k.invariant.0),
+  λ S G R.
+      let x = c.args.context.now in
+      let level = c.args.level.now in
+      let T = pipe_of c.args.pipe.now in
+      let l = c.args.rows.now in
+      let f : List Value × List ℕ → Outcome = group_made level.0 (mean x.world (readings x.customs) S T) l in
+      let u = next-group x S level T l c.loop-k.k _ c.loop-k-test.true c.len-k-end.ensures in
+      let inv = c.loop-k.invariant.1 S G R in
+      let left = inv.1 in
+      let next = u.costs in
+      let spent = c.run_group.ensures.steps S G u.group R u.at in
+      let appended : c.append.new.self.items ≡ c.loop-k.all.items ++ c.in_ok-made.made.items = search rules in (
+        next-joined f level.1 c.loop-k.k u.group c.loop-k.all.items _ c.in_ok-made.made.items u.within u.here inv.0 (c.in_ok-made.ensures.mean S G u.group R u.at)
+            ∙ ap (λ xs. option_map (λ rest. xs ++ rest) (joined (map f (drop (c.loop-k.k + 1) level.1)))) (sym appended),
+        omega (arith, left, next, spent),
+      ),
+)
 
 pub run_groups-returns-clause-mean : goal.run_groups-returns-clause-mean
 run_groups-returns-clause-mean g t c = λ S G R.
@@ -418,13 +461,16 @@ run_groups-returns-clause-mean g t c = λ S G R.
     let level = c.args.level.now in
     let counted = c.len-k-end.ensures in
     let past : length level.1 ≤ c.loop-k.k = omega (arith, c.loop-k-test.false, counted) in
-    last-joined (group_made level.0 (mean x.world (readings x.customs) S (pipe_of c.args.pipe.now)) c.args.rows.now) level.1 c.loop-k.k c.loop-k.all.items _ past (c.loop-k.invariant S G R).0
+    last-joined (group_made level.0 (mean x.world (readings x.customs) S (pipe_of c.args.pipe.now)) c.args.rows.now) level.1 c.loop-k.k c.loop-k.all.items _ past (c.loop-k.invariant.1 S G R).0
 
 pub run_groups-returns-clause-steps : goal.run_groups-returns-clause-steps
 run_groups-returns-clause-steps g t c = λ S G R.
-    let left = (c.loop-k.invariant S G R).1 in
+    let left = (c.loop-k.invariant.1 S G R).1 in
     let total = total-charge c.args.context.now S c.args.level.now (pipe_of c.args.pipe.now) c.args.rows.now in
     omega (arith, left, total)
+
+pub run_groups-returns-clause-grown : goal.run_groups-returns-clause-grown
+run_groups-returns-clause-grown g t c = omega (arith, c.loop-k.invariant.0)
 
 -- ---- the levels
 
@@ -439,7 +485,7 @@ run_levels-returns-in_err-made-clause-mean g t c = λ S G R.
     let own = next-level levels i d R c.loop-i-test.true c.index-levels-i.is in
     let f : Level → Outcome = level_made (mean x.world (readings x.customs) S T) l in
     let p = err_from_is_err_and c.from_residual.result c.from_residual.ensures.1 in
-    rw (p.1, p.2) (gives-err c.in_err-made.field-0.0 (f d) _ (c.in_err-made.ensures.mean S G own) (next-refused f levels i d c.loop-i.all.items _ c.loop-i-test.true c.index-levels-i.is (c.loop-i.invariant S G R).0))
+    rw (p.1, p.2) (gives-err c.in_err-made.field-0.0 (f d) _ (c.in_err-made.ensures.mean S G own) (next-refused f levels i d c.loop-i.all.items _ c.loop-i-test.true c.index-levels-i.is (c.loop-i.invariant.1 S G R).0))
 
 pub run_levels-returns-in_err-made-clause-steps : goal.run_levels-returns-in_err-made-clause-steps
 run_levels-returns-in_err-made-clause-steps g t c = λ S G R.
@@ -450,10 +496,13 @@ run_levels-returns-in_err-made-clause-steps g t c = λ S G R.
     let i = c.loop-i.i in
     let d = c.index-levels-i.result in
     let own = next-level levels i d R c.loop-i-test.true c.index-levels-i.is in
-    let left = (c.loop-i.invariant S G R).1 in
+    let left = (c.loop-i.invariant.1 S G R).1 in
     let next = level-costs x S T l levels i d c.loop-i-test.true c.index-levels-i.is in
     let spent = c.run_groups.ensures.steps S G own in
     omega (arith, left, next, spent)
+
+pub run_levels-returns-in_err-made-clause-grown : goal.run_levels-returns-in_err-made-clause-grown
+run_levels-returns-in_err-made-clause-grown g t c = omega (arith, c.run_groups.ensures.grown, c.loop-i.invariant.0)
 
 pub run_levels-returns-in_err-append-clause-steps : goal.run_levels-returns-in_err-append-clause-steps
 run_levels-returns-in_err-append-clause-steps g t c = λ S G R.
@@ -464,40 +513,49 @@ run_levels-returns-in_err-append-clause-steps g t c = λ S G R.
     let i = c.loop-i.i in
     let d = c.index-levels-i.result in
     let own = next-level levels i d R c.loop-i-test.true c.index-levels-i.is in
-    let left = (c.loop-i.invariant S G R).1 in
+    let left = (c.loop-i.invariant.1 S G R).1 in
     let next = level-costs x S T l levels i d c.loop-i-test.true c.index-levels-i.is in
     let spent = c.run_groups.ensures.steps S G own in
     omega (arith, left, next, spent)
 
+pub run_levels-returns-in_err-append-clause-grown : goal.run_levels-returns-in_err-append-clause-grown
+run_levels-returns-in_err-append-clause-grown g t c = omega (arith, c.run_groups.ensures.grown, c.loop-i.invariant.0)
+
 pub run_levels-loop-i-preserved : goal.run_levels-loop-i-preserved
-run_levels-loop-i-preserved g t c = λ S G R.
-    let x = c.args.context.now in
-    let T = pipe_of c.args.pipe.now in
-    let l = c.args.rows.now in
-    let levels = c.args.levels.now in
-    let i = c.loop-i.i in
-    let d = c.index-levels-i.result in
-    let own = next-level levels i d R c.loop-i-test.true c.index-levels-i.is in
-    let f : Level → Outcome = level_made (mean x.world (readings x.customs) S T) l in
-    let left = (c.loop-i.invariant S G R).1 in
-    let next = level-costs x S T l levels i d c.loop-i-test.true c.index-levels-i.is in
-    let spent = c.run_groups.ensures.steps S G own in
-    let appended : c.append.new.self.items ≡ c.loop-i.all.items ++ c.in_ok-made.made.items = search rules in (
-      next-joined f levels i d c.loop-i.all.items _ c.in_ok-made.made.items c.loop-i-test.true c.index-levels-i.is (c.loop-i.invariant S G R).0 (c.in_ok-made.ensures.mean S G own)
-          ∙ ap (λ xs. option_map (λ rest. xs ++ rest) (joined (map f (drop (i + 1) levels)))) (sym appended),
-      omega (arith, left, next, spent),
-    )
+run_levels-loop-i-preserved g t c = (
+  omega (arith, c.run_groups.ensures.grown, c.loop-i.invariant.0),
+  λ S G R.
+      let x = c.args.context.now in
+      let T = pipe_of c.args.pipe.now in
+      let l = c.args.rows.now in
+      let levels = c.args.levels.now in
+      let i = c.loop-i.i in
+      let d = c.index-levels-i.result in
+      let own = next-level levels i d R c.loop-i-test.true c.index-levels-i.is in
+      let f : Level → Outcome = level_made (mean x.world (readings x.customs) S T) l in
+      let left = (c.loop-i.invariant.1 S G R).1 in
+      let next = level-costs x S T l levels i d c.loop-i-test.true c.index-levels-i.is in
+      let spent = c.run_groups.ensures.steps S G own in
+      let appended : c.append.new.self.items ≡ c.loop-i.all.items ++ c.in_ok-made.made.items = search rules in (
+        next-joined f levels i d c.loop-i.all.items _ c.in_ok-made.made.items c.loop-i-test.true c.index-levels-i.is (c.loop-i.invariant.1 S G R).0 (c.in_ok-made.ensures.mean S G own)
+            ∙ ap (λ xs. option_map (λ rest. xs ++ rest) (joined (map f (drop (i + 1) levels)))) (sym appended),
+        omega (arith, left, next, spent),
+      ),
+)
 
 pub run_levels-returns-clause-mean : goal.run_levels-returns-clause-mean
 run_levels-returns-clause-mean g t c = λ S G R.
     let x = c.args.context.now in
     let f : Level → Outcome = level_made (mean x.world (readings x.customs) S (pipe_of c.args.pipe.now)) c.args.rows.now in
-    last-joined f c.args.levels.now c.loop-i.i c.loop-i.all.items _ (omega (arith, c.loop-i-test.false)) (c.loop-i.invariant S G R).0
+    last-joined f c.args.levels.now c.loop-i.i c.loop-i.all.items _ (omega (arith, c.loop-i-test.false)) (c.loop-i.invariant.1 S G R).0
 
 pub run_levels-returns-clause-steps : goal.run_levels-returns-clause-steps
 run_levels-returns-clause-steps g t c = λ S G R.
-    let left = (c.loop-i.invariant S G R).1 in
+    let left = (c.loop-i.invariant.1 S G R).1 in
     omega (arith, left)
+
+pub run_levels-returns-clause-grown : goal.run_levels-returns-clause-grown
+run_levels-returns-clause-grown g t c = omega (arith, c.loop-i.invariant.0)
 
 -- ---- a grouping
 
@@ -541,6 +599,9 @@ run_step-returns-in_err-levels-in-GroupBy-clause-steps g t c = λ S S' R.
     let least = keys-least x.world (readings x.customs) S ks T l in
     let whole = step-cost-on x S e c.as_slice-list.ensures.value in
     omega (arith, spent, least, whole)
+
+pub run_step-returns-in_err-levels-in-GroupBy-clause-grown : goal.run_step-returns-in_err-levels-in-GroupBy-clause-grown
+run_step-returns-in_err-levels-in-GroupBy-clause-grown g t c = omega (arith, c.grouping_levels.ensures.grown)
 
 pub run_step-run_levels-requires-clause-ready : goal.run_step-run_levels-requires-clause-ready
 run_step-run_levels-requires-clause-ready g t c κs within =
@@ -590,6 +651,9 @@ run_step-returns-in-Some-clause-steps g t c = λ S S' R.
     let whole = step-cost-on x S e c.as_slice-list.ensures.value in
     omega (arith, found, spent, least, whole)
 
+pub run_step-returns-in-Some-clause-grown : goal.run_step-returns-in-Some-clause-grown
+run_step-returns-in-Some-clause-grown g t c = omega (arith, c.grouping_levels.ensures.grown, c.run_levels.ensures.grown)
+
 pub run_step-returns-in-GroupBy-clause-mean : goal.run_step-returns-in-GroupBy-clause-mean
 run_step-returns-in-GroupBy-clause-mean g t c = λ S S' R.
     let x = c.args.context.now in
@@ -612,6 +676,9 @@ run_step-returns-in_err-key_rows-in-None-clause-steps g t c = λ S S' R.
     let whole = step-cost-on x S e c.as_slice-list.ensures.value in
     omega (arith, found, spent, least, whole)
 
+pub run_step-returns-in_err-key_rows-in-None-clause-grown : goal.run_step-returns-in_err-key_rows-in-None-clause-grown
+run_step-returns-in_err-key_rows-in-None-clause-grown g t c = omega (arith, c.grouping_levels.ensures.grown, c.key_rows.ensures.grown)
+
 pub run_step-returns-in-GroupBy-clause-steps : goal.run_step-returns-in-GroupBy-clause-steps
 run_step-returns-in-GroupBy-clause-steps g t c = λ S S' R.
     let x = c.args.context.now in
@@ -624,6 +691,9 @@ run_step-returns-in-GroupBy-clause-steps g t c = λ S S' R.
     let least = u.costs in
     let whole = step-cost-on x S e c.as_slice-list.ensures.value in
     omega (arith, found, spent, least, whole)
+
+pub run_step-returns-in-GroupBy-clause-grown : goal.run_step-returns-in-GroupBy-clause-grown
+run_step-returns-in-GroupBy-clause-grown g t c = omega (arith, c.grouping_levels.ensures.grown, c.key_rows.ensures.grown)
 
 -- ---- a selection
 
@@ -659,6 +729,9 @@ run_step-returns-in-Concat-clause-steps g t c = λ S S' R.
     let whole = cost-same x S _ _ _ _ e rows in
     omega (arith, spent, whole)
 
+pub run_step-returns-in-Concat-clause-grown : goal.run_step-returns-in-Concat-clause-grown
+run_step-returns-in-Concat-clause-grown g t c = omega (arith, c.run_concat.ensures.grown)
+
 pub run_concat-run_branches-requires-clause-ready : goal.run_concat-run_branches-requires-clause-ready
 run_concat-run_branches-requires-clause-ready g t c κs within =
     subst (λ bs. BranchesReady c.args.context.now c.args.root.now (map pipe_of bs) c.args.rows.now) (sym c.as_slice.ensures) c.branches_ready.ensures
@@ -681,6 +754,9 @@ run_concat-returns-in_err-parts-clause-steps g t c = λ S S' R.
     let least = u.costs in
     omega (arith, spent, least)
 
+pub run_concat-returns-in_err-parts-clause-grown : goal.run_concat-returns-in_err-parts-clause-grown
+run_concat-returns-in_err-parts-clause-grown g t c = omega (arith, c.run_branches.ensures.grown)
+
 pub run_concat-returns-in_err-concat-clause-steps : goal.run_concat-returns-in_err-concat-clause-steps
 run_concat-returns-in_err-concat-clause-steps g t c = λ S S' R.
     let u = concat-run c.args.branches.now c.as_slice.result.now c.as_slice.ensures R in
@@ -688,12 +764,18 @@ run_concat-returns-in_err-concat-clause-steps g t c = λ S S' R.
     let least = u.costs in
     omega (arith, spent, least)
 
+pub run_concat-returns-in_err-concat-clause-grown : goal.run_concat-returns-in_err-concat-clause-grown
+run_concat-returns-in_err-concat-clause-grown g t c = omega (arith, c.run_branches.ensures.grown)
+
 pub run_concat-returns-clause-steps : goal.run_concat-returns-clause-steps
 run_concat-returns-clause-steps g t c = λ S S' R.
     let u = concat-run c.args.branches.now c.as_slice.result.now c.as_slice.ensures R in
     let spent = c.run_branches.ensures.steps S u.runs in
     let least = u.costs in
     omega (arith, spent, least)
+
+pub run_concat-returns-clause-grown : goal.run_concat-returns-clause-grown
+run_concat-returns-clause-grown g t c = omega (arith, c.run_branches.ensures.grown)
 
 pub run_concat-returns-clause-mean : goal.run_concat-returns-clause-mean
 run_concat-returns-clause-mean g t c = λ S S' R.
@@ -714,10 +796,13 @@ run_branches-run_pipe-requires-clause-named g t c κs within =
 pub run_branches-returns-in_err-copies-clause-steps : goal.run_branches-returns-in_err-copies-clause-steps
 run_branches-returns-in_err-copies-clause-steps g t c = λ S R.
     let u = branch-turn c.args.context.now c.args.root.now S c.args.branches.now c.args.rows.now c.args.rows.now c.loop-k.k c.index-branches-k.result R c.loop-k-test.true c.index-branches-k.is refl in
-    let left = (c.loop-k.invariant S R).1 in
+    let left = (c.loop-k.invariant.1 S R).1 in
     let next = u.costs in
     let copied = c.copy_rows.ensures.steps in
     omega (arith, left, next, copied)
+
+pub run_branches-returns-in_err-copies-clause-grown : goal.run_branches-returns-in_err-copies-clause-grown
+run_branches-returns-in_err-copies-clause-grown g t c = omega (arith, c.copy_rows.ensures.grown, c.loop-k.invariant.0)
 
 pub run_branches-returns-in_err-run_pipe-clause-mean : goal.run_branches-returns-in_err-run_pipe-clause-mean
 run_branches-returns-in_err-run_pipe-clause-mean g t c = λ S R.
@@ -725,53 +810,65 @@ run_branches-returns-in_err-run_pipe-clause-mean g t c = λ S R.
     let u = branch-turn c.args.context.now c.args.root.now S c.args.branches.now c.args.rows.now c.in_ok-copies.copies.items c.loop-k.k c.index-branches-k.result R c.loop-k-test.true c.index-branches-k.is c.in_ok-copies.ensures.rows in
     let p = err_from_is_err_and c.from_residual-in_err-run_pipe.result c.from_residual-in_err-run_pipe.ensures.1 in
     rw (p.1, p.2) (gives-all_err c.in_err-run_pipe.field-0.0 _ _ (c.in_err-run_pipe.ensures.mean S u.shape u.runs)
-    (λ n. next-list_refused (λ p. mean x.world (readings x.customs) S p c.args.rows.now) _ c.loop-k.k (pipe_of c.index-branches-k.result) _ _ u.within u.here (c.loop-k.invariant S R).0 (u.means ∙ n)))
+    (λ n. next-list_refused (λ p. mean x.world (readings x.customs) S p c.args.rows.now) _ c.loop-k.k (pipe_of c.index-branches-k.result) _ _ u.within u.here (c.loop-k.invariant.1 S R).0 (u.means ∙ n)))
 
 pub run_branches-returns-in_err-run_pipe-clause-steps : goal.run_branches-returns-in_err-run_pipe-clause-steps
 run_branches-returns-in_err-run_pipe-clause-steps g t c = λ S R.
     let u = branch-turn c.args.context.now c.args.root.now S c.args.branches.now c.args.rows.now c.in_ok-copies.copies.items c.loop-k.k c.index-branches-k.result R c.loop-k-test.true c.index-branches-k.is c.in_ok-copies.ensures.rows in
     let ran = c.run_pipe.ensures.steps S u.shape u.runs in
-    let left = (c.loop-k.invariant S R).1 in
+    let left = (c.loop-k.invariant.1 S R).1 in
     let next = u.costs in
     let copied = c.copy_rows.ensures.steps in
     omega (arith, left, next, copied, ran)
+
+pub run_branches-returns-in_err-run_pipe-clause-grown : goal.run_branches-returns-in_err-run_pipe-clause-grown
+run_branches-returns-in_err-run_pipe-clause-grown g t c = omega (arith, c.copy_rows.ensures.grown, c.run_pipe.ensures.grown, c.loop-k.invariant.0)
 
 pub run_branches-returns-in_err-push-clause-steps : goal.run_branches-returns-in_err-push-clause-steps
 run_branches-returns-in_err-push-clause-steps g t c = λ S R.
     let u = branch-turn c.args.context.now c.args.root.now S c.args.branches.now c.args.rows.now c.in_ok-copies.copies.items c.loop-k.k c.index-branches-k.result R c.loop-k-test.true c.index-branches-k.is c.in_ok-copies.ensures.rows in
     let ran = c.run_pipe.ensures.steps S u.shape u.runs in
-    let left = (c.loop-k.invariant S R).1 in
+    let left = (c.loop-k.invariant.1 S R).1 in
     let next = u.costs in
     let copied = c.copy_rows.ensures.steps in
     omega (arith, left, next, copied, ran)
 
+pub run_branches-returns-in_err-push-clause-grown : goal.run_branches-returns-in_err-push-clause-grown
+run_branches-returns-in_err-push-clause-grown g t c = omega (arith, c.copy_rows.ensures.grown, c.run_pipe.ensures.grown, c.loop-k.invariant.0)
+
 pub run_branches-loop-k-preserved : goal.run_branches-loop-k-preserved
-run_branches-loop-k-preserved g t c = λ S R.
-    let x = c.args.context.now in
-    let made : Vec Instance → List Instance = λ part. part.items in
-    let f : Pipe → Outcome = λ p. mean x.world (readings x.customs) S p c.args.rows.now in
-    let u = branch-turn c.args.context.now c.args.root.now S c.args.branches.now c.args.rows.now c.in_ok-copies.copies.items c.loop-k.k c.index-branches-k.result R c.loop-k-test.true c.index-branches-k.is c.in_ok-copies.ensures.rows in
-    let pushed = ap (map made) c.in_ok-push.ensures.items ∙ map-append made c.loop-k.parts.items (c.in_ok-run_pipe.field-0 ∷ []) in
-    let inv = c.loop-k.invariant S R in
-    let ran = c.run_pipe.ensures.steps S u.shape u.runs in
-    let left = inv.1 in
-    let next = u.costs in
-    let copied = c.copy_rows.ensures.steps in (
-      next-list f _ c.loop-k.k (pipe_of c.index-branches-k.result) _ _ c.in_ok-run_pipe.field-0.items u.within u.here inv.0 (u.means ∙ c.in_ok-run_pipe.ensures.mean S u.shape u.runs)
-          ∙ ap (λ a. option_map (λ rest. a ++ rest) (all_some (map f (drop (c.loop-k.k + 1) (map pipe_of c.args.branches.now))))) (sym pushed),
-      omega (arith, left, next, copied, ran),
-    )
+run_branches-loop-k-preserved g t c = (
+  omega (arith, c.copy_rows.ensures.grown, c.run_pipe.ensures.grown, c.loop-k.invariant.0),
+  λ S R.
+      let x = c.args.context.now in
+      let made : Vec Instance → List Instance = λ part. part.items in
+      let f : Pipe → Outcome = λ p. mean x.world (readings x.customs) S p c.args.rows.now in
+      let u = branch-turn c.args.context.now c.args.root.now S c.args.branches.now c.args.rows.now c.in_ok-copies.copies.items c.loop-k.k c.index-branches-k.result R c.loop-k-test.true c.index-branches-k.is c.in_ok-copies.ensures.rows in
+      let pushed = ap (map made) c.in_ok-push.ensures.items ∙ map-append made c.loop-k.parts.items (c.in_ok-run_pipe.field-0 ∷ []) in
+      let inv = c.loop-k.invariant.1 S R in
+      let ran = c.run_pipe.ensures.steps S u.shape u.runs in
+      let left = inv.1 in
+      let next = u.costs in
+      let copied = c.copy_rows.ensures.steps in (
+        next-list f _ c.loop-k.k (pipe_of c.index-branches-k.result) _ _ c.in_ok-run_pipe.field-0.items u.within u.here inv.0 (u.means ∙ c.in_ok-run_pipe.ensures.mean S u.shape u.runs)
+            ∙ ap (λ a. option_map (λ rest. a ++ rest) (all_some (map f (drop (c.loop-k.k + 1) (map pipe_of c.args.branches.now))))) (sym pushed),
+        omega (arith, left, next, copied, ran),
+      ),
+)
 
 pub run_branches-returns-clause-mean : goal.run_branches-returns-clause-mean
 run_branches-returns-clause-mean g t c = λ S R.
     let x = c.args.context.now in
     let long = length-map c.args.branches.now pipe_of in
-    last-list (λ p. mean x.world (readings x.customs) S p c.args.rows.now) _ c.loop-k.k _ _ (omega (arith, long, c.loop-k-test.false)) (c.loop-k.invariant S R).0
+    last-list (λ p. mean x.world (readings x.customs) S p c.args.rows.now) _ c.loop-k.k _ _ (omega (arith, long, c.loop-k-test.false)) (c.loop-k.invariant.1 S R).0
 
 pub run_branches-returns-clause-steps : goal.run_branches-returns-clause-steps
 run_branches-returns-clause-steps g t c = λ S R.
-    let left = (c.loop-k.invariant S R).1 in
+    let left = (c.loop-k.invariant.1 S R).1 in
     omega (arith, left)
+
+pub run_branches-returns-clause-grown : goal.run_branches-returns-clause-grown
+run_branches-returns-clause-grown g t c = omega (arith, c.loop-k.invariant.0)
 
 -- ---- a join
 
@@ -788,6 +885,9 @@ run_step-returns-in-Join-clause-steps g t c = λ S S' R.
     let spent = c.run_join.ensures.steps S S' (runs-same x c.args.root.now S S' _ _ _ _ e rows R) in
     let whole = cost-same x S _ _ _ _ e rows in
     omega (arith, spent, whole)
+
+pub run_step-returns-in-Join-clause-grown : goal.run_step-returns-in-Join-clause-grown
+run_step-returns-in-Join-clause-grown g t c = omega (arith, c.run_join.ensures.grown)
 
 pub run_join-run_joined-requires-clause-ready : goal.run_join-run_joined-requires-clause-ready
 run_join-run_joined-requires-clause-ready g t c κs within = ready-same c.args.context.now c.args.root.now _ _ c.args.rows.now c.args.rows.now (join_of-is c.args.join.now) refl c.requires.ready
@@ -806,6 +906,9 @@ run_join-returns-clause-steps g t c = λ S S' R.
     let spent = c.run_joined.ensures.steps S S' (runs-same x c.args.root.now S S' _ _ l l e refl R) in
     let whole = cost-same x S _ _ l l e refl in
     omega (arith, spent, whole)
+
+pub run_join-returns-clause-grown : goal.run_join-returns-clause-grown
+run_join-returns-clause-grown g t c = omega (arith, c.run_joined.ensures.grown)
 
 -- ---- a join of parts
 
@@ -826,6 +929,9 @@ run_joined-returns-in_err-results-clause-steps g t c = λ S S' R.
     let ran = c.run_related.ensures.steps u.navigation u.shape u.at u.runs in
     let whole = u.costs in
     omega (arith, ran, whole)
+
+pub run_joined-returns-in_err-results-clause-grown : goal.run_joined-returns-in_err-results-clause-grown
+run_joined-returns-in_err-results-clause-grown g t c = omega (arith, c.run_related.ensures.grown)
 
 pub run_joined-outerjoin-requires-clause-lists : goal.run_joined-outerjoin-requires-clause-lists
 run_joined-outerjoin-requires-clause-lists g t c =
@@ -848,6 +954,9 @@ run_joined-returns-in_err-outerjoin-clause-steps g t c = λ S S' R.
     let whole = u.costs in
     omega (arith, ran, spent, rows, whole)
 
+pub run_joined-returns-in_err-outerjoin-clause-grown : goal.run_joined-returns-in_err-outerjoin-clause-grown
+run_joined-returns-in_err-outerjoin-clause-grown g t c = omega (arith, c.run_related.ensures.grown, c.outerjoin.ensures.grown)
+
 pub run_joined-returns-then-outer-clause-steps : goal.run_joined-returns-then-outer-clause-steps
 run_joined-returns-then-outer-clause-steps g t c = λ S S' R.
     let u = join-run c.join_navigation-found.result R c.join_navigation-found.ensures.value c.related_ready.ensures in
@@ -857,6 +966,9 @@ run_joined-returns-then-outer-clause-steps g t c = λ S S' R.
     let rows = ap result_length (made-mean true u c.if-outer.true made _ refl) in
     let whole = u.costs in
     omega (arith, ran, spent, rows, whole)
+
+pub run_joined-returns-then-outer-clause-grown : goal.run_joined-returns-then-outer-clause-grown
+run_joined-returns-then-outer-clause-grown g t c = omega (arith, c.run_related.ensures.grown, c.outerjoin.ensures.grown)
 
 pub run_joined-join-requires-clause-lists : goal.run_joined-join-requires-clause-lists
 run_joined-join-requires-clause-lists g t c =
@@ -879,6 +991,9 @@ run_joined-returns-in_err-join-clause-steps g t c = λ S S' R.
     let whole = u.costs in
     omega (arith, ran, spent, rows, whole)
 
+pub run_joined-returns-in_err-join-clause-grown : goal.run_joined-returns-in_err-join-clause-grown
+run_joined-returns-in_err-join-clause-grown g t c = omega (arith, c.run_related.ensures.grown, c.join.ensures.grown)
+
 pub run_joined-returns-clause-steps : goal.run_joined-returns-clause-steps
 run_joined-returns-clause-steps g t c = λ S S' R.
     let u = join-run c.join_navigation-found.result R c.join_navigation-found.ensures.value c.related_ready.ensures in
@@ -888,6 +1003,9 @@ run_joined-returns-clause-steps g t c = λ S S' R.
     let rows = ap result_length (made-mean false u c.if-outer.false made _ refl) in
     let whole = u.costs in
     omega (arith, ran, spent, rows, whole)
+
+pub run_joined-returns-clause-grown : goal.run_joined-returns-clause-grown
+run_joined-returns-clause-grown g t c = omega (arith, c.run_related.ensures.grown, c.join.ensures.grown)
 
 -- ---- what is related to each row
 
@@ -900,12 +1018,15 @@ run_related-returns-in_err-related-clause-steps g t c = λ v T' h R.
     let T = inner_of (option_map pipe_of c.args.inner.now) in
     let l = c.args.rows.now in
     let at = subst (λ (w : World). navigation_on w.model c.args.nav ≡ Some v) (sym c.store-in-loop-i.ensures) h in
-    let left = (c.loop-i.invariant v T' h R).1 in
+    let left = (c.loop-i.invariant.1 v T' h R).1 in
     let next = next-sum (related_charge x.world (readings x.customs) v T) l c.loop-i.i c.index-rows-i.result c.loop-i-test.true c.index-rows-i.is in
     let total = related-least x.world (readings x.customs) v T l in
     let found = c.related_rows.ensures.steps v at in
     let all = related-long x.world _ v c.index-rows-i.result c.store-in-loop-i.ensures (c.requires.many v h) in
     omega (arith, left, next, total, found, all)
+
+pub run_related-returns-in_err-related-clause-grown : goal.run_related-returns-in_err-related-clause-grown
+run_related-returns-in_err-related-clause-grown g t c = omega (arith, c.related_rows.ensures.grown, c.loop-i.invariant.0)
 
 pub run_related-returns-in_err-run_inner-clause-mean : goal.run_related-returns-in_err-run_inner-clause-mean
 run_related-returns-in_err-run_inner-clause-mean g t c = λ v T' h R.
@@ -918,7 +1039,7 @@ run_related-returns-in_err-run_inner-clause-mean g t c = λ v T' h R.
     let u = related-turn x v T' T c.args.rows.now c.loop-i.i row c.in_ok-related.related.items _ R c.loop-i-test.true c.index-rows-i.is same target in
     let p = err_from_is_err_and c.from_residual-in_err-run_inner.result c.from_residual-in_err-run_inner.ensures.1 in
     rw (p.1, p.2) (gives-all_err c.in_err-run_inner.field-0.0 _ _ (c.in_err-run_inner.ensures.mean (set_shape v.target) T' u.runs)
-    (λ n. next-list_refused (related_mean x.world (readings x.customs) v T) c.args.rows.now c.loop-i.i row _ _ c.loop-i-test.true c.index-rows-i.is (c.loop-i.invariant v T' h R).0 (u.means ∙ n)))
+    (λ n. next-list_refused (related_mean x.world (readings x.customs) v T) c.args.rows.now c.loop-i.i row _ _ c.loop-i-test.true c.index-rows-i.is (c.loop-i.invariant.1 v T' h R).0 (u.means ∙ n)))
 
 pub run_related-returns-in_err-run_inner-clause-steps : goal.run_related-returns-in_err-run_inner-clause-steps
 run_related-returns-in_err-run_inner-clause-steps g t c = λ v T' h R.
@@ -930,12 +1051,15 @@ run_related-returns-in_err-run_inner-clause-steps g t c = λ v T' h R.
     let target = target-is x.world.model _ c.args.nav v _ (c.model.ensures.value ∙ ap (λ (w : World). w.model) c.store.ensures) h c.nav_target-target.ensures.value in
     let u = related-turn x v T' T c.args.rows.now c.loop-i.i row c.in_ok-related.related.items _ R c.loop-i-test.true c.index-rows-i.is same target in
     let ran = c.run_inner.ensures.steps (set_shape v.target) T' u.runs in
-    let left = (c.loop-i.invariant v T' h R).1 in
+    let left = (c.loop-i.invariant.1 v T' h R).1 in
     let next = u.costs in
     let found = c.related_rows.ensures.steps v at in
     let all = related-long x.world _ v row c.store-in-loop-i.ensures (c.requires.many v h) in
     let total = related-least x.world (readings x.customs) v T c.args.rows.now in
     omega (arith, left, next, total, found, all, ran)
+
+pub run_related-returns-in_err-run_inner-clause-grown : goal.run_related-returns-in_err-run_inner-clause-grown
+run_related-returns-in_err-run_inner-clause-grown g t c = omega (arith, c.related_rows.ensures.grown, c.run_inner.ensures.grown, c.loop-i.invariant.0)
 
 pub run_related-returns-in_err-push-clause-steps : goal.run_related-returns-in_err-push-clause-steps
 run_related-returns-in_err-push-clause-steps g t c = λ v T' h R.
@@ -947,47 +1071,56 @@ run_related-returns-in_err-push-clause-steps g t c = λ v T' h R.
     let target = target-is x.world.model _ c.args.nav v _ (c.model.ensures.value ∙ ap (λ (w : World). w.model) c.store.ensures) h c.nav_target-target.ensures.value in
     let u = related-turn x v T' T c.args.rows.now c.loop-i.i row c.in_ok-related.related.items _ R c.loop-i-test.true c.index-rows-i.is same target in
     let ran = c.run_inner.ensures.steps (set_shape v.target) T' u.runs in
-    let left = (c.loop-i.invariant v T' h R).1 in
+    let left = (c.loop-i.invariant.1 v T' h R).1 in
     let next = u.costs in
     let found = c.related_rows.ensures.steps v at in
     let all = related-long x.world _ v row c.store-in-loop-i.ensures (c.requires.many v h) in
     let total = related-least x.world (readings x.customs) v T c.args.rows.now in
     omega (arith, left, next, total, found, all, ran)
 
+pub run_related-returns-in_err-push-clause-grown : goal.run_related-returns-in_err-push-clause-grown
+run_related-returns-in_err-push-clause-grown g t c = omega (arith, c.related_rows.ensures.grown, c.run_inner.ensures.grown, c.loop-i.invariant.0)
+
 pub run_related-loop-i-preserved : goal.run_related-loop-i-preserved
-run_related-loop-i-preserved g t c = λ v T' h R.
-    let x = c.args.context.now in
-    let T = inner_of (option_map pipe_of c.args.inner.now) in
-    let row = c.index-rows-i.result in
-    let at = subst (λ (w : World). navigation_on w.model c.args.nav ≡ Some v) (sym c.store-in-loop-i.ensures) h in
-    let same = related-same x.world _ v row _ c.store-in-loop-i.ensures (c.requires.many v h) (c.in_ok-related.ensures.rows v at) in
-    let target = target-is x.world.model _ c.args.nav v _ (c.model.ensures.value ∙ ap (λ (w : World). w.model) c.store.ensures) h c.nav_target-target.ensures.value in
-    let u = related-turn x v T' T c.args.rows.now c.loop-i.i row c.in_ok-related.related.items _ R c.loop-i-test.true c.index-rows-i.is same target in
-    let f = related_mean x.world (readings x.customs) v T in
-    let made : Vec Instance → List Instance = λ part. part.items in
-    let pushed = ap (map made) c.in_ok-push.ensures.items ∙ map-append made c.loop-i.all.items (c.in_ok-run_inner.field-0 ∷ []) in
-    let ran = c.run_inner.ensures.steps (set_shape v.target) T' u.runs in
-    let left = (c.loop-i.invariant v T' h R).1 in
-    let next = u.costs in
-    let found = c.related_rows.ensures.steps v at in
-    let all = related-long x.world _ v row c.store-in-loop-i.ensures (c.requires.many v h) in (
-      next-list f c.args.rows.now c.loop-i.i row _ _ c.in_ok-run_inner.field-0.items c.loop-i-test.true c.index-rows-i.is (c.loop-i.invariant v T' h R).0 (u.means ∙ c.in_ok-run_inner.ensures.mean (set_shape v.target) T' u.runs)
-          ∙ ap (λ a. option_map (λ rest. a ++ rest) (all_some (map f (drop (c.loop-i.i + 1) c.args.rows.now)))) (sym pushed),
-      omega (arith, left, next, found, all, ran),
-    )
+run_related-loop-i-preserved g t c = (
+  omega (arith, c.related_rows.ensures.grown, c.run_inner.ensures.grown, c.loop-i.invariant.0),
+  λ v T' h R.
+      let x = c.args.context.now in
+      let T = inner_of (option_map pipe_of c.args.inner.now) in
+      let row = c.index-rows-i.result in
+      let at = subst (λ (w : World). navigation_on w.model c.args.nav ≡ Some v) (sym c.store-in-loop-i.ensures) h in
+      let same = related-same x.world _ v row _ c.store-in-loop-i.ensures (c.requires.many v h) (c.in_ok-related.ensures.rows v at) in
+      let target = target-is x.world.model _ c.args.nav v _ (c.model.ensures.value ∙ ap (λ (w : World). w.model) c.store.ensures) h c.nav_target-target.ensures.value in
+      let u = related-turn x v T' T c.args.rows.now c.loop-i.i row c.in_ok-related.related.items _ R c.loop-i-test.true c.index-rows-i.is same target in
+      let f = related_mean x.world (readings x.customs) v T in
+      let made : Vec Instance → List Instance = λ part. part.items in
+      let pushed = ap (map made) c.in_ok-push.ensures.items ∙ map-append made c.loop-i.all.items (c.in_ok-run_inner.field-0 ∷ []) in
+      let ran = c.run_inner.ensures.steps (set_shape v.target) T' u.runs in
+      let left = (c.loop-i.invariant.1 v T' h R).1 in
+      let next = u.costs in
+      let found = c.related_rows.ensures.steps v at in
+      let all = related-long x.world _ v row c.store-in-loop-i.ensures (c.requires.many v h) in (
+        next-list f c.args.rows.now c.loop-i.i row _ _ c.in_ok-run_inner.field-0.items c.loop-i-test.true c.index-rows-i.is (c.loop-i.invariant.1 v T' h R).0 (u.means ∙ c.in_ok-run_inner.ensures.mean (set_shape v.target) T' u.runs)
+            ∙ ap (λ a. option_map (λ rest. a ++ rest) (all_some (map f (drop (c.loop-i.i + 1) c.args.rows.now)))) (sym pushed),
+        omega (arith, left, next, found, all, ran),
+      ),
+)
 
 pub run_related-returns-clause-mean : goal.run_related-returns-clause-mean
 run_related-returns-clause-mean g t c = λ v T' h R.
     let x = c.args.context.now in
     let T = inner_of (option_map pipe_of c.args.inner.now) in
-    last-list (related_mean x.world (readings x.customs) v T) c.args.rows.now c.loop-i.i _ _ (omega (arith, c.loop-i-test.false)) (c.loop-i.invariant v T' h R).0
+    last-list (related_mean x.world (readings x.customs) v T) c.args.rows.now c.loop-i.i _ _ (omega (arith, c.loop-i-test.false)) (c.loop-i.invariant.1 v T' h R).0
 
 pub run_related-returns-clause-steps : goal.run_related-returns-clause-steps
 run_related-returns-clause-steps g t c = λ v T' h R.
     let x = c.args.context.now in
-    let left = (c.loop-i.invariant v T' h R).1 in
+    let left = (c.loop-i.invariant.1 v T' h R).1 in
     let total = related-least x.world (readings x.customs) v (inner_of (option_map pipe_of c.args.inner.now)) c.args.rows.now in
     omega (arith, left, total)
+
+pub run_related-returns-clause-grown : goal.run_related-returns-clause-grown
+run_related-returns-clause-grown g t c = omega (arith, c.loop-i.invariant.0)
 
 -- ---- an inner pipeline
 
@@ -1007,6 +1140,9 @@ run_inner-returns-in-Some-clause-steps g t c = λ S S' R.
     let spent = c.run_pipe.ensures.steps S S' (subst (λ T. InnerRuns x c.args.root.now S S' T l) e R) in
     let whole = ap (λ T. inner_cost x.world (readings x.customs) S T l) e in
     omega (arith, spent, whole)
+
+pub run_inner-returns-in-Some-clause-grown : goal.run_inner-returns-in-Some-clause-grown
+run_inner-returns-in-Some-clause-grown g t c = omega (arith, c.run_pipe.ensures.grown)
 
 pub run_inner-returns-in-None-clause-mean : goal.run_inner-returns-in-None-clause-mean
 run_inner-returns-in-None-clause-mean g t c = λ S S' R.
@@ -1061,6 +1197,9 @@ run_step-returns-in-Traverse-clause-steps g t c = λ S S' R.
     let whole = ap (λ s. step_cost x.world (readings x.customs) S s l) e ∙ u.costs in
     omega (arith, spent, same, whole)
 
+pub run_step-returns-in-Traverse-clause-grown : goal.run_step-returns-in-Traverse-clause-grown
+run_step-returns-in-Traverse-clause-grown g t c = omega (arith, c.traverse_rows.ensures.grown)
+
 -- ---- a climb
 
 pub run_step-returns-in-Climb-clause-mean : goal.run_step-returns-in-Climb-clause-mean
@@ -1078,6 +1217,9 @@ run_step-returns-in-Climb-clause-steps g t c = λ S S' R.
     let spent = c.run_climb.ensures.steps S S' (subst (λ s. StepRunsFrom x c.args.root.now S S' s l) e R) in
     let whole = ap (λ s. step_cost x.world (readings x.customs) S s l) e in
     omega (arith, spent, whole)
+
+pub run_step-returns-in-Climb-clause-grown : goal.run_step-returns-in-Climb-clause-grown
+run_step-returns-in-Climb-clause-grown g t c = omega (arith, c.run_climb.ensures.grown)
 
 pub run_climb-run_pipe-requires-clause-ready : goal.run_climb-run_pipe-requires-clause-ready
 run_climb-run_pipe-requires-clause-ready g t c κs within =
@@ -1128,6 +1270,9 @@ run_climb-returns-in_err-copies-clause-steps g t c = λ S S' R.
     let whole = climb-costs x S k l in
     omega (arith, copied, long, least, whole)
 
+pub run_climb-returns-in_err-copies-clause-grown : goal.run_climb-returns-in_err-copies-clause-grown
+run_climb-returns-in_err-copies-clause-grown g t c = omega (arith, c.copy_rows.ensures.grown)
+
 pub run_climb-returns-in_err-starts-clause-mean : goal.run_climb-returns-in_err-starts-clause-mean
 run_climb-returns-in_err-starts-clause-mean g t c = λ S S' R.
     let x = c.args.context.now in
@@ -1156,6 +1301,9 @@ run_climb-returns-in_err-starts-clause-steps g t c = λ S S' R.
     let whole = climb-costs x S k l in
     omega (arith, copied, long, ran, costs, least, whole)
 
+pub run_climb-returns-in_err-starts-clause-grown : goal.run_climb-returns-in_err-starts-clause-grown
+run_climb-returns-in_err-starts-clause-grown g t c = omega (arith, c.copy_rows.ensures.grown, c.run_pipe.ensures.grown)
+
 pub run_climb-returns-clause-mean : goal.run_climb-returns-clause-mean
 run_climb-returns-clause-mean g t c = λ S S' R.
     let x = c.args.context.now in
@@ -1182,6 +1330,9 @@ run_climb-returns-clause-steps g t c = λ S S' R.
     let least = u.costs in
     let whole = climb-costs x S k l in
     omega (arith, copied, long, ran, costs, least, whole)
+
+pub run_climb-returns-clause-grown : goal.run_climb-returns-clause-grown
+run_climb-returns-clause-grown g t c = omega (arith, c.copy_rows.ensures.grown, c.run_pipe.ensures.grown)
 
 -- ---- the levels of a grouping
 
@@ -1263,6 +1414,9 @@ grouping_levels-returns-in_err-shown-in-Recursive-clause-steps g t c =
     let least = shown-least x h p T (keys_of c.args.keys.now) u.place has u.at in
     omega (arith, same, spent, least)
 
+pub grouping_levels-returns-in_err-shown-in-Recursive-clause-grown : goal.grouping_levels-returns-in_err-shown-in-Recursive-clause-grown
+grouping_levels-returns-in_err-shown-in-Recursive-clause-grown g t c = omega (arith, c.run_shown.ensures.grown, c.loop-key.invariant.2)
+
 pub grouping_levels-returns-in-Recursive-clause-levels : goal.grouping_levels-returns-in-Recursive-clause-levels
 grouping_levels-returns-in-Recursive-clause-levels g t c =
     let x = c.args.context.now in
@@ -1286,6 +1440,9 @@ grouping_levels-returns-in-Recursive-clause-steps g t c =
     let spent = c.run_shown.ensures.steps u.place u.at in
     let least = shown-least x h p T (keys_of c.args.keys.now) u.place has u.at in
     omega (arith, same, spent, least)
+
+pub grouping_levels-returns-in-Recursive-clause-grown : goal.grouping_levels-returns-in-Recursive-clause-grown
+grouping_levels-returns-in-Recursive-clause-grown g t c = omega (arith, c.run_shown.ensures.grown, c.loop-key.invariant.2)
 
 pub grouping_levels-loop-key-preserved : goal.grouping_levels-loop-key-preserved
 grouping_levels-loop-key-preserved g t c =
@@ -1333,6 +1490,9 @@ run_shown-returns-in_err-rows-in-Some-clause-steps g t c = λ f at.
     let whole = ap (λ o. given_applications x.world (readings x.customs) (set_shape f.type) (inner_of (option_map pipe_of o)) (instances.rows x.world f.set ∷ [])) c.in-Some.is in
     omega (arith, made, counts, least, whole)
 
+pub run_shown-returns-in_err-rows-in-Some-clause-grown : goal.run_shown-returns-in_err-rows-in-Some-clause-grown
+run_shown-returns-in_err-rows-in-Some-clause-grown g t c = omega (arith, c.set_rows.ensures.grown)
+
 pub run_shown-returns-in_err-made-in-Some-clause-shown : goal.run_shown-returns-in_err-made-in-Some-clause-shown
 run_shown-returns-in_err-made-in-Some-clause-shown g t c = λ f at.
     let x = c.args.context.now in
@@ -1356,6 +1516,9 @@ run_shown-returns-in_err-made-in-Some-clause-steps g t c = λ f at.
     let least = u.costs in
     let whole = ap (λ o. given_applications x.world (readings x.customs) (set_shape f.type) (inner_of (option_map pipe_of o)) (instances.rows x.world f.set ∷ [])) c.in-Some.is in
     omega (arith, made, counts, ran, least, whole)
+
+pub run_shown-returns-in_err-made-in-Some-clause-grown : goal.run_shown-returns-in_err-made-in-Some-clause-grown
+run_shown-returns-in_err-made-in-Some-clause-grown g t c = omega (arith, c.set_rows.ensures.grown, c.run_pipe.ensures.grown)
 
 pub run_shown-shown_nodes-requires : goal.run_shown-shown_nodes-requires
 run_shown-shown_nodes-requires g t c =
@@ -1383,6 +1546,9 @@ run_shown-returns-in_err-shown_nodes-in-Some-clause-steps g t c = λ f at.
     let whole = ap (λ o. given_applications x.world (readings x.customs) (set_shape f.type) (inner_of (option_map pipe_of o)) (instances.rows x.world f.set ∷ [])) c.in-Some.is in
     omega (arith, made, counts, ran, least, whole)
 
+pub run_shown-returns-in_err-shown_nodes-in-Some-clause-grown : goal.run_shown-returns-in_err-shown_nodes-in-Some-clause-grown
+run_shown-returns-in_err-shown_nodes-in-Some-clause-grown g t c = omega (arith, c.set_rows.ensures.grown, c.run_pipe.ensures.grown)
+
 pub run_shown-returns-in_ok-shown_nodes-in-Some-clause-steps : goal.run_shown-returns-in_ok-shown_nodes-in-Some-clause-steps
 run_shown-returns-in_ok-shown_nodes-in-Some-clause-steps g t c = λ f at.
     let x = c.args.context.now in
@@ -1395,6 +1561,9 @@ run_shown-returns-in_ok-shown_nodes-in-Some-clause-steps g t c = λ f at.
     let least = u.costs in
     let whole = ap (λ o. given_applications x.world (readings x.customs) (set_shape f.type) (inner_of (option_map pipe_of o)) (instances.rows x.world f.set ∷ [])) c.in-Some.is in
     omega (arith, made, counts, ran, least, whole)
+
+pub run_shown-returns-in_ok-shown_nodes-in-Some-clause-grown : goal.run_shown-returns-in_ok-shown_nodes-in-Some-clause-grown
+run_shown-returns-in_ok-shown_nodes-in-Some-clause-grown g t c = omega (arith, c.set_rows.ensures.grown, c.run_pipe.ensures.grown)
 
 pub run_shown-returns-in_ok-shown_nodes-in-Some-clause-shown : goal.run_shown-returns-in_ok-shown_nodes-in-Some-clause-shown
 run_shown-returns-in_ok-shown_nodes-in-Some-clause-shown g t c = λ f at.

@@ -58,3 +58,6 @@ returns-clause-steps g c =
     let counts = ap (λ (t : Typed). count w t.set) e in
     let whole : total_cost w cs own.set (pipe_of own.pipe) ≡ count w own.set + cost w cs S (pipe_of own.pipe) (instances.rows w own.set) = refl in
     omega (arith, spent, made, same, costs, counts, whole)
+
+pub returns-clause-grown : goal.returns-clause-grown
+returns-clause-grown g c = omega (arith, c.set_rows.ensures.grown, c.run_pipe.ensures.grown)

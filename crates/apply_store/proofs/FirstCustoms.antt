@@ -13,8 +13,8 @@ use Rattle.edm_model.specs.IdLists.{custom_entry, custom_list, customs_in}
 use Rattle.edm_model.proofs.Counted.{enumerate_more, flat_places_more}
 use Rattle.context_typing.specs.Typing.{Customs}
 use Rattle.custom_readings.proofs.ReadLists.{zipped}
-use Rattle.apply_load.specs.CustomReadings.{IsTypedReading, AreCustoms, IsFirstUntyped}
-use Rattle.apply_load.specs.FirstCustoms.{owned}
+use Rattle.apply_store.specs.CustomReadings.{IsTypedReading, AreCustoms, IsFirstUntyped}
+use Rattle.apply_store.specs.FirstCustoms.{owned}
 
 -- where all have typed readings, none is the first without
 pub not_both : (m : Model) (c : Customs) (u : ℕ × Custom) → AreCustoms m c → IsFirstUntyped m u → ⊥

@@ -4,7 +4,7 @@ use Rattle.std.proofs.lemmas.Bool.{false≢true}
 use Rattle.edm_values.specs.Literals.{plain_text}
 use Rattle.edm_values.specs.Values.{seen_value}
 use Rattle.apply_ast.proofs.PlainTexts.{plain_is_utf8}
-use Rattle.apply_load.proofs.identifiers.printed.Goals as goal
+use Rattle.apply_store.proofs.identifiers.printed.Goals as goal
 
 pub unreachable-requires : goal.unreachable-requires
 unreachable-requires c =

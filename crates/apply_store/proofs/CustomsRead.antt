@@ -27,15 +27,11 @@ use Rattle.context_typing.proofs.CustomEntries.{entries, read-kind-is}
 use Rattle.context_typing.proofs.WholeCustoms.{customs_are_typed}
 use Rattle.custom_readings.specs.Readings.{AreRead, HasNoReading, IsRead}
 use Rattle.custom_readings.proofs.ReadLists.{first-ids}
-use Rattle.apply_load.specs.CustomReadings.{IsTypedReading, AreCustoms, IsFirstUntyped}
-use Rattle.apply_load.specs.LoadStops.{CustomStopSays}
-use Rattle.apply_load.specs.FirstCustoms.{HasReading, IfRefused, IsFirstId, NamesFirst, owned}
-use Rattle.apply_load.specs.RefusedFiles.{custom_line}
-use Rattle.apply_load.specs.declared.customs.CustomStop.{CustomStop}
-use Rattle.apply_load.specs.declared.customs.CustomStop.TheVariants as stop
-use Rattle.edm_model.specs.LookUps.{IsType, type_name}
-use Rattle.apply_load.proofs.FirstCustoms.{customs-owned}
-use Rattle.apply_load.proofs.Named.{item_at}
+use Rattle.apply_store.specs.CustomReadings.{IsTypedReading, AreCustoms, IsFirstUntyped}
+use Rattle.apply_store.specs.FirstCustoms.{HasReading, IsFirstId, NamesFirst, owned}
+use Rattle.edm_model.specs.LookUps.{IsType}
+use Rattle.apply_store.proofs.FirstCustoms.{customs-owned}
+use Rattle.apply_store.proofs.Named.{item_at}
 
 -- ---- typed readings
 
@@ -237,8 +233,3 @@ module _ (m : Model) where
       let P : List Custom → Type 0 = All (IsEntry m) in
       let Q : Custom → Type 0 = IsEntry m in
       (subst Q (sym is) (All-get_or (IsEntry m) us i u within (subst P (sym all) (entries m sound)))).there
-
-  -- the refusal of the first
-  pub refused-first : (s : CustomStop) (u : Custom) → IsFirstUntyped m (owned u) → IfRefused s (λ line. line ≡ custom_line (type_name m u.owner) u.name) → CustomStopSays m s
-  refused-first stop.Memory u first told = tt
-  refused-first (stop.Refused line) u first told = record { refused = owned u; first = first; told = told }

@@ -24,7 +24,7 @@ impl Model for Store {
     ghost use Rattle.context_typing.specs.Readings.{AreTypedOver, readings};
     ghost use Rattle.context_typing.specs.Typing.{customs_typed};
     ghost use Rattle.hier_states.specs.States.{AreStates};
-    ghost use Rattle.apply_load.specs.Stores as seen;
+    ghost use Rattle.apply_store.specs.Stores as seen;
 
     ghost Value = { seen.Store };
 

@@ -12,16 +12,9 @@ use Rattle.context_typing.specs.Answers.{custom_of}
 use Rattle.context_typing.specs.Readings.{same_part}
 use Rattle.context_typing.specs.declared.definitions.CustomRefused.{CustomRefused}
 use Rattle.context_typing.specs.declared.definitions.CustomRefused.TheVariants as refused
-use Rattle.apply_load.specs.CustomReadings.{IsFirstUntyped}
-use Rattle.apply_load.specs.declared.customs.CustomFault.{CustomFault}
-use Rattle.apply_load.specs.declared.customs.CustomFault.TheVariants as fault
-use Rattle.apply_load.specs.declared.customs.CustomStop.{CustomStop}
-use Rattle.apply_load.specs.declared.customs.CustomStop.TheVariants as stop
-
--- the fact holds of the line of a refusal, if it is one
-abbrev pub IfRefused : CustomStop → (List ℕ → Type 0) → Type 0
-IfRefused stop.Memory P = ⊤
-IfRefused (stop.Refused line) P = P line.items
+use Rattle.apply_store.specs.CustomReadings.{IsFirstUntyped}
+use Rattle.apply_store.specs.declared.judging.CustomFault.{CustomFault}
+use Rattle.apply_store.specs.declared.judging.CustomFault.TheVariants as fault
 
 -- the fact holds of the custom aggregate that a fault names, if it names one
 abbrev pub IfNames : CustomFault → (Custom → Type 0) → Type 0

@@ -3,8 +3,8 @@ use Rattle.std.specs.Prelude.{slice_get}
 use Rattle.edm_model.specs.IdLists.{custom_list}
 use Rattle.context_typing.specs.declared.customs.TypedCustom.{TypedCustom}
 use Rattle.custom_readings.proofs.ReadLists.{item_get}
-use Rattle.apply_load.proofs.CustomsRead.{owner-there, names-first, first-unread, all-typed, whole-typed}
-use Rattle.apply_load.proofs.customs.judge_customs.Goals as goal
+use Rattle.apply_store.proofs.CustomsRead.{owner-there, names-first, first-unread, all-typed, whole-typed}
+use Rattle.apply_store.proofs.judging.judge_customs.Goals as goal
 
 pub untyped-requires : goal.untyped-requires
 untyped-requires c =

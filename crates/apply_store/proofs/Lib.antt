@@ -1,0 +1,3 @@
+mod CustomsRead
+pub mod FirstCustoms
+mod Named

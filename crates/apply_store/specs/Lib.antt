@@ -1,0 +1,3 @@
+pub mod CustomReadings
+pub mod FirstCustoms
+pub mod Stores
