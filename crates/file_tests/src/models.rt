@@ -16,160 +16,194 @@ const SAMPLE: &str =
 
 /// What bytes are as a model file.
 fn reading(alloc: Global, file: &[u8]) -> &'static str {
-    match read_model(alloc, file) {
-        Ok(_) => "model",
-        Err(ModelRefused::TooLong) => "too long",
-        Err(ModelRefused::Json) => "no JSON",
-        Err(ModelRefused::Model) => "no model",
-        Err(ModelRefused::Memory) => "no memory",
+    match read_model(alloc, file).err() {
+        None => "model",
+        Some(ModelRefused::TooLong) => "too long",
+        Some(ModelRefused::Json) => "no JSON",
+        Some(ModelRefused::Model) => "no model",
+        Some(ModelRefused::Memory) => "no memory",
     }
 }
 
+/// Texts of the sample, what is written in their place, and what the file then is.
+const RULES: &[(&str, &str, &str)] = &[
+    ("\"$Version\":\"4.01\"", "\"$Version\":4", "no model"),
+    ("\"W.C\"", "\"W\"", "no model"),
+    (
+        "\"$Version\":\"4.01\",",
+        "\"$Version\":\"4.01\",\"Other\":{},",
+        "no model",
+    ),
+    ("\"C\":{\"$Kind\"", "\"D\":{\"$Kind\"", "no model"),
+    (
+        "\"C\":{\"$Kind\"",
+        "\"D\":{\"$Kind\":\"EntityContainer\"},\"C\":{\"$Kind\"",
+        "no model",
+    ),
+    (
+        "\"$Key\":[\"ID\"],\"ID\":{\"$Type\":\"Edm.Int64\"}",
+        "\"$Key\":[\"OrgID\"],\"ID\":{\"$Type\":\"Edm.Int64\"}",
+        "no model",
+    ),
+    (
+        "\"$Type\":\"Edm.Date\"",
+        "\"$Type\":\"Edm.Double\"",
+        "no model",
+    ),
+    (
+        "\"$Precision\":16,\"$Scale\":2,",
+        "\"$Precision\":16,",
+        "no model",
+    ),
+    ("\"$Precision\":16,", "", "model"),
+    ("\"$Precision\":16,", "\"$Precision\":1,", "no model"),
+    ("\"$Scale\":2", "\"$Scale\":10", "no model"),
+    ("\"Country\":{}", "\"Country\":{\"$Scale\":2}", "no model"),
+    (
+        "\"Country\":{}",
+        "\"Country\":{\"$MaxLength\":2,\"@Core.Description\":\"x\"}",
+        "model",
+    ),
+    ("\"Country\":{}", "\"Country\":{\"$Scales\":2}", "no model"),
+    (
+        "\"$Type\":\"W.Customer\",\"$Partner\"",
+        "\"$Type\":\"W.Nobody\",\"$Partner\"",
+        "no model",
+    ),
+    ("{\"OrgID\":\"ID\"}", "{\"OrgID\":\"ParentID\"}", "no model"),
+    (
+        "{\"OrgID\":\"ID\"}",
+        "{\"OrgID\":\"ID\",\"CustomerID\":\"ID\"}",
+        "no model",
+    ),
+    (
+        "\"$Type\":\"W.Sale\",\"$Partner\":\"Customer\"",
+        "\"$Type\":\"W.Sale\",\"$Partner\":\"Org\"",
+        "no model",
+    ),
+    (
+        "\"Orgs\":{\"$Collection\":true,\"$Type\":\"W.Org\"}",
+        "\"Orgs\":{\"$Collection\":true,\"$Type\":\"W.Sale\"}",
+        "no model",
+    ),
+    ("\"Name\":{}", "\"and\":{}", "no model"),
+];
+
+/// The same of further rules.
+const MORE_RULES: &[(&str, &str, &str)] = &[
+    (
+        "\"NodeProperty\":\"ID\"",
+        "\"NodeProperty\":\"ParentID\"",
+        "no model",
+    ),
+    ("\"Edm.Decimal\",\"@Local", "1,\"@Local", "no model"),
+    ("CustomAggregate#Best", "CustomAggregate#Worst", "no model"),
+    ("\"With\":\"sum\"", "\"With\":\"average\"", "no model"),
+    ("\"Then\":\"max\"", "\"Then\":\"most\"", "no model"),
+    ("\"Per\":[\"CustomerID\"],", "", "no model"),
+    ("\"$Precision\":16,", "\"$Precision\":19,", "no model"),
+    ("\"$Scale\":2", "\"$Scale\":9", "model"),
+    (
+        "\"ID\":{\"$Type\":\"Edm.Int64\"}",
+        "\"ID\":{\"$Type\":\"Edm.Int64\",\"$Nullable\":true}",
+        "no model",
+    ),
+    (
+        "\"ID\":{\"$Type\":\"Edm.Int64\"}",
+        "\"ID\":{\"$Type\":\"Edm.Boolean\"}",
+        "no model",
+    ),
+    (
+        "\"Country\":{}",
+        "\"Country\":{\"$Kind\":\"Property\",\"$Type\":\"Edm.Boolean\"}",
+        "model",
+    ),
+    ("\"Name\":{}", "\"Name\":{\"$Nullable\":null}", "no model"),
+    (
+        "\"$Key\":[\"ID\"],\"ID\":{},\"Name\"",
+        "\"$Key\":[\"ID\",\"Name\"],\"ID\":{},\"Name\"",
+        "no model",
+    ),
+    (
+        "\"$Key\":[\"ID\"],\"ID\":{},\"Name\"",
+        "\"$Key\":[\"Nobody\"],\"ID\":{},\"Name\"",
+        "no model",
+    ),
+    (
+        "\"Orgs\":{\"$Collection\":true,\"$Type\":\"W.Org\"}",
+        "\"Orgs\":{\"$Collection\":true,\"$Type\":\"W.Org\"},\"Units\":{\"$Collection\":true,\"$Type\":\"W.Org\"}",
+        "no model",
+    ),
+    (
+        ",\"Orgs\":{\"$Collection\":true,\"$Type\":\"W.Org\"}",
+        "",
+        "no model",
+    ),
+    (
+        "\"ParentNavigationProperty\":\"Superordinate\"",
+        "\"ParentNavigationProperty\":\"ParentID\"",
+        "no model",
+    ),
+    ("Definition#Best", "Definition#Amount", "no model"),
+    ("\"Per\":[\"CustomerID\"]", "\"Per\":[]", "no model"),
+    ("{\"$Version\"", "[\"$Version\"", "no JSON"),
+];
+
 #[test]
 fn each_rule_broken_once(rt: HostRuntime) -> Result<(), Fail> {
-    let rows = [
-        ("\"$Version\":\"4.01\"", "\"$Version\":4", "no model"),
-        ("\"W.C\"", "\"W\"", "no model"),
-        (
-            "\"$Version\":\"4.01\",",
-            "\"$Version\":\"4.01\",\"Other\":{},",
-            "no model",
-        ),
-        ("\"C\":{\"$Kind\"", "\"D\":{\"$Kind\"", "no model"),
-        (
-            "\"C\":{\"$Kind\"",
-            "\"D\":{\"$Kind\":\"EntityContainer\"},\"C\":{\"$Kind\"",
-            "no model",
-        ),
-        (
-            "\"$Key\":[\"ID\"],\"ID\":{\"$Type\":\"Edm.Int64\"}",
-            "\"$Key\":[\"OrgID\"],\"ID\":{\"$Type\":\"Edm.Int64\"}",
-            "no model",
-        ),
-        (
-            "\"$Type\":\"Edm.Date\"",
-            "\"$Type\":\"Edm.Double\"",
-            "no model",
-        ),
-        (
-            "\"$Precision\":16,\"$Scale\":2,",
-            "\"$Precision\":16,",
-            "no model",
-        ),
-        ("\"$Precision\":16,", "", "model"),
-        ("\"$Precision\":16,", "\"$Precision\":1,", "no model"),
-        ("\"$Scale\":2", "\"$Scale\":10", "no model"),
-        ("\"Country\":{}", "\"Country\":{\"$Scale\":2}", "no model"),
-        (
-            "\"Country\":{}",
-            "\"Country\":{\"$MaxLength\":2,\"@Core.Description\":\"x\"}",
-            "model",
-        ),
-        ("\"Country\":{}", "\"Country\":{\"$Scales\":2}", "no model"),
-        (
-            "\"$Type\":\"W.Customer\",\"$Partner\"",
-            "\"$Type\":\"W.Nobody\",\"$Partner\"",
-            "no model",
-        ),
-        ("{\"OrgID\":\"ID\"}", "{\"OrgID\":\"ParentID\"}", "no model"),
-        (
-            "{\"OrgID\":\"ID\"}",
-            "{\"OrgID\":\"ID\",\"CustomerID\":\"ID\"}",
-            "no model",
-        ),
-        (
-            "\"$Type\":\"W.Sale\",\"$Partner\":\"Customer\"",
-            "\"$Type\":\"W.Sale\",\"$Partner\":\"Org\"",
-            "no model",
-        ),
-        (
-            "\"Orgs\":{\"$Collection\":true,\"$Type\":\"W.Org\"}",
-            "\"Orgs\":{\"$Collection\":true,\"$Type\":\"W.Sale\"}",
-            "no model",
-        ),
-        ("\"Name\":{}", "\"and\":{}", "no model"),
-        (
-            "\"NodeProperty\":\"ID\"",
-            "\"NodeProperty\":\"ParentID\"",
-            "no model",
-        ),
-        ("\"Edm.Decimal\",\"@Local", "1,\"@Local", "no model"),
-        ("CustomAggregate#Best", "CustomAggregate#Worst", "no model"),
-        ("\"With\":\"sum\"", "\"With\":\"average\"", "no model"),
-        ("\"Then\":\"max\"", "\"Then\":\"most\"", "no model"),
-        ("\"Per\":[\"CustomerID\"],", "", "no model"),
-        ("\"$Precision\":16,", "\"$Precision\":19,", "no model"),
-        ("\"$Scale\":2", "\"$Scale\":9", "model"),
-        (
-            "\"ID\":{\"$Type\":\"Edm.Int64\"}",
-            "\"ID\":{\"$Type\":\"Edm.Int64\",\"$Nullable\":true}",
-            "no model",
-        ),
-        (
-            "\"ID\":{\"$Type\":\"Edm.Int64\"}",
-            "\"ID\":{\"$Type\":\"Edm.Boolean\"}",
-            "no model",
-        ),
-        (
-            "\"Country\":{}",
-            "\"Country\":{\"$Kind\":\"Property\",\"$Type\":\"Edm.Boolean\"}",
-            "model",
-        ),
-        ("\"Name\":{}", "\"Name\":{\"$Nullable\":null}", "no model"),
-        (
-            "\"$Key\":[\"ID\"],\"ID\":{},\"Name\"",
-            "\"$Key\":[\"ID\",\"Name\"],\"ID\":{},\"Name\"",
-            "no model",
-        ),
-        (
-            "\"$Key\":[\"ID\"],\"ID\":{},\"Name\"",
-            "\"$Key\":[\"Nobody\"],\"ID\":{},\"Name\"",
-            "no model",
-        ),
-        (
-            "\"Orgs\":{\"$Collection\":true,\"$Type\":\"W.Org\"}",
-            "\"Orgs\":{\"$Collection\":true,\"$Type\":\"W.Org\"},\"Units\":{\"$Collection\":true,\"$Type\":\"W.Org\"}",
-            "no model",
-        ),
-        (
-            ",\"Orgs\":{\"$Collection\":true,\"$Type\":\"W.Org\"}",
-            "",
-            "no model",
-        ),
-        (
-            "\"ParentNavigationProperty\":\"Superordinate\"",
-            "\"ParentNavigationProperty\":\"ParentID\"",
-            "no model",
-        ),
-        ("Definition#Best", "Definition#Amount", "no model"),
-        ("\"Per\":[\"CustomerID\"]", "\"Per\":[]", "no model"),
-        ("{\"$Version\"", "[\"$Version\"", "no JSON"),
-    ];
     let alloc = rt.alloc();
     assert_eq!(rt; reading(alloc, SAMPLE.as_bytes()), "model");
-    for (from, to, wanted) in rows {
-        let text = SAMPLE.replace(alloc, from, to)?;
-        assert_eq!(rt; reading(alloc, text.as_bytes()), wanted, "{from} to {to}");
+    for rows in [RULES, MORE_RULES] {
+        for (from, to, wanted) in rows {
+            let text = SAMPLE.replace(alloc, from, to)?;
+            assert_eq!(rt; reading(alloc, text.as_bytes()), *wanted, "{from} to {to}");
+        }
     }
     Ok(())
 }
 
+/// Files that are short.
+const SHORT: &[(&[u8], &str)] = &[
+    (b"", "no JSON"),
+    (b"{", "no JSON"),
+    (b"[]", "no JSON"),
+    (b"{}", "no model"),
+    (b"\xff{}", "no JSON"),
+];
+
+/// Texts, how often they stand in a file, and what the file then is. The last file has one byte past the limit.
+const REPEATED: &[(&str, usize, &str)] = &[
+    ("[", 128, "no JSON"),
+    ("                 ", 61_681, "too long"),
+];
+
 #[test]
 fn texts_that_are_no_objects(rt: HostRuntime) -> Result<(), Fail> {
     let alloc = rt.alloc();
-    for (file, wanted) in [
-        (b"".as_slice(), "no JSON"),
-        (b"{".as_slice(), "no JSON"),
-        (b"[]".as_slice(), "no JSON"),
-        (b"{}".as_slice(), "no model"),
-        (b"\xff{}".as_slice(), "no JSON"),
-    ] {
-        assert_eq!(rt; reading(alloc, file), wanted, "{file:?}");
+    for (file, wanted) in SHORT {
+        assert_eq!(rt; reading(alloc, file), *wanted, "{file:?}");
     }
-    let nested = "[".repeat(alloc, 128)?;
-    assert_eq!(rt; reading(alloc, nested.as_bytes()), "no JSON");
-    let long = " ".repeat(alloc, 1_048_577)?;
-    assert_eq!(rt; reading(alloc, long.as_bytes()), "too long");
+    for (text, times, wanted) in REPEATED {
+        let file = text.repeat(alloc, *times)?;
+        assert_eq!(rt; reading(alloc, file.as_bytes()), *wanted, "{text}");
+    }
+    Ok(())
+}
+
+/// Compares what is listed of a file: its namespace, how many types and entity sets it has, and whether it is a model.
+fn expect_tree(
+    rt: &impl Abort,
+    alloc: Global,
+    file: &str,
+    namespace: &str,
+    counts: (usize, usize),
+    accepted: bool,
+) -> Result<(), Fail> {
+    let root = Value::from_slice(alloc, file.as_bytes())?;
+    let schema = read_schema(alloc, &root)?;
+    assert_eq!(rt; schema.namespace, namespace);
+    assert_eq!(rt; (schema.types.len(), schema.sets.len()), counts);
+    assert_eq!(rt; is_model(alloc, &schema)?, accepted);
     Ok(())
 }
 
@@ -177,19 +211,9 @@ fn texts_that_are_no_objects(rt: HostRuntime) -> Result<(), Fail> {
 fn trees_of_files_are_listed_and_judged(rt: HostRuntime) -> Result<(), Fail> {
     let alloc = rt.alloc();
     let partnerless = SAMPLE.replace(alloc, "\"$Partner\":\"Customer\"", "\"$Partner\":\"Org\"")?;
-    for (file, namespace, types, sets, accepted) in [
-        (SAMPLE, "W", 3usize, 3usize, true),
-        (partnerless.as_str(), "W", 3, 3, false),
-        ("{}", "", 0, 0, false),
-    ] {
-        let root = Value::from_slice(alloc, file.as_bytes())?;
-        let schema = read_schema(alloc, &root)?;
-        assert_eq!(rt; schema.namespace, namespace);
-        assert_eq!(rt; schema.types.len(), types);
-        assert_eq!(rt; schema.sets.len(), sets);
-        assert_eq!(rt; is_model(alloc, &schema)?, accepted);
-    }
-    Ok(())
+    expect_tree(&rt, alloc, SAMPLE, "W", (3, 3), true)?;
+    expect_tree(&rt, alloc, partnerless.as_str(), "W", (3, 3), false)?;
+    expect_tree(&rt, alloc, "{}", "", (0, 0), false)
 }
 
 /// The set of this name, which is there.
@@ -213,12 +237,14 @@ fn expect_set(
 ) {
     let found = found_set(rt, model, set);
     let entity_type = model.set_type(found);
-    assert_eq!(rt; model.set_name(found), set);
-    assert_eq!(rt; model.type_name(entity_type), of);
-    assert_eq!(rt; model.type_set(entity_type), found);
-    assert_eq!(rt; model.prop_name(model.key_of(entity_type)), key);
-    assert_eq!(rt; model.props(entity_type).len(), parts.0);
-    assert_eq!(rt; model.navs(entity_type).len(), parts.1);
+    let names = (model.set_name(found), model.type_name(entity_type));
+    let key_name = model.prop_name(model.key_of(entity_type));
+    let counts = (
+        model.props(entity_type).len(),
+        model.navs(entity_type).len(),
+    );
+    assert_eq!(rt; (names, key_name), ((set, of), key));
+    assert_eq!(rt; (model.type_set(entity_type), counts), (found, parts));
 }
 
 /// Finds a property of a set's type that has this type, and may be null or not.
@@ -234,8 +260,8 @@ fn expect_property(
     match model.prop_named(of, name) {
         Some(found) => {
             assert_eq!(rt; model.prop_name(found), name);
-            assert_eq!(rt; model.prop_type(found), kind);
-            assert_eq!(rt; model.prop_nullable(found), nullable);
+            let (of, null) = (model.prop_type(found), model.prop_nullable(found));
+            assert_eq!(rt; (of, null), (kind, nullable), "{name}");
         }
         None => panic!(rt; "no property {name}"),
     }
@@ -265,14 +291,28 @@ fn expect_navigation(
     let of = model.set_type(found_set(rt, model, set));
     match model.nav_named(of, name) {
         Some(found) => {
-            assert_eq!(rt; model.nav_name(found), name);
-            assert_eq!(rt; model.type_name(model.nav_target(found)), target);
-            assert_eq!(rt; model.nav_many(found), many);
-            assert_eq!(rt; back_name(model, found), back);
+            let to = model.type_name(model.nav_target(found));
+            assert_eq!(rt; (model.nav_name(found), to), (name, target));
+            assert_eq!(rt;
+                (model.nav_many(found), back_name(model, found)),
+                (many, back)
+            );
         }
         None => panic!(rt; "no navigation property {name}"),
     }
 }
+
+/// Names that are none of a set.
+const ABSENT: &[&str] = &[
+    "",
+    "Customer",
+    "Customers ",
+    "Org",
+    "Orgz",
+    "Sale",
+    "sales",
+    "Saless",
+];
 
 /// Finds the sets by their names, and nothing by other names.
 fn expect_sets(rt: &impl Abort, model: &Model) {
@@ -280,48 +320,45 @@ fn expect_sets(rt: &impl Abort, model: &Model) {
     expect_set(rt, model, "Customers", "Customer", "ID", (4, 1));
     expect_set(rt, model, "Orgs", "Org", "ID", (2, 1));
     expect_set(rt, model, "Sales", "Sale", "ID", (4, 2));
-    for absent in [
-        "",
-        "Customer",
-        "Customers ",
-        "Org",
-        "Orgz",
-        "Sale",
-        "sales",
-        "Saless",
-    ] {
+    for absent in ABSENT {
         assert!(rt; model.set_named(absent).is_none(), "the set {absent}");
     }
 }
 
-/// Finds properties by their names.
-fn expect_properties(rt: &impl Abort, model: &Model) {
-    let amount = EdmType::Dec {
-        scale: 2,
-        precision: 16,
-    };
-    for (set, name, kind, nullable) in [
-        ("Customers", "Country", EdmType::Text, false),
-        ("Customers", "Since", EdmType::Day, true),
-        ("Orgs", "ParentID", EdmType::Text, true),
-        ("Sales", "Amount", amount, true),
-        ("Sales", "CustomerID", EdmType::Text, false),
-        ("Sales", "ID", EdmType::Int, false),
-        ("Sales", "OrgID", EdmType::Text, true),
-    ] {
-        expect_property(rt, model, set, name, kind, nullable);
-    }
-}
+/// Sets, their properties with their types, and whether they may be null.
+const PROPERTIES: &[(&str, &str, EdmType, bool)] = &[
+    ("Customers", "Country", EdmType::Text, false),
+    ("Customers", "Since", EdmType::Day, true),
+    ("Orgs", "ParentID", EdmType::Text, true),
+    (
+        "Sales",
+        "Amount",
+        EdmType::Dec {
+            scale: 2,
+            precision: 16,
+        },
+        true,
+    ),
+    ("Sales", "CustomerID", EdmType::Text, false),
+    ("Sales", "ID", EdmType::Int, false),
+    ("Sales", "OrgID", EdmType::Text, true),
+];
 
-/// Finds navigation properties by their names.
-fn expect_navigations(rt: &impl Abort, model: &Model) {
-    for (set, name, target, many, back) in [
-        ("Customers", "Sales", "Sale", true, "Customer"),
-        ("Orgs", "Superordinate", "Org", false, "ParentID"),
-        ("Sales", "Customer", "Customer", false, "CustomerID"),
-        ("Sales", "Org", "Org", false, "OrgID"),
-    ] {
-        expect_navigation(rt, model, set, name, target, many, back);
+/// Sets, their navigation properties, the types that these lead to, whether they lead to many, and what leads back.
+const NAVIGATIONS: &[(&str, &str, &str, bool, &str)] = &[
+    ("Customers", "Sales", "Sale", true, "Customer"),
+    ("Orgs", "Superordinate", "Org", false, "ParentID"),
+    ("Sales", "Customer", "Customer", false, "CustomerID"),
+    ("Sales", "Org", "Org", false, "OrgID"),
+];
+
+/// Finds properties and navigation properties by their names.
+fn expect_properties(rt: &impl Abort, model: &Model) {
+    for (set, name, kind, nullable) in PROPERTIES {
+        expect_property(rt, model, set, name, *kind, *nullable);
+    }
+    for (set, name, target, many, back) in NAVIGATIONS {
+        expect_navigation(rt, model, set, name, target, *many, back);
     }
 }
 
@@ -332,9 +369,12 @@ fn expect_hierarchy(rt: &impl Abort, model: &Model) {
         panic!(rt; "no hierarchy");
     };
     assert_eq!(rt; model.hiers(), [tree].as_slice());
-    assert_eq!(rt; model.hier_name(tree), "OrgTree");
+    let parent = model.nav_name(model.hier_parent(tree));
+    assert_eq!(rt;
+        (model.hier_name(tree), parent),
+        ("OrgTree", "Superordinate")
+    );
     assert_eq!(rt; model.hier_set(tree), orgs);
-    assert_eq!(rt; model.nav_name(model.hier_parent(tree)), "Superordinate");
     assert!(rt; model.hier_named(orgs, "Best").is_none());
 }
 
@@ -344,12 +384,15 @@ fn expect_custom(rt: &impl Abort, model: &Model) {
     let best = model.custom_named(sale, "Best");
     assert_eq!(rt; model.customs().len(), 1);
     let custom = &model.customs()[0];
-    assert_eq!(rt; Some(custom.id), best);
-    assert_eq!(rt; custom.owner, sale);
-    assert_eq!(rt; custom.name.as_str(), "Best");
-    assert_eq!(rt; custom.of.as_str(), "Amount");
-    assert_eq!(rt; custom.method, Method::Sum);
-    assert_eq!(rt; custom.outer, Some(Method::Max));
+    assert_eq!(rt; (Some(custom.id), custom.owner), (best, sale));
+    assert_eq!(rt;
+        (custom.name.as_str(), custom.of.as_str()),
+        ("Best", "Amount")
+    );
+    assert_eq!(rt;
+        (custom.method, custom.outer),
+        (Method::Sum, Some(Method::Max))
+    );
     let groups = custom.per.as_slice();
     assert_eq!(rt; groups.len(), 1);
     assert_eq!(rt; groups[0].as_str(), "CustomerID");
@@ -360,7 +403,6 @@ fn parts_of_a_model_are_found_by_name(rt: HostRuntime) -> Result<(), Fail> {
     let model = read_model(rt.alloc(), SAMPLE.as_bytes())?;
     expect_sets(&rt, &model);
     expect_properties(&rt, &model);
-    expect_navigations(&rt, &model);
     expect_hierarchy(&rt, &model);
     expect_custom(&rt, &model);
     Ok(())

@@ -31,13 +31,6 @@ fn reading(alloc: Global, text: &str, kind: EdmType) -> Result<Vec<u8>, AllocErr
     }
 }
 
-fn decimal(m: i64, s: u8) -> Seen<'static> {
-    match Dec::new(m, s) {
-        Some(d) => Seen::Dec(d),
-        None => Seen::Null,
-    }
-}
-
 fn expect_readings(
     rt: &impl Abort,
     alloc: Global,
@@ -51,339 +44,372 @@ fn expect_readings(
     Ok(())
 }
 
-#[test]
-fn reads_integers(rt: HostRuntime) -> Result<(), Fail> {
-    let rows = [
-        ("0", "0"),
-        ("-0", "0"),
-        ("+0", "0"),
-        ("7", "7"),
-        ("+7", "7"),
-        ("-7", "-7"),
-        ("007", "7"),
-        ("00000000000000000000000000000007", "7"),
-        ("9223372036854775807", "9223372036854775807"),
-        ("9223372036854775808", "Range"),
-        ("+9223372036854775808", "Range"),
-        ("-9223372036854775808", "-9223372036854775808"),
-        ("-9223372036854775809", "Range"),
-        ("18446744073709551617", "Range"),
-        ("-99999999999999999999999999", "Range"),
-        ("", "Shape"),
-        ("+", "Shape"),
-        ("-", "Shape"),
-        ("+-1", "Shape"),
-        ("--1", "Shape"),
-        (" 1", "Shape"),
-        ("1 ", "Shape"),
-        ("1.0", "Shape"),
-        ("1e3", "Shape"),
-        ("0x10", "Shape"),
-        ("1_000", "Shape"),
-        ("٣", "Shape"),
-    ];
-    expect_readings(&rt, rt.alloc(), EdmType::Int, &rows)
-}
+/// Integers of 64 bits.
+const INTEGERS: &[(&str, &str)] = &[
+    ("0", "0"),
+    ("-0", "0"),
+    ("+0", "0"),
+    ("7", "7"),
+    ("+7", "7"),
+    ("-7", "-7"),
+    ("007", "7"),
+    ("00000000000000000000000000000007", "7"),
+    ("9223372036854775807", "9223372036854775807"),
+    ("9223372036854775808", "Range"),
+    ("+9223372036854775808", "Range"),
+    ("-9223372036854775808", "-9223372036854775808"),
+    ("-9223372036854775809", "Range"),
+    ("18446744073709551617", "Range"),
+    ("-99999999999999999999999999", "Range"),
+    ("", "Shape"),
+    ("+", "Shape"),
+    ("-", "Shape"),
+    ("+-1", "Shape"),
+    ("--1", "Shape"),
+    (" 1", "Shape"),
+    ("1 ", "Shape"),
+    ("1.0", "Shape"),
+    ("1e3", "Shape"),
+    ("0x10", "Shape"),
+    ("1_000", "Shape"),
+    ("٣", "Shape"),
+];
 
-#[test]
-fn reads_decimals_of_scale_two(rt: HostRuntime) -> Result<(), Fail> {
-    let rows = [
-        ("12.340", "12.34"),
-        ("12.345", "Shape"),
-        ("123.45", "Range"),
-        ("123.456", "Shape"),
-        ("99.99", "99.99"),
-        ("100.00", "Range"),
-        ("-99.99", "-99.99"),
-        ("-100", "Range"),
-        ("0", "0.00"),
-        ("-0", "0.00"),
-        ("0.00", "0.00"),
-        ("-0.05", "-0.05"),
-        ("+1.5", "1.50"),
-        ("1.", "Shape"),
-        (".5", "Shape"),
-        (".", "Shape"),
-        ("1.2.3", "Shape"),
-        ("1,5", "Shape"),
-        ("", "Shape"),
-        ("-", "Shape"),
-        ("+", "Shape"),
-        ("00012.3400000", "12.34"),
-        ("1.000000001", "Shape"),
-        (" 1.5", "Shape"),
-        ("1e2", "Shape"),
-        ("9", "9.00"),
-        ("12.3a", "Shape"),
-    ];
-    expect_readings(
-        &rt,
-        rt.alloc(),
+/// Decimals of scale 2 and precision 4.
+const DECIMALS_2: &[(&str, &str)] = &[
+    ("12.340", "12.34"),
+    ("12.345", "Shape"),
+    ("123.45", "Range"),
+    ("123.456", "Shape"),
+    ("99.99", "99.99"),
+    ("100.00", "Range"),
+    ("-99.99", "-99.99"),
+    ("-100", "Range"),
+    ("0", "0.00"),
+    ("-0", "0.00"),
+    ("0.00", "0.00"),
+    ("-0.05", "-0.05"),
+    ("+1.5", "1.50"),
+    ("1.", "Shape"),
+    (".5", "Shape"),
+    (".", "Shape"),
+    ("1.2.3", "Shape"),
+    ("1,5", "Shape"),
+    ("", "Shape"),
+    ("-", "Shape"),
+    ("+", "Shape"),
+    ("00012.3400000", "12.34"),
+    ("1.000000001", "Shape"),
+    (" 1.5", "Shape"),
+    ("1e2", "Shape"),
+    ("9", "9.00"),
+    ("12.3a", "Shape"),
+];
+
+/// Decimals of scale 0 and precision 18.
+const DECIMALS_0: &[(&str, &str)] = &[
+    ("7", "7"),
+    ("7.000", "7"),
+    ("7.5", "Shape"),
+    ("999999999999999999", "999999999999999999"),
+    ("1000000000000000000", "Range"),
+    ("-999999999999999999", "-999999999999999999"),
+    ("-1000000000000000000", "Range"),
+    ("000000000000000000000000000001", "1"),
+];
+
+/// Decimals of scale 9 and precision 18.
+const DECIMALS_9: &[(&str, &str)] = &[
+    ("999999999.999999999", "999999999.999999999"),
+    ("-999999999.999999999", "-999999999.999999999"),
+    ("1000000000", "Range"),
+    ("0.000000001", "0.000000001"),
+    ("0.0000000001", "Shape"),
+    ("0.0000000010", "0.000000001"),
+    ("-1000000000.0", "Range"),
+];
+
+/// Decimals of scale 9 and precision 9.
+const DECIMALS_BELOW_1: &[(&str, &str)] = &[
+    ("0.999999999", "0.999999999"),
+    ("1", "Range"),
+    ("0.5", "0.500000000"),
+];
+
+/// Days.
+const DAYS: &[(&str, &str)] = &[
+    ("2021-02-29", "Range"),
+    ("2020-02-29", "2020-02-29"),
+    ("1900-02-29", "Range"),
+    ("2000-02-29", "2000-02-29"),
+    ("0000-01-01", "Range"),
+    ("0001-01-01", "0001-01-01"),
+    ("9999-12-31", "9999-12-31"),
+    ("10000-01-01", "Shape"),
+    ("2021-13-01", "Range"),
+    ("2021-00-10", "Range"),
+    ("2021-04-31", "Range"),
+    ("2021-04-00", "Range"),
+    ("2021-4-01", "Shape"),
+    ("2021-04-1", "Shape"),
+    ("+021-04-01", "Shape"),
+    ("2021/04/01", "Shape"),
+    ("2021-04-01 ", "Shape"),
+    ("", "Shape"),
+    ("2021-04-0a", "Shape"),
+];
+
+/// Booleans.
+const BOOLEANS: &[(&str, &str)] = &[
+    ("true", "true"),
+    ("false", "false"),
+    ("True", "Shape"),
+    ("1", "Shape"),
+    ("", "Shape"),
+    ("true ", "Shape"),
+];
+
+/// Texts.
+const TEXTS: &[(&str, &str)] = &[("", ""), ("a \"text\"", "a \"text\""), ("ß€", "ß€")];
+
+/// Types, and their texts.
+const READINGS: &[(EdmType, &[(&str, &str)])] = &[
+    (EdmType::Int, INTEGERS),
+    (
         EdmType::Dec {
             scale: 2,
             precision: 4,
         },
-        &rows,
-    )
-}
-
-#[test]
-fn reads_decimals_of_scale_nought(rt: HostRuntime) -> Result<(), Fail> {
-    let rows = [
-        ("7", "7"),
-        ("7.000", "7"),
-        ("7.5", "Shape"),
-        ("999999999999999999", "999999999999999999"),
-        ("1000000000000000000", "Range"),
-        ("-999999999999999999", "-999999999999999999"),
-        ("-1000000000000000000", "Range"),
-        ("000000000000000000000000000001", "1"),
-    ];
-    expect_readings(
-        &rt,
-        rt.alloc(),
+        DECIMALS_2,
+    ),
+    (
         EdmType::Dec {
             scale: 0,
             precision: 18,
         },
-        &rows,
-    )
-}
-
-#[test]
-fn reads_decimals_of_scale_nine(rt: HostRuntime) -> Result<(), Fail> {
-    let rows = [
-        ("999999999.999999999", "999999999.999999999"),
-        ("-999999999.999999999", "-999999999.999999999"),
-        ("1000000000", "Range"),
-        ("0.000000001", "0.000000001"),
-        ("0.0000000001", "Shape"),
-        ("0.0000000010", "0.000000001"),
-        ("-1000000000.0", "Range"),
-    ];
-    expect_readings(
-        &rt,
-        rt.alloc(),
+        DECIMALS_0,
+    ),
+    (
         EdmType::Dec {
             scale: 9,
             precision: 18,
         },
-        &rows,
-    )
-}
-
-#[test]
-fn reads_decimals_below_one(rt: HostRuntime) -> Result<(), Fail> {
-    let rows = [
-        ("0.999999999", "0.999999999"),
-        ("1", "Range"),
-        ("0.5", "0.500000000"),
-    ];
-    expect_readings(
-        &rt,
-        rt.alloc(),
+        DECIMALS_9,
+    ),
+    (
         EdmType::Dec {
             scale: 9,
             precision: 9,
         },
-        &rows,
-    )
-}
+        DECIMALS_BELOW_1,
+    ),
+    (EdmType::Day, DAYS),
+    (EdmType::Bool, BOOLEANS),
+    (EdmType::Text, TEXTS),
+];
 
 #[test]
-fn reads_days(rt: HostRuntime) -> Result<(), Fail> {
-    let rows = [
-        ("2021-02-29", "Range"),
-        ("2020-02-29", "2020-02-29"),
-        ("1900-02-29", "Range"),
-        ("2000-02-29", "2000-02-29"),
-        ("0000-01-01", "Range"),
-        ("0001-01-01", "0001-01-01"),
-        ("9999-12-31", "9999-12-31"),
-        ("10000-01-01", "Shape"),
-        ("2021-13-01", "Range"),
-        ("2021-00-10", "Range"),
-        ("2021-04-31", "Range"),
-        ("2021-04-00", "Range"),
-        ("2021-4-01", "Shape"),
-        ("2021-04-1", "Shape"),
-        ("+021-04-01", "Shape"),
-        ("2021/04/01", "Shape"),
-        ("2021-04-01 ", "Shape"),
-        ("", "Shape"),
-        ("2021-04-0a", "Shape"),
-    ];
-    expect_readings(&rt, rt.alloc(), EdmType::Day, &rows)
-}
-
-#[test]
-fn reads_booleans(rt: HostRuntime) -> Result<(), Fail> {
-    let rows = [
-        ("true", "true"),
-        ("false", "false"),
-        ("True", "Shape"),
-        ("1", "Shape"),
-        ("", "Shape"),
-        ("true ", "Shape"),
-    ];
-    expect_readings(&rt, rt.alloc(), EdmType::Bool, &rows)
-}
-
-#[test]
-fn reads_texts(rt: HostRuntime) -> Result<(), Fail> {
-    let rows = [("", ""), ("a \"text\"", "a \"text\""), ("ß€", "ß€")];
-    expect_readings(&rt, rt.alloc(), EdmType::Text, &rows)
-}
-
-#[test]
-fn computes(rt: HostRuntime) -> Result<(), Fail> {
-    let max = Seen::Int(i64::MAX);
-    let min = Seen::Int(i64::MIN);
-    let one = Seen::Int(1);
-    let rows = [
-        (add(one, decimal(25, 2)), "1.25"),
-        (add(max, one), "Beyond"),
-        (add(max, decimal(0, 1)), "Beyond"),
-        (
-            add(decimal(999_999_999_999_999_999, 2), decimal(1, 2)),
-            "Beyond",
-        ),
-        (add(decimal(-5, 1), decimal(5, 2)), "-0.45"),
-        (add(Seen::Null, Seen::Beyond), "Beyond"),
-        (add(Seen::Null, one), "null"),
-        (sub(min, one), "Beyond"),
-        (sub(one, min), "Beyond"),
-        (sub(decimal(100, 2), one), "0.00"),
-        (mul(decimal(25, 1), decimal(25, 2)), "0.625"),
-        (mul(min, Seen::Int(-1)), "Beyond"),
-        (
-            mul(Seen::Int(3_037_000_499), Seen::Int(3_037_000_499)),
-            "9223372030926249001",
-        ),
-        (
-            mul(Seen::Int(3_037_000_500), Seen::Int(3_037_000_500)),
-            "Beyond",
-        ),
-        (mul(one, decimal(7, 0)), "7"),
-        (neg(min), "Beyond"),
-        (neg(max), "-9223372036854775807"),
-        (neg(decimal(5, 2)), "-0.05"),
-        (neg(Seen::Null), "null"),
-    ];
-    for (found, expected) in rows {
-        let text = shown(rt.alloc(), found)?;
-        assert_eq!(rt; text.as_slice(), expected.as_bytes());
+fn texts_are_read_by_their_type(rt: HostRuntime) -> Result<(), Fail> {
+    for (kind, rows) in READINGS {
+        expect_readings(&rt, rt.alloc(), *kind, rows)?;
     }
     Ok(())
 }
 
-#[test]
-fn makes_decimals_and_days(rt: HostRuntime) -> Result<(), Fail> {
-    assert!(rt; Dec::new(1_000_000_000_000_000_000, 0).is_none());
-    assert!(rt; Dec::new(-1_000_000_000_000_000_000, 0).is_none());
-    assert!(rt; Dec::new(0, 10).is_none());
-    let most = Dec::new(-999_999_999_999_999_999, 9).ok_or("a decimal")?;
-    assert_eq!(rt; most.mantissa(), -999_999_999_999_999_999);
-    assert_eq!(rt; most.scale(), 9);
-    assert!(rt; Day::new(1900, 2, 29).is_none());
-    assert!(rt; Day::new(-4, 2, 29).is_none());
-    assert!(rt; Day::new(10_000, 1, 1).is_none());
-    let leap = Day::new(2000, 2, 29).ok_or("a day")?;
-    assert_eq!(rt; (leap.year(), leap.month(), leap.day()), (2000, 2, 29));
-    Ok(())
+/// The value of a word: `null`, `Beyond`, a number with so many digits behind its point, a Boolean, a day, or else a text. A decimal of
+/// scale 0 ends in a point.
+fn value_of(alloc: Global, word: &str) -> Result<Value, Fail> {
+    match word {
+        "null" => return Ok(Value::Null),
+        "Beyond" => return Ok(Value::Beyond),
+        _ => {}
+    }
+    if let Some((whole, digits)) = word.split_once('.') {
+        let scale = u8::try_from(digits.len()).unwrap_or(0);
+        let text = if scale == 0 { whole } else { word };
+        let precision = 18;
+        return Ok(read_value(alloc, text, EdmType::Dec { scale, precision })?);
+    }
+    for kind in [EdmType::Int, EdmType::Bool, EdmType::Day] {
+        if let Ok(value) = read_value(alloc, word, kind) {
+            return Ok(value);
+        }
+    }
+    Ok(read_value(alloc, word, EdmType::Text)?)
+}
+
+/// Sums, differences, products and negatives, and of two values how they compare and how they are ordered.
+const COMPUTED: &str = r"
+1 add 0.25 => 1.25
+9223372036854775807 add 1 => Beyond
+9223372036854775807 add 0.0 => Beyond
+9999999999999999.99 add 0.01 => Beyond
+-0.5 add 0.05 => -0.45
+null add Beyond => Beyond
+null add 1 => null
+-9223372036854775808 sub 1 => Beyond
+1 sub -9223372036854775808 => Beyond
+1.00 sub 1 => 0.00
+2.5 mul 0.25 => 0.625
+-9223372036854775808 mul -1 => Beyond
+3037000499 mul 3037000499 => 9223372030926249001
+3037000500 mul 3037000500 => Beyond
+1 mul 7. => 7
+-9223372036854775808 neg => Beyond
+9223372036854775807 neg => -9223372036854775807
+0.05 neg => -0.05
+null neg => null
+1 and 1.00 => equal less
+1.00 and 1.0 => equal greater
+0.5 and 0.49 => greater greater
+-9223372036854775808 and -999999999999999999. => less less
+false and true => less less
+Z and a => less less
+ab and a => greater greater
+2020-12-31 and 2021-01-01 => less less
+null and 1 => none less
+Beyond and z => none greater
+null and null => none equal
+";
+
+fn name_of(found: Option<Ordering>) -> &'static [u8] {
+    match found {
+        None => b"none".as_slice(),
+        Some(Ordering::Less) => b"less".as_slice(),
+        Some(Ordering::Equal) => b"equal".as_slice(),
+        Some(Ordering::Greater) => b"greater".as_slice(),
+    }
+}
+
+/// How two values compare, and how they are ordered.
+fn compared(alloc: Global, a: Seen<'_>, b: Seen<'_>) -> Result<Vec<u8>, AllocError> {
+    let mut out = Vec::from_slice(alloc, name_of(compare(a, b)))?;
+    out.extend_from_slice(b" ")?;
+    out.extend_from_slice(name_of(Some(order(a, b))))?;
+    Ok(out)
+}
+
+/// What is done with two values by the word between them, or with one before the word.
+fn done(alloc: Global, a: Seen<'_>, word: &str, b: Seen<'_>) -> Result<Vec<u8>, AllocError> {
+    match word {
+        "add" => shown(alloc, add(a, b)),
+        "sub" => shown(alloc, sub(a, b)),
+        "mul" => shown(alloc, mul(a, b)),
+        "neg" => shown(alloc, neg(a)),
+        _ => compared(alloc, a, b),
+    }
+}
+
+/// The text of what a row asks.
+fn answer(alloc: Global, asked: &str) -> Result<Vec<u8>, Fail> {
+    let (first, rest) = asked.split_once(' ').unwrap_or((asked, ""));
+    let (word, second) = rest.split_once(' ').unwrap_or((rest, "null"));
+    let a = value_of(alloc, first)?;
+    let b = value_of(alloc, second)?;
+    Ok(done(alloc, a.seen(), word, b.seen())?)
 }
 
 #[test]
-fn compares(rt: HostRuntime) -> Result<(), Fail> {
-    let one = Seen::Int(1);
-    let first = Day::new(2020, 12, 31).ok_or("a day")?;
-    let second = Day::new(2021, 1, 1).ok_or("a day")?;
-    let rows = [
-        (one, decimal(100, 2), Some(Ordering::Equal), Ordering::Less),
-        (
-            decimal(100, 2),
-            decimal(10, 1),
-            Some(Ordering::Equal),
-            Ordering::Greater,
-        ),
-        (
-            decimal(5, 1),
-            decimal(49, 2),
-            Some(Ordering::Greater),
-            Ordering::Greater,
-        ),
-        (
-            Seen::Int(i64::MIN),
-            decimal(-999_999_999_999_999_999, 0),
-            Some(Ordering::Less),
-            Ordering::Less,
-        ),
-        (
-            Seen::Bool(false),
-            Seen::Bool(true),
-            Some(Ordering::Less),
-            Ordering::Less,
-        ),
-        (
-            Seen::Text("Z"),
-            Seen::Text("a"),
-            Some(Ordering::Less),
-            Ordering::Less,
-        ),
-        (
-            Seen::Text("ab"),
-            Seen::Text("a"),
-            Some(Ordering::Greater),
-            Ordering::Greater,
-        ),
-        (
-            Seen::Day(first),
-            Seen::Day(second),
-            Some(Ordering::Less),
-            Ordering::Less,
-        ),
-        (Seen::Null, one, None, Ordering::Less),
-        (Seen::Beyond, Seen::Text("z"), None, Ordering::Greater),
-        (Seen::Null, Seen::Null, None, Ordering::Equal),
-    ];
-    for (a, b, compared, ordered) in rows {
-        assert_eq!(rt; compare(a, b), compared);
-        assert_eq!(rt; order(a, b), ordered);
+fn values_are_computed_and_compared(rt: HostRuntime) -> Result<(), Fail> {
+    for row in COMPUTED.lines() {
+        if let Some((asked, wanted)) = row.split_once(" => ") {
+            let found = answer(rt.alloc(), asked)?;
+            assert_eq!(rt; found.as_slice(), wanted.as_bytes(), "{asked}");
+        }
     }
     Ok(())
 }
 
+/// Mantissas and scales, and whether there is a decimal of them.
+const MADE_DECIMALS: &[(i64, u8, bool)] = &[
+    (1_000_000_000_000_000_000, 0, false),
+    (-1_000_000_000_000_000_000, 0, false),
+    (0, 10, false),
+    (-999_999_999_999_999_999, 9, true),
+];
+
+fn is_decimal(mantissa: i64, scale: u8) -> bool {
+    match Dec::new(mantissa, scale) {
+        Some(made) => made.mantissa() == mantissa && made.scale() == scale,
+        None => false,
+    }
+}
+
+/// Years, months and days, and whether there is a day of them.
+const MADE_DAYS: &[(i32, u8, u8, bool)] = &[
+    (1900, 2, 29, false),
+    (-4, 2, 29, false),
+    (10_000, 1, 1, false),
+    (2000, 2, 29, true),
+];
+
+fn is_day(year: i32, month: u8, day: u8) -> bool {
+    match Day::new(year, month, day) {
+        Some(made) => made.year() == year && made.month() == month && made.day() == day,
+        None => false,
+    }
+}
+
 #[test]
-fn keeps_values_as_keys(rt: HostRuntime) -> Result<(), Fail> {
+fn decimals_and_days_are_made_of_their_parts(rt: HostRuntime) {
+    for (mantissa, scale, is_one) in MADE_DECIMALS {
+        assert_eq!(rt;
+            is_decimal(*mantissa, *scale),
+            *is_one,
+            "{mantissa} {scale}"
+        );
+    }
+    for (year, month, day, is_one) in MADE_DAYS {
+        assert_eq!(rt;
+            is_day(*year, *month, *day),
+            *is_one,
+            "{year} {month} {day}"
+        );
+    }
+}
+
+/// Keys, of which the first and the last are one.
+const KEYS: &[&str] = &["x", "1.0", "1.00", "x"];
+
+#[test]
+fn equal_values_are_one_key(rt: HostRuntime) -> Result<(), Fail> {
     let alloc = rt.alloc();
     let mut places = IndexMap::new(alloc);
-    places.insert(Seen::Text("x").own(alloc)?, 1u8)?;
-    places.insert(decimal(10, 1).own(alloc)?, 2)?;
-    places.insert(decimal(100, 2).own(alloc)?, 3)?;
-    places.insert(Seen::Text("x").own(alloc)?, 4)?;
-    assert_eq!(rt; places.len(), 3);
-    assert_eq!(rt; places.get(&Value::Text(Text::of(alloc, "x")?)), Some(&4));
+    for (place, word) in KEYS.iter().enumerate() {
+        places.insert(value_of(alloc, word)?, place)?;
+    }
+    let last = places.get(&value_of(alloc, "x")?).copied();
+    assert_eq!(rt; (places.len(), last), (3, Some(3)));
+    Ok(())
+}
+
+/// Keys whose order is that of the places 1, 2, 0.
+const SORTED_KEYS: &[&str] = &["1.00", "null", "1"];
+
+#[test]
+fn keys_are_sorted(rt: HostRuntime) -> Result<(), Fail> {
+    let alloc = rt.alloc();
     let mut sorted = BTreeMap::new(alloc);
-    sorted.insert(decimal(100, 2).own(alloc)?, 1u8)?;
-    sorted.insert(Value::Null, 2)?;
-    sorted.insert(Value::Int(1), 3)?;
+    for (place, word) in SORTED_KEYS.iter().enumerate() {
+        sorted.insert(value_of(alloc, word)?, place)?;
+    }
     let mut found = Vec::new(alloc);
     for place in sorted.values() {
         found.push(*place)?;
     }
-    assert_eq!(rt; found.as_slice(), [2, 3, 1].as_slice());
+    assert_eq!(rt; found.as_slice(), [1, 2, 0].as_slice());
     Ok(())
 }
 
+const COPIED: &[&str] = &["", "x", "a\nb", "\u{e9}\u{65e5}"];
+
 #[test]
-fn copies_texts(rt: HostRuntime) -> Result<(), Fail> {
+fn texts_are_copied(rt: HostRuntime) -> Result<(), Fail> {
     let alloc = rt.alloc();
-    for given in ["", "x", "a\nb", "\u{e9}\u{65e5}"] {
+    for given in COPIED {
         let text = Text::of(alloc, given)?;
-        assert_eq!(rt; text.as_str(), given);
         let copy = text.copy(alloc)?;
-        assert_eq!(rt; copy.as_str(), given);
-        assert_eq!(rt; text.as_str(), given);
+        assert_eq!(rt; (text.as_str(), copy.as_str()), (*given, *given));
     }
     Ok(())
 }

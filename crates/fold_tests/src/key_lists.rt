@@ -1,5 +1,5 @@
 //! Lists of keys and their groups.
-ghost use Rattle.std.specs.Prelude.{IfOk};
+ghost use Rattle.std.specs.Prelude.{◌<◌, ◌≤◌, IfOk};
 ghost use Rattle.std.specs.List.{All};
 ghost use Rattle.aggregate_ops.specs.KeyTables.{HasWidth};
 
@@ -116,6 +116,24 @@ fn shown(alloc: Global, groups: &Groups) -> Result<String, Fail> {
     Ok(text)
 }
 
+/// The groups of keys that are folded in so many pieces: those that the table tells, and those that it is given up for.
+fn groups_of<R: Threads + Sync>(
+    rt: &R,
+    alloc: Global,
+    width: usize,
+    keys: &[Vec<Value>],
+    workers: u32,
+) -> Result<(String, String), Fail>
+    requires some { 0 < workers }
+    requires few { workers ≤ 64 }
+    requires width { All (HasWidth width) keys.now }
+{
+    let table = pieces(rt, keys, workers, &NoGate, &KeyTable::new(alloc, width))?;
+    let told = shown(alloc, &table.groups()?)?;
+    let given = shown(alloc, &table.into_groups()?)?;
+    Ok((told, given))
+}
+
 /// Compares the groups of keys, in one piece, in two and in three, and in as many as may be.
 fn expect_groups<R: Threads + Sync + Abort>(
     rt: &R,
@@ -126,17 +144,8 @@ fn expect_groups<R: Threads + Sync + Abort>(
 ) -> Result<(), Fail> {
     let keys = keys_of(alloc, width, texts)?;
     for workers in [1, 2, 3, 64] {
-        let table = pieces(
-            rt,
-            keys.as_slice(),
-            workers,
-            &NoGate,
-            &KeyTable::new(alloc, width),
-        )?;
-        let groups = table.groups()?;
-        assert_eq!(rt; shown(alloc, &groups)?.as_str(), expected);
-        let groups = table.into_groups()?;
-        assert_eq!(rt; shown(alloc, &groups)?.as_str(), expected);
+        let (told, given) = groups_of(rt, alloc, width, keys.as_slice(), workers)?;
+        assert_eq!(rt; (told.as_str(), given.as_str()), (expected, expected));
     }
     Ok(())
 }

@@ -1,6 +1,6 @@
 //! The examples of the pages, run.
 use crate::mistakes::{
-    DATA, IN_DATA_1, IN_DATA_2, IN_MODEL_1, IN_MODEL_2, IN_MODEL_3, IN_MODEL_4, MODEL,
+    DATA, IN_DATA_1, IN_DATA_2, IN_MODEL_1, IN_MODEL_2, IN_MODEL_3, IN_MODEL_4, IN_MODEL_5, MODEL,
 };
 use crate::request_lines::{NO_REQUESTS, REFUSED};
 use crate::{first_model, readme};
@@ -124,33 +124,19 @@ fn data_mistakes<'a, R: Threads + Sync + Abort>(
 }
 
 #[test]
-fn the_first_mistakes_in_a_model_file_are_told_as_shown(rt: HostRuntime) -> Result<(), Fail> {
-    model_mistakes(&rt, rt.alloc(), IN_MODEL_1)
+fn mistakes_in_a_model_file_are_told_as_shown(rt: HostRuntime) -> Result<(), Fail> {
+    for mistakes in [IN_MODEL_1, IN_MODEL_2, IN_MODEL_3, IN_MODEL_4, IN_MODEL_5] {
+        model_mistakes(&rt, rt.alloc(), mistakes)?;
+    }
+    Ok(())
 }
 
 #[test]
-fn the_second_mistakes_in_a_model_file_are_told_as_shown(rt: HostRuntime) -> Result<(), Fail> {
-    model_mistakes(&rt, rt.alloc(), IN_MODEL_2)
-}
-
-#[test]
-fn the_third_mistakes_in_a_model_file_are_told_as_shown(rt: HostRuntime) -> Result<(), Fail> {
-    model_mistakes(&rt, rt.alloc(), IN_MODEL_3)
-}
-
-#[test]
-fn the_last_mistakes_in_a_model_file_are_told_as_shown(rt: HostRuntime) -> Result<(), Fail> {
-    model_mistakes(&rt, rt.alloc(), IN_MODEL_4)
-}
-
-#[test]
-fn the_first_mistakes_in_a_data_file_are_told_as_shown(rt: HostRuntime) -> Result<(), Fail> {
-    data_mistakes(&rt, rt.alloc(), IN_DATA_1)
-}
-
-#[test]
-fn the_last_mistakes_in_a_data_file_are_told_as_shown(rt: HostRuntime) -> Result<(), Fail> {
-    data_mistakes(&rt, rt.alloc(), IN_DATA_2)
+fn mistakes_in_a_data_file_are_told_as_shown(rt: HostRuntime) -> Result<(), Fail> {
+    for mistakes in [IN_DATA_1, IN_DATA_2] {
+        data_mistakes(&rt, rt.alloc(), mistakes)?;
+    }
+    Ok(())
 }
 
 /// What the service answers a line over the sample, from the code to the end of the body.

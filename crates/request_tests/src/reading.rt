@@ -25,31 +25,53 @@ fn prints(rt: &HostRuntime, line: &str, text: &str) -> bool {
     }
 }
 
+/// Lines, and what is printed of what they ask for.
+const PRINTED: &str = r"
+/Sales?%24apply=aggregate( Amount with sum as Total ) => aggregate(Amount with sum as Total)
+explain S?$apply=groupby((rollup($all,A/B)),top(02)) => groupby((rollup($all,A/B)),top(2))
+S?$apply=ancestors($root/O,Q,P,filter(A eq 'it''s'),1,keep  start) => ancestors($root/O,Q,P,filter(A eq 'it''s'),1,keep start)
+S?$apply=filter((A) mul (B add 1) or C)/identity => filter(A mul (B add 1) or C)/identity
+S?$apply=aggregate(Best as Best)/orderby(A asc , B desc) => aggregate(Best)/orderby(A,B desc)
+S?$apply=filter(null) => filter(null)
+S?$apply=filter(false) => filter(false)
+S?$apply=filter(9223372036854775807) => filter(9223372036854775807)
+S?$apply=filter(0001-01-01) => filter(0001-01-01)
+S?$apply=filter('O''Neil''s é (/,') => filter('O''Neil''s é (/,')
+S?$apply=filter(12.50) => filter(12.50)
+S?$apply=filter(0.000000005) => filter(0.000000005)
+S?$apply=filter(99999999999999999.9) => filter(99999999999999999.9)
+S?$apply=filter(not (ID eq 1)) => filter(not (ID eq 1))
+S?$apply=filter(not ID eq 1) => filter(not ID eq 1)
+S?$apply=filter(-2 mul -3) => filter(-2 mul -3)
+S?$apply=filter(1 sub 2 sub 3) => filter(1 sub 2 sub 3)
+S?$apply=filter(1 sub (2 sub 3)) => filter(1 sub (2 sub 3))
+S?$apply=filter(contains(Name,'A')) => filter(contains(Name,'A'))
+S?$apply=filter(year(Day)) => filter(year(Day))
+S?$apply=compute(ID eq 1 as X) => compute(ID eq 1 as X)
+S?$apply=orderby(ID desc) => orderby(ID desc)
+S?$apply=aggregate($count as N) => aggregate($count as N)
+S?$apply=aggregate(Amount with sum as Total) => aggregate(Amount with sum as Total)
+S?$apply=aggregate(Best) => aggregate(Best)
+S?$apply=aggregate(Best as B) => aggregate(Best as B)
+S?$apply=groupby((rollup($all,Year,Month))) => groupby((rollup($all,Year,Month)))
+S?$apply=groupby((rollup(Year,Month))) => groupby((rollup(Year,Month)))
+S?$apply=groupby((rolluprecursive($root/Orgs,OrgTree,OrgID,filter(ID eq 1)))) => groupby((rolluprecursive($root/Orgs,OrgTree,OrgID,filter(ID eq 1))))
+S?$apply=groupby((Year),filter(ID eq 1)) => groupby((Year),filter(ID eq 1))
+S?$apply=concat(identity,top(1)/skip(2)) => concat(identity,top(1)/skip(2))
+S?$apply=outerjoin(Sales as S,filter(ID eq 1)) => outerjoin(Sales as S,filter(ID eq 1))
+S?$apply=descendants($root/Orgs,OrgTree,OrgID,filter(ID eq 1),2,keep start) => descendants($root/Orgs,OrgTree,OrgID,filter(ID eq 1),2,keep start)
+S?$apply=traverse($root/Orgs,OrgTree,ID,postorder,ID) => traverse($root/Orgs,OrgTree,ID,postorder,ID)
+S?$apply=topcount(2,Amount) => topcount(2,Amount)
+S?$apply=bottompercent(100,Amount) => bottompercent(100,Amount)
+S?$apply=topsum(10,Amount) => topsum(10,Amount)
+";
+
 #[test]
-fn requests(rt: HostRuntime) {
-    for (line, text) in [
-        (
-            "/Sales?%24apply=aggregate( Amount with sum as Total )",
-            "aggregate(Amount with sum as Total)",
-        ),
-        (
-            "explain S?$apply=groupby((rollup($all,A/B)),top(02))",
-            "groupby((rollup($all,A/B)),top(2))",
-        ),
-        (
-            "S?$apply=ancestors($root/O,Q,P,filter(A eq 'it''s'),1,keep  start)",
-            "ancestors($root/O,Q,P,filter(A eq 'it''s'),1,keep start)",
-        ),
-        (
-            "S?$apply=filter((A) mul (B add 1) or C)/identity",
-            "filter(A mul (B add 1) or C)/identity",
-        ),
-        (
-            "S?$apply=aggregate(Best as Best)/orderby(A asc , B desc)",
-            "aggregate(Best)/orderby(A,B desc)",
-        ),
-    ] {
-        assert!(rt; prints(&rt, line, text), "{line}");
+fn what_is_read_is_printed(rt: HostRuntime) {
+    for row in PRINTED.lines() {
+        if let Some((line, text)) = row.split_once(" => ") {
+            assert!(rt; prints(&rt, line, text), "{line}");
+        }
     }
     assert!(rt;
         matches!(
@@ -59,48 +81,6 @@ fn requests(rt: HostRuntime) {
     );
     one_pipeline();
     one_expression();
-}
-
-#[test]
-fn texts_that_are_printed_as_they_were_read(rt: HostRuntime) -> Result<(), Fail> {
-    for text in [
-        "filter(null)",
-        "filter(false)",
-        "filter(9223372036854775807)",
-        "filter(0001-01-01)",
-        "filter('O''Neil''s é (/,')",
-        "filter(12.50)",
-        "filter(0.000000005)",
-        "filter(99999999999999999.9)",
-        "filter(not (ID eq 1))",
-        "filter(not ID eq 1)",
-        "filter(-2 mul -3)",
-        "filter(1 sub 2 sub 3)",
-        "filter(1 sub (2 sub 3))",
-        "filter(contains(Name,'A'))",
-        "filter(year(Day))",
-        "compute(ID eq 1 as X)",
-        "orderby(ID desc)",
-        "aggregate($count as N)",
-        "aggregate(Amount with sum as Total)",
-        "aggregate(Best)",
-        "aggregate(Best as B)",
-        "groupby((rollup($all,Year,Month)))",
-        "groupby((rollup(Year,Month)))",
-        "groupby((rolluprecursive($root/Orgs,OrgTree,OrgID,filter(ID eq 1))))",
-        "groupby((Year),filter(ID eq 1))",
-        "concat(identity,top(1)/skip(2))",
-        "outerjoin(Sales as S,filter(ID eq 1))",
-        "descendants($root/Orgs,OrgTree,OrgID,filter(ID eq 1),2,keep start)",
-        "traverse($root/Orgs,OrgTree,ID,postorder,ID)",
-        "topcount(2,Amount)",
-        "bottompercent(100,Amount)",
-        "topsum(10,Amount)",
-    ] {
-        let line = repeated(&rt, "S?$apply=", 1, text)?;
-        assert!(rt; prints(&rt, line.as_str(), text), "{text}");
-    }
-    Ok(())
 }
 
 /// The number of the step where the line stops being a request, -1 where it is one, -2 where it is too long, and -3
@@ -114,23 +94,15 @@ fn stops_at(rt: &HostRuntime, line: &[u8]) -> i64 {
     }
 }
 
-#[test]
-fn lines_that_are_no_requests(rt: HostRuntime) {
-    for (line, number) in [
-        ("Sales", 0),
-        ("S?$apply=filter(A eq '%c3')", 0),
-        ("S?$apply=identity/", 2),
-        ("S?$apply=filter(ID eq 1)/aggregate(", 2),
-        ("S?$apply=aggregate(Amount with average as X)", 1),
-        ("S?$apply=concat(identity)", 1),
-    ] {
-        assert_eq!(rt; stops_at(&rt, line.as_bytes()), number, "{line}");
-    }
-}
-
-/// A part as often as this, and a last one.
-fn repeated(rt: &HostRuntime, part: &str, times: u32, last: &str) -> Result<String, Fail> {
-    let mut text = String::new(rt.alloc());
+/// A front, a part as often as this, and a last one.
+fn repeated(
+    rt: &HostRuntime,
+    front: &str,
+    part: &str,
+    times: u32,
+    last: &str,
+) -> Result<String, Fail> {
+    let mut text = String::from_str(rt.alloc(), front)?;
     for _ in 0..times {
         text.push_str(part)?;
     }
@@ -138,66 +110,63 @@ fn repeated(rt: &HostRuntime, part: &str, times: u32, last: &str) -> Result<Stri
     Ok(text)
 }
 
-fn is_expr(rt: &HostRuntime, text: &str) -> bool {
-    read_expr(rt.alloc(), text).is_ok()
-}
+/// A front, a part as often as this, and a last one, and where the line of them stops being a request.
+const LINES: &[(&str, &str, u32, &str, i64)] = &[
+    ("Sales", "", 0, "", 0),
+    ("S?$apply=filter(A eq '%c3')", "", 0, "", 0),
+    ("S?$apply=identity/", "", 0, "", 2),
+    ("S?$apply=filter(ID eq 1)/aggregate(", "", 0, "", 2),
+    ("S?$apply=aggregate(Amount with average as X)", "", 0, "", 1),
+    ("S?$apply=concat(identity)", "", 0, "", 1),
+    ("S?$apply=identity", "", 0, "", -1),
+    ("", "x", 65_537, "", -2),
+    ("", "x", 65_536, "", 0),
+    ("S?$apply=", "identity/", 255, "identity", -1),
+    ("S?$apply=", "identity/", 256, "identity", 257),
+];
 
 #[test]
-fn limits_of_expressions(rt: HostRuntime) -> Result<(), Fail> {
-    for (part, times, last, is_one) in [
-        ("-", 512u32, "A", true),
-        ("not ", 513, "A", false),
-        ("(", 32, "A))))))))))))))))))))))))))))))))", true),
-        ("(", 33, "A)))))))))))))))))))))))))))))))))", false),
-        ("A eq '((((((((((((((((((((((((((((((((((", 1, "'", true),
-    ] {
-        assert!(rt;
-            is_expr(&rt, &repeated(&rt, part, times, last)?) == is_one,
-            "{part}"
+fn lines_stop_being_requests(rt: HostRuntime) -> Result<(), Fail> {
+    for (front, part, times, last, number) in LINES {
+        let line = repeated(&rt, front, part, *times, last)?;
+        assert_eq!(rt;
+            stops_at(&rt, line.as_bytes()),
+            *number,
+            "{front} {times} times {part}"
         );
     }
     Ok(())
 }
 
-#[test]
-fn limits_of_lines(rt: HostRuntime) -> Result<(), Fail> {
-    for (part, times, last, number) in [
-        ("S?$apply=", 1u32, "identity", -1i64),
-        ("x", 65_537, "", -2),
-        ("x", 65_536, "", 0),
-    ] {
-        let line = repeated(&rt, part, times, last)?;
-        assert_eq!(rt; stops_at(&rt, line.as_bytes()), number, "{part}");
-    }
-    Ok(())
+fn is_expr(rt: &HostRuntime, text: &str) -> bool {
+    read_expr(rt.alloc(), text).is_ok()
 }
 
-#[test]
-fn limits_of_steps(rt: HostRuntime) -> Result<(), Fail> {
-    for (times, number) in [(255u32, -1i64), (256, 257)] {
-        let steps = repeated(&rt, "identity/", times, "identity")?;
-        let line = repeated(&rt, "S?$apply=", 1, steps.as_str())?;
-        assert_eq!(rt; stops_at(&rt, line.as_bytes()), number, "{times}");
-    }
-    Ok(())
-}
+/// A part as often as this, and a last one, and whether they are an expression.
+const EXPRESSIONS: &[(&str, u32, &str, bool)] = &[
+    ("-", 512, "A", true),
+    ("not ", 513, "A", false),
+    ("(", 32, "A))))))))))))))))))))))))))))))))", true),
+    ("(", 33, "A)))))))))))))))))))))))))))))))))", false),
+    ("A eq '((((((((((((((((((((((((((((((((((", 1, "'", true),
+    ("", 0, "2020-02-29 lt Since and 0.50 mul A ge 1", true),
+    ("", 0, "2019-02-29", false),
+    ("", 0, "A eq 'O''Neil'", true),
+    ("", 0, "A eq", false),
+];
 
 #[test]
-fn expressions_and_paths(rt: HostRuntime) {
+fn expressions_and_paths(rt: HostRuntime) -> Result<(), Fail> {
+    for (part, times, last, is_one) in EXPRESSIONS {
+        let text = repeated(&rt, "", part, *times, last)?;
+        assert_eq!(rt; is_expr(&rt, text.as_str()), *is_one, "{part} {last}");
+    }
     assert!(rt;
         matches!(
             read_expr(rt.alloc(), "not A eq B"),
             Ok(Expr::Binary(BinOp::Eq, _, _))
         )
     );
-    for (text, is_one) in [
-        ("2020-02-29 lt Since and 0.50 mul A ge 1", true),
-        ("2019-02-29", false),
-        ("A eq 'O''Neil'", true),
-        ("A eq", false),
-    ] {
-        assert!(rt; is_expr(&rt, text) == is_one, "{text}");
-    }
     assert!(rt; matches!(read_path(rt.alloc(), "Customer/Country"), Ok(p) if p.names().len() == 2));
     assert!(rt;
         matches!(
@@ -205,4 +174,5 @@ fn expressions_and_paths(rt: HostRuntime) {
             Err(ExprRefused::Syntax)
         )
     );
+    Ok(())
 }

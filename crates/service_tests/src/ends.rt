@@ -65,7 +65,11 @@ fn a_failed_write_leaves_a_front_of_the_responses(rt: HostRuntime) -> Result<(),
     )?;
     assert_eq!(rt; first.status, Status::WriteFault);
     assert_eq!(rt; first.output.as_slice(), b"".as_slice());
-    for (output_fails, output) in [(2u64, b"200 88\n".as_slice()), (3, FIRST)] {
+    for (output_fails, output) in [
+        (2u64, b"200 88\n".as_slice()),
+        (3, FIRST.get(..95).unwrap_or(FIRST)),
+        (4, FIRST),
+    ] {
         let ran = outcome(
             &rt,
             rt.alloc(),
@@ -234,6 +238,53 @@ fn a_read_of_the_input_offers_no_more_than_the_buffer_and_the_limit(
         assert_eq!(rt; input.reads, reads, "{limit}");
         assert_eq!(rt; input.least, least, "{limit}");
         assert_eq!(rt; input.most <= 4096, true);
+    }
+    Ok(())
+}
+
+/// A source that gives one line at each read, as often as it is told, and notes how many reads there were.
+#[derive(Drop)]
+struct LineSource {
+    left: u64,
+    reads: u64,
+}
+
+impl Source for LineSource {
+    ghost left = { λ _. None };
+
+    ghost fault_count = { λ _. 0 };
+
+    fn faults(&self) -> u64 {
+        0
+    }
+
+    fn read(&mut self, buf: &mut [u8]) -> Result<usize, Failed> {
+        self.reads = self.reads.saturating_add(1);
+        if self.left == 0 {
+            return Ok(0);
+        }
+        self.left -= 1;
+        let line = b"Sales?$apply=aggregate(Amount with sum as Total)\n".as_slice();
+        let count = buf.len().min(line.len());
+        buf[..count].copy_from_slice(&line[..count]);
+        Ok(count)
+    }
+}
+
+#[test]
+fn a_line_is_answered_before_the_next_read_and_nothing_is_read_after_a_failed_write(
+    rt: HostRuntime,
+) -> Result<(), Fail> {
+    let words = words(rt.alloc(), &PLAIN)?;
+    for (output_fails, reads) in [(1u64, 1u64), (2, 1), (3, 1), (4, 2), (7, 3), (15, 5)] {
+        let mut input = LineSource { left: 9, reads: 0 };
+        let case = Case {
+            output_fails,
+            ..PLAIN
+        };
+        let ran = outcome_over(&rt, rt.alloc(), &case, words.as_slice(), &mut input)?;
+        assert_eq!(rt; ran.status, Status::WriteFault, "{output_fails}");
+        assert_eq!(rt; input.reads, reads, "{output_fails}");
     }
     Ok(())
 }

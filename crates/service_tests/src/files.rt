@@ -1,7 +1,7 @@
 //! Refused files and custom aggregates, each with its line.
 use crate::worlds::{DATA, DEFINITION, MODEL, ORGS, PLAIN};
 use apply_service::Status;
-use run_support::{Case, outcome};
+use run_support::{Case, outcome, outcome_of, texts};
 use std::test::Fail;
 use test_support::samples::{SALES_DATA, SAMPLE};
 
@@ -149,6 +149,7 @@ fn the_first_custom_aggregate_without_a_typing_is_told_before_the_data_is_read(
     rt: HostRuntime,
 ) -> Result<(), Fail> {
     let alloc = rt.alloc();
+    let words = texts(alloc, &["--model", "m", "--data", "absent"])?;
     for (definition, output) in [
         (
             "{\"Of\":\"Nope\",\"With\":\"sum\",\"Per\":[\"CustomerID\"],\"Then\":\"max\"}",
@@ -188,16 +189,13 @@ fn the_first_custom_aggregate_without_a_typing_is_told_before_the_data_is_read(
         ),
     ] {
         let model = SAMPLE.replace(alloc, DEFINITION, definition)?;
-        let ran = outcome(
-            &rt,
-            alloc,
-            &Case {
-                model: model.as_str(),
-                data: "{",
-                ..PLAIN
-            },
-        )?;
+        let case = Case {
+            model: model.as_str(),
+            ..PLAIN
+        };
+        let ran = outcome_of(&rt, alloc, &case, words.as_slice(), Vec::new(alloc))?;
         assert_eq!(rt; ran.status, Status::ModelRefused, "{definition}");
+        assert_eq!(rt; ran.folder_faults, 0, "{definition}");
         assert_eq!(rt; ran.output.as_slice(), output.as_bytes(), "{definition}");
     }
     Ok(())

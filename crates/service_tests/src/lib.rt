@@ -1,10 +1,12 @@
 //! Tests of the service: the worked rows through `serve` (`apply_service`), over objects in memory.
 //!
 //! `worlds` has the files and lines that tests share, and `run_support` runs the service over them; `lines` has requests with their
-//! responses, `files` refused files with their lines, `words` the words of the command, `modes` what each mode writes, and
-//! `ends` how runs end.
+//! responses, `files` refused files with their lines, `words` the words of the command, `modes` what each mode writes, `sizes`
+//! requests over many rows, `deep` a hierarchy as deep as it has nodes, and `ends` how runs end.
 #![tactic(auto)]
 
+#[cfg(test)]
+mod deep;
 #[cfg(test)]
 mod ends;
 #[cfg(test)]
@@ -13,6 +15,8 @@ mod files;
 mod lines;
 #[cfg(test)]
 mod modes;
+#[cfg(test)]
+mod sizes;
 #[cfg(test)]
 mod words;
 #[cfg(test)]

@@ -122,22 +122,58 @@ fn each_line_is_answered_by_the_first_reason_that_holds(rt: HostRuntime) -> Resu
     Ok(())
 }
 
+/// The response to a line that is too long.
+const TOO_LONG: &[u8] =
+    b"414 61\n{\"error\":{\"code\":\"TooLong\",\"message\":\"the line is too long\"}}\n";
+
 #[test]
-fn a_line_that_is_too_long_is_told_so_and_the_next_is_answered(
+fn a_line_of_65_536_bytes_is_answered_and_a_longer_one_told_too_long(
     rt: HostRuntime,
 ) -> Result<(), Fail> {
     let alloc = rt.alloc();
     let words = words(alloc, &PLAIN)?;
-    let mut input = vec![in alloc; b'x'; 65_536]?;
-    input.extend_from_slice(b"x\nSales?$apply=aggregate(Amount with sum as Total)\n")?;
-    let ran = outcome_of(&rt, alloc, &PLAIN, words.as_slice(), input)?;
-    let mut expected =
-        b"414 61\n{\"error\":{\"code\":\"TooLong\",\"message\":\"the line is too long\"}}\n"
-            .as_slice()
-            .to_vec(alloc)?;
-    expected.extend_from_slice(FIRST)?;
-    assert_eq!(rt; ran.status, Status::Served);
-    assert_eq!(rt; ran.output.as_slice(), expected.as_slice());
+    for (front, filler, count, back, first) in [
+        ("", b'x', 65_537usize, "\n", TOO_LONG),
+        (
+            "Sales?$apply=aggregate(Amount",
+            b' ',
+            65_489,
+            "with sum as Total)\n",
+            FIRST,
+        ),
+        (
+            "Sales?$apply=aggregate(Amount",
+            b' ',
+            65_489,
+            "with sum as Total)\r\n",
+            FIRST,
+        ),
+        (
+            "Sales?$apply=aggregate(Amount",
+            b' ',
+            65_490,
+            "with sum as Total)\n",
+            TOO_LONG,
+        ),
+        (
+            "Sales?$apply=aggregate(Amount",
+            b' ',
+            65_490,
+            "with sum as Total)\r\n",
+            TOO_LONG,
+        ),
+    ] {
+        let mut input = front.as_bytes().to_vec(alloc)?;
+        let mut filling = vec![in alloc; filler; count]?;
+        input.append(&mut filling)?;
+        input.extend_from_slice(back.as_bytes())?;
+        input.extend_from_slice(b"Sales?$apply=aggregate(Amount with sum as Total)\n")?;
+        let ran = outcome_of(&rt, alloc, &PLAIN, words.as_slice(), input)?;
+        let mut expected = first.to_vec(alloc)?;
+        expected.extend_from_slice(FIRST)?;
+        assert_eq!(rt; ran.status, Status::Served, "{count}");
+        assert_eq!(rt; ran.output.as_slice(), expected.as_slice(), "{count}");
+    }
     Ok(())
 }
 

@@ -69,6 +69,19 @@ fn answer_text(alloc: Global, answer: Result<Vec<Row>, RunRefused>) -> Result<St
     Ok(text)
 }
 
+/// Compares the rows, or why there are none.
+fn expect_rows(
+    rt: &impl Abort,
+    alloc: Global,
+    answer: Result<Vec<Row>, RunRefused>,
+    line: &str,
+    wanted: &str,
+) -> Result<(), Fail> {
+    let found = answer_text(alloc, answer)?;
+    assert_eq!(rt; found.as_str(), wanted, "{line}");
+    Ok(())
+}
+
 /// All custom aggregates of a model, with their typing.
 fn typed_customs(alloc: Global, m: &Model) -> Result<Customs, Fail>
     ensures over { IfOk result (AreTypedOver m.now) }
@@ -112,26 +125,23 @@ fn expect_run<R: Threads + Sync + Abort, L: Ledger>(
     };
     let typed = type_pipe(alloc, store.model(), customs, set, &request.pipe)?;
     if is_plain(&typed.pipe) {
-        let found = answer_text(alloc, run_plain(alloc, store, customs, &typed, steps))?;
-        assert_eq!(rt; found.as_str(), wanted, "{line}");
+        let answer = run_plain(alloc, store, customs, &typed, steps);
+        expect_rows(rt, alloc, answer, line, wanted)?;
     }
     if first_cycle(store, hiers, &typed.pipe).is_some() {
         panic!(rt; "cyclic: {line}");
     }
     let plan = Plan::written(typed);
-    let found = answer_text(
-        alloc,
-        run(rt, alloc, store, customs, hiers, &plan, 1, &NoGate, steps),
-    )?;
-    assert_eq!(rt; found.as_str(), wanted, "{line}");
-    Ok(())
+    let answer = run(rt, alloc, store, customs, hiers, &plan, 1, &NoGate, steps);
+    expect_rows(rt, alloc, answer, line, wanted)
 }
 
-/// Runs each request by a new counter of steps.
+/// Runs each request of the tables by a new counter of steps. A row has a request, an arrow and the rows that it gives; other lines
+/// of a table are blank or headings.
 fn expect_runs<R: Threads + Sync + Abort, L: Ledger>(
     rt: &R,
     alloc: Global,
-    rows: &[(&str, &str)],
+    tables: &[&str],
     blank: Blank,
 ) -> Result<(), Fail>
     requires name { blank.name ≡ L.name }
@@ -142,44 +152,30 @@ fn expect_runs<R: Threads + Sync + Abort, L: Ledger>(
     let store = world(alloc, SALES_DATA)?;
     let customs = all_customs(alloc, &store)?;
     let hiers = hier_states(alloc, &store)?;
-    for (line, wanted) in rows {
-        expect_run(
-            rt,
-            alloc,
-            &store,
-            &customs,
-            hiers.as_slice(),
-            line,
-            wanted,
-            &mut steps,
-        )?;
+    for table in tables {
+        for row in table.lines() {
+            match row.split_once(" =>") {
+                Some((line, wanted)) => expect_run(
+                    rt,
+                    alloc,
+                    &store,
+                    &customs,
+                    hiers.as_slice(),
+                    line,
+                    wanted.trim_start(),
+                    &mut steps,
+                )?,
+                None => assert!(rt; row.is_empty() || row.starts_with("//"), "no row: {row}"),
+            }
+        }
     }
     Ok(())
 }
 
 #[test]
-fn row_wise_pipelines_give_their_rows(rt: HostRuntime) -> Result<(), Fail> {
-    expect_runs::<_, Brand>(&rt, rt.alloc(), ROW_WISE, Blank::new(1))
-}
-
-#[test]
-fn groupings_and_custom_aggregates_give_their_rows(rt: HostRuntime) -> Result<(), Fail> {
-    expect_runs::<_, Brand>(&rt, rt.alloc(), GROUPED, Blank::new(1))
-}
-
-#[test]
-fn selections_give_their_rows(rt: HostRuntime) -> Result<(), Fail> {
-    expect_runs::<_, Brand>(&rt, rt.alloc(), TAKEN, Blank::new(1))
-}
-
-#[test]
-fn joins_and_concatenations_give_their_rows(rt: HostRuntime) -> Result<(), Fail> {
-    expect_runs::<_, Brand>(&rt, rt.alloc(), JOINED, Blank::new(1))
-}
-
-#[test]
-fn climbs_traversals_and_rollups_by_nodes_give_their_rows(rt: HostRuntime) -> Result<(), Fail> {
-    expect_runs::<_, Brand>(&rt, rt.alloc(), BY_NODES, Blank::new(1))
+fn pipelines_give_their_rows(rt: HostRuntime) -> Result<(), Fail> {
+    let tables = [ROW_WISE, GROUPED, TAKEN, JOINED, BY_NODES];
+    expect_runs::<_, Brand>(&rt, rt.alloc(), &tables, Blank::new(1))
 }
 
 /// Forms of pipelines, and whether they are plain.

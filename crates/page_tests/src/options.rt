@@ -65,31 +65,32 @@ fn wrong_words_are_told_what_to_mend(rt: HostRuntime) -> Result<(), Fail> {
     let alloc = rt.alloc();
     for (words, expected) in WRONG {
         let words = texts(alloc, words)?;
-        match read_options(alloc, words.as_slice()) {
-            Ok(_) => assert_eq!(rt; true, false, "{expected}"),
-            Err(refused) => assert_eq!(rt; refused, OptionsRefused::Usage),
-        }
+        let refused = read_options(alloc, words.as_slice()).err();
+        assert_eq!(rt; refused, Some(OptionsRefused::Usage), "{expected}");
         let text = usage_text(alloc, words.as_slice())?;
         assert_eq!(rt; text.as_str(), *expected);
     }
     Ok(())
 }
 
+/// Each option, as help names it.
+const OPTIONS: &[&str] = &[
+    "--model <FILE>",
+    "--data <FILE>",
+    "--workers <N>",
+    "--max-bytes <N>",
+    "--plan <PLAN>",
+    "--mode <MODE>",
+    "--count <N>",
+];
+
 #[test]
 fn a_call_for_help_is_told_each_option(rt: HostRuntime) -> Result<(), Fail> {
     let alloc = rt.alloc();
     let words = texts(alloc, &["--help"])?;
     let text = usage_text(alloc, words.as_slice())?;
-    for option in [
-        "--model <FILE>",
-        "--data <FILE>",
-        "--workers <N>",
-        "--max-bytes <N>",
-        "--plan <PLAN>",
-        "--mode <MODE>",
-        "--count <N>",
-    ] {
-        assert_eq!(rt; text.contains(option), true, "{option}");
+    for option in OPTIONS {
+        assert!(rt; text.contains(*option), "{option}");
     }
     Ok(())
 }
@@ -98,20 +99,15 @@ fn a_call_for_help_is_told_each_option(rt: HostRuntime) -> Result<(), Fail> {
 fn options_that_are_not_given_have_their_defaults(rt: HostRuntime) -> Result<(), Fail> {
     let alloc = rt.alloc();
     let words = texts(alloc, &["--data", "d", "--model=m"])?;
-    match read_options(alloc, words.as_slice()) {
-        Ok(options) => {
-            assert_eq!(rt; options.workers, 4);
-            assert_eq!(rt; options.max_bytes, 1_073_741_824);
-            assert_eq!(rt; options.is_optimised, true);
-            match &options.mode {
-                Mode::Serve(files) => {
-                    assert_eq!(rt; files.model.as_str(), "m");
-                    assert_eq!(rt; files.entities.as_str(), "d");
-                }
-                _ => assert_eq!(rt; true, false),
-            }
-        }
-        Err(_) => assert_eq!(rt; true, false),
-    }
+    let Ok(options) = read_options(alloc, words.as_slice()) else {
+        panic!(rt; "the words are refused");
+    };
+    let found = (options.workers, options.max_bytes, options.is_optimised);
+    assert_eq!(rt; found, (4, 1_073_741_824, true));
+    let Mode::Serve(files) = &options.mode else {
+        panic!(rt; "another mode");
+    };
+    let names = (files.model.as_str(), files.entities.as_str());
+    assert_eq!(rt; names, ("m", "d"));
     Ok(())
 }

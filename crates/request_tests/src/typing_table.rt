@@ -26,24 +26,24 @@ use test_support::texts::push_path;
 
 type Done = Result<(), AllocError>;
 
+/// The entity sets of the models.
+const SETS: &[&str] = &[
+    "Customers",
+    "Orgs",
+    "Sales",
+    "Items",
+    "People",
+    "Shops",
+    "count",
+];
+
 /// The name of the entity set whose type this is.
 pub(crate) fn set_of(m: &Model, of: TypeId) -> &'static str {
-    for name in [
-        "Customers",
-        "Orgs",
-        "Sales",
-        "Items",
-        "People",
-        "Shops",
-        "count",
-    ] {
-        match m.set_named(name) {
-            Some(set) => {
-                if m.set_type(set) == of {
-                    return name;
-                }
+    for name in SETS {
+        if let Some(set) = m.set_named(name) {
+            if m.set_type(set) == of {
+                return *name;
             }
-            None => {}
         }
     }
     "?"
@@ -159,64 +159,42 @@ fn answer(alloc: Global, m: &Model, c: &Customs, line: &str) -> Result<String, F
     }
 }
 
-/// Compares what is said of each line over a model.
-fn expect_rows(
-    rt: &impl Abort,
-    alloc: Global,
-    model: &str,
-    rows: &[(&str, &str)],
-) -> Result<(), Fail> {
+/// Compares what is said of each line of a table over a model. A row has a line, an arrow and what is said; other lines of the
+/// table are blank or headings.
+fn expect_rows(rt: &impl Abort, alloc: Global, model: &str, table: &str) -> Result<(), Fail> {
     let m = read_model(alloc, model.as_bytes())?;
     let list = read_customs(alloc, &m)?;
     let c = type_customs(alloc, &m, list)?;
-    for (line, wanted) in rows {
-        let said = answer(alloc, &m, &c, line)?;
-        assert_eq!(rt; said.as_str(), *wanted, "{line}");
+    for row in table.lines() {
+        match row.split_once(" =>") {
+            Some((line, wanted)) => {
+                let said = answer(alloc, &m, &c, line)?;
+                assert_eq!(rt; said.as_str(), wanted.trim_start(), "{line}");
+            }
+            None => assert!(rt; row.is_empty() || row.starts_with("//"), "no row: {row}"),
+        }
     }
     Ok(())
 }
 
-#[test]
-fn values_of_the_sample_have_a_typing(rt: HostRuntime) -> Result<(), Fail> {
-    expect_rows(&rt, rt.alloc(), SAMPLE, typed_requests::VALUES)
-}
+/// Models, and tables over them.
+const TABLES: &[(&str, &str)] = &[
+    (SAMPLE, typed_requests::VALUES),
+    (SAMPLE, typed_requests::TRANSFORMATIONS),
+    (SAMPLE, typed_requests::RISKS),
+    (SAMPLE, untyped_requests::VALUES),
+    (SAMPLE, untyped_requests::TRANSFORMATIONS),
+    (SAMPLE, untyped_requests::NO_TEXT),
+    (STOCK, stock_requests::TYPED),
+    (STOCK, stock_requests::UNTYPED),
+    (WORDS, stock_requests::WORDS_TYPED),
+    (WORDS, stock_requests::WORDS_UNTYPED),
+];
 
 #[test]
-fn transformations_of_the_sample_have_a_typing(rt: HostRuntime) -> Result<(), Fail> {
-    expect_rows(&rt, rt.alloc(), SAMPLE, typed_requests::TRANSFORMATIONS)
-}
-
-#[test]
-fn values_of_the_sample_without_a_typing(rt: HostRuntime) -> Result<(), Fail> {
-    expect_rows(&rt, rt.alloc(), SAMPLE, untyped_requests::VALUES)
-}
-
-#[test]
-fn transformations_of_the_sample_without_a_typing(rt: HostRuntime) -> Result<(), Fail> {
-    expect_rows(&rt, rt.alloc(), SAMPLE, untyped_requests::TRANSFORMATIONS)
-}
-
-#[test]
-fn numbers_that_no_text_has(rt: HostRuntime) -> Result<(), Fail> {
-    expect_rows(&rt, rt.alloc(), SAMPLE, untyped_requests::NO_TEXT)
-}
-
-#[test]
-fn items_have_a_typing(rt: HostRuntime) -> Result<(), Fail> {
-    expect_rows(&rt, rt.alloc(), STOCK, stock_requests::TYPED)
-}
-
-#[test]
-fn items_without_a_typing(rt: HostRuntime) -> Result<(), Fail> {
-    expect_rows(&rt, rt.alloc(), STOCK, stock_requests::UNTYPED)
-}
-
-#[test]
-fn words_of_the_grammar_have_a_typing(rt: HostRuntime) -> Result<(), Fail> {
-    expect_rows(&rt, rt.alloc(), WORDS, stock_requests::WORDS_TYPED)
-}
-
-#[test]
-fn words_of_the_grammar_without_a_typing(rt: HostRuntime) -> Result<(), Fail> {
-    expect_rows(&rt, rt.alloc(), WORDS, stock_requests::WORDS_UNTYPED)
+fn requests_have_the_typing_of_the_tables(rt: HostRuntime) -> Result<(), Fail> {
+    for (model, table) in TABLES {
+        expect_rows(&rt, rt.alloc(), model, table)?;
+    }
+    Ok(())
 }

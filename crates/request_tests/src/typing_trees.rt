@@ -1,14 +1,18 @@
 //! Steps that no text of the grammar has: a literal with a sign or without digits behind its point, a number past its limit,
 //! a list with too few elements. They have no typing.
+ghost use Rattle.edm_model.specs.LookUps.{IsSet};
+ghost use Rattle.context_typing.specs.Readings.{AreTypedOver};
+
 use crate::typing_table::typing_of;
 use apply_ast::{
     AggList, BinOp, ClimbStep, Expr, HierName, KeyItem, KeyList, Limit, NamedList, Number,
     OrderList, Path, PathList, Pipe, PipeList, Step, TopStep,
 };
-use context_typing::type_customs;
-use edm_model::read_model;
+use context_typing::{Customs, type_customs};
+use edm_model::{Model, SetId, read_model};
 use edm_values::Dec;
 use std::alloc::{AllocError, Global};
+use std::process::Abort;
 use std::test::Fail;
 use test_support::names::{name, path};
 use test_support::samples::SAMPLE;
@@ -104,6 +108,28 @@ fn step_with_a_list(alloc: Global, which: u32) -> Made<Option<Step>> {
     }))
 }
 
+/// Finds no typing of a pipeline of `identity` and a step, where there is a step.
+fn expect_untyped(
+    rt: &impl Abort,
+    alloc: Global,
+    m: &Model,
+    c: &Customs,
+    set: SetId,
+    step: Option<Step>,
+    which: u32,
+) -> Result<(), Fail>
+    requires set { IsSet m.now set }
+    requires customs { AreTypedOver m.now c.now }
+{
+    let Some(step) = step else {
+        return Ok(());
+    };
+    let pipe = Pipe::new(vec![in alloc; Step::Identity, step]?);
+    let said = typing_of(alloc, m, c, set, &pipe)?;
+    assert_eq!(rt; said.as_str(), "at 2", "step {which}");
+    Ok(())
+}
+
 #[test]
 fn steps_that_no_text_has_have_no_typing(rt: HostRuntime) -> Result<(), Fail> {
     let alloc = rt.alloc();
@@ -113,16 +139,10 @@ fn steps_that_no_text_has_have_no_typing(rt: HostRuntime) -> Result<(), Fail> {
         panic!(rt; "no set");
     };
     for which in 0..20 {
-        for step in [
-            step_with_a_number(alloc, which)?,
-            step_with_a_list(alloc, which)?,
-        ] {
-            if let Some(step) = step {
-                let pipe = Pipe::new(vec![in alloc; Step::Identity, step]?);
-                let said = typing_of(alloc, &m, &c, sales, &pipe)?;
-                assert_eq!(rt; said.as_str(), "at 2", "step {which}");
-            }
-        }
+        let step = step_with_a_number(alloc, which)?;
+        expect_untyped(&rt, alloc, &m, &c, sales, step, which)?;
+        let step = step_with_a_list(alloc, which)?;
+        expect_untyped(&rt, alloc, &m, &c, sales, step, which)?;
     }
     Ok(())
 }

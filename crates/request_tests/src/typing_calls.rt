@@ -16,11 +16,22 @@ fn a_custom_aggregate_is_read_back(rt: HostRuntime) -> Result<(), Fail> {
     for custom in m.customs() {
         assert!(rt; customs.has(custom.id));
         let read = customs.read(custom.id);
-        assert!(rt; read.id == custom.id);
-        assert_eq!(rt; read.per.as_slice().len(), 1);
+        let is_one = read.id == custom.id && read.per.as_slice().len() == 1;
+        assert!(rt; is_one);
     }
     Ok(())
 }
+
+/// Expressions, and whether they are sure by their form.
+const SURE: &[(&str, bool)] = &[
+    ("Amount", true),
+    ("-Amount", true),
+    ("-ID", false),
+    ("-5", true),
+    ("Amount add 1 gt 2", false),
+    ("not (Amount gt 1)", true),
+    ("contains(CustomerID,'C')", true),
+];
 
 #[test]
 fn sure_by_form(rt: HostRuntime) -> Result<(), Fail> {
@@ -30,17 +41,9 @@ fn sure_by_form(rt: HostRuntime) -> Result<(), Fail> {
         panic!(rt; "no set");
     };
     let shape = own_shape(alloc, m.set_type(set));
-    for (text, wanted) in [
-        ("Amount", true),
-        ("-Amount", true),
-        ("-ID", false),
-        ("-5", true),
-        ("Amount add 1 gt 2", false),
-        ("not (Amount gt 1)", true),
-        ("contains(CustomerID,'C')", true),
-    ] {
+    for (text, wanted) in SURE {
         let e = read_expr(alloc, text)?;
-        assert_eq!(rt; is_sure(&m, &shape, &e), wanted, "{text}");
+        assert_eq!(rt; is_sure(&m, &shape, &e), *wanted, "{text}");
     }
     Ok(())
 }
