@@ -1,11 +1,13 @@
 -- What a rule makes at its first place, and the rules that the code has.
-use Rattle.std.specs.Prelude.{◌≡◌, ℕ, Bool, false, List, [], ◌∷◌, Option, Some, None, option_and_then, slice_get}
+use Rattle.std.specs.Prelude.{◌≡◌, ℕ, Bool, false, List, [], ◌∷◌, Option, Some, None, IfSome, option_and_then, slice_get}
 use Rattle.edm_model.specs.Models.{Model}
 use Rattle.apply_ast.specs.Trees.{Pipe, Step, OptPipe, Pipes, Key, Keys}
 use Rattle.context_typing.specs.Shapes.{Shape, set_shape}
 use Rattle.apply_ast.specs.Views.{pipe_of}
 use Rattle.context_typing.specs.declared.typed.Typed.{Typed}
 use Rattle.context_typing.specs.Typing.{Customs, after, shape_of_set}
+use Rattle.apply_meaning.specs.MeaningLaws.{IsLoaded}
+use Rattle.rewrite_laws.specs.RewriteLaws.{MayStandFor}
 use Rattle.rewrite_laws.specs.Rewrites.{Rule, pipe_results, inner_results, branch_results, key_results, keys_results, step_results, rewrites, first_rewrite, drop_identity, split_conjunction, drop_true, pass_compute, pass_order, drop_order, join_counts}
 use Rattle.rewrite_rules.specs.declared.rules.RuleName.{RuleName}
 use Rattle.rewrite_rules.specs.declared.rules.RuleName.TheVariants as name
@@ -61,3 +63,7 @@ first_on r m c of p = option_and_then (λ t. first_in_pipe r m c (set_shape t) f
 abbrev pub IsFirst : Rule → Model → Customs → Typed → Option Typed → Type 0
 IsFirst r m c t None = rewrites r m c (shape_of_set m t.set) (pipe_of t.pipe) ≡ []
 IsFirst r m c t (Some q) = (q.set ≡ t.set) × (q.shape ≡ t.shape) × (first_rewrite r m c (shape_of_set m t.set) (pipe_of t.pipe) ≡ Some (pipe_of q.pipe))
+
+-- what a call gives may stand for the pipeline that it was given: the same shape and meaning over every loaded world, and no further hierarchy
+abbrev pub MayStand : Model → Customs → Typed → Option Typed → Type 0
+MayStand m c t o = IfSome o (λ q. MayStandFor IsLoaded m c (shape_of_set m t.set) t.shape (pipe_of t.pipe) (pipe_of q.pipe))

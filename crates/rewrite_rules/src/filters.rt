@@ -26,7 +26,7 @@ pub(crate) enum Condition<'a> {
 }
 
 /// Whether all items of an order are sure.
-pub(crate) fn order_sure(m: &Model, shape: &Shape, items: &[OrderItem]) -> bool
+pub fn order_sure(m: &Model, shape: &Shape, items: &[OrderItem]) -> bool
     requires { IsTrue (has_types m.now shape.now) }
     ensures { result ≡ typing.order_sure m.now shape.now (map item_of items.now) }
 {
@@ -52,7 +52,7 @@ fn meets(condition: &Condition, e: &Expr) -> bool
 }
 
 /// Whether a path of an expression is one of the new columns.
-fn names_any(e: &Expr, made: &[Named]) -> bool
+pub fn names_any(e: &Expr, made: &[Named]) -> bool
     ensures { result ≡ list_any (is_among (spec.new_paths (map named_of made.now))) (paths (expr_of e.now)) }
 {
     match e {

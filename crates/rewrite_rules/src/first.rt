@@ -1,13 +1,10 @@
 //! The rules, each at its first place in a typed pipeline.
-ghost use Rattle.std.specs.Prelude.{IfOk, IfSome, IsTrue};
+ghost use Rattle.std.specs.Prelude.{IfOk, IsTrue};
 ghost use Rattle.edm_model.specs.LookUps.{IsSet};
-ghost use Rattle.apply_ast.specs.Views.{pipe_of};
 ghost use Rattle.context_typing.specs.Answers.{IsTyping};
 ghost use Rattle.context_typing.specs.Readings.{readings, AreTypedOver};
-ghost use Rattle.context_typing.specs.Typing.{customs_typed, shape_of_set};
-ghost use Rattle.apply_meaning.specs.MeaningLaws.{IsLoaded};
-ghost use Rattle.rewrite_rules.specs.Places.{IsFirst, rule_of};
-ghost use Rattle.rewrite_laws.specs.RewriteLaws.{MayStandFor};
+ghost use Rattle.context_typing.specs.Typing.{customs_typed};
+ghost use Rattle.rewrite_rules.specs.Places.{IsFirst, MayStand, rule_of};
 ghost use Rattle.rewrite_laws.specs.Rewrites.{drop_identity, drop_order, drop_true, join_counts, pass_compute, pass_order, split_conjunction};
 
 use crate::places::in_pipe;
@@ -29,8 +26,8 @@ fn first_place(
     requires customs { AreTypedOver m.now c.now }
     requires whole { IsTrue (customs_typed m.now (readings c.now)) }
     requires typing { IsTyping m.now (readings c.now) t.now }
-    ensures value { IfOk result (λ o. IsFirst (rule_of rule) m.now (readings c.now) t.now o) }
-    ensures meaning { IfOk result (λ o. IfSome o (λ q. MayStandFor IsLoaded m.now (readings c.now) (shape_of_set m.now t.now.set) t.now.shape (pipe_of t.now.pipe) (pipe_of q.pipe))) }
+    ensures value { IfOk result (IsFirst (rule_of rule) m.now (readings c.now) t.now) }
+    ensures meaning { IfOk result (MayStand m.now (readings c.now) t.now) }
 {
     let _sets = m.sets();
     set_shape_is_lawful();
@@ -53,8 +50,8 @@ pub fn rule_1(alloc: Global, m: &Model, c: &Customs, t: &Typed) -> Result<Option
     requires customs { AreTypedOver m.now c.now }
     requires whole { IsTrue (customs_typed m.now (readings c.now)) }
     requires typing { IsTyping m.now (readings c.now) t.now }
-    ensures value { IfOk result (λ o. IsFirst drop_identity m.now (readings c.now) t.now o) }
-    ensures meaning { IfOk result (λ o. IfSome o (λ q. MayStandFor IsLoaded m.now (readings c.now) (shape_of_set m.now t.now.set) t.now.shape (pipe_of t.now.pipe) (pipe_of q.pipe))) }
+    ensures value { IfOk result (IsFirst drop_identity m.now (readings c.now) t.now) }
+    ensures meaning { IfOk result (MayStand m.now (readings c.now) t.now) }
 {
     first_place(alloc, m, c, RuleName::DropIdentity, t)
 }
@@ -65,8 +62,8 @@ pub fn rule_2(alloc: Global, m: &Model, c: &Customs, t: &Typed) -> Result<Option
     requires customs { AreTypedOver m.now c.now }
     requires whole { IsTrue (customs_typed m.now (readings c.now)) }
     requires typing { IsTyping m.now (readings c.now) t.now }
-    ensures value { IfOk result (λ o. IsFirst split_conjunction m.now (readings c.now) t.now o) }
-    ensures meaning { IfOk result (λ o. IfSome o (λ q. MayStandFor IsLoaded m.now (readings c.now) (shape_of_set m.now t.now.set) t.now.shape (pipe_of t.now.pipe) (pipe_of q.pipe))) }
+    ensures value { IfOk result (IsFirst split_conjunction m.now (readings c.now) t.now) }
+    ensures meaning { IfOk result (MayStand m.now (readings c.now) t.now) }
 {
     first_place(alloc, m, c, RuleName::SplitConjunction, t)
 }
@@ -77,8 +74,8 @@ pub fn rule_3(alloc: Global, m: &Model, c: &Customs, t: &Typed) -> Result<Option
     requires customs { AreTypedOver m.now c.now }
     requires whole { IsTrue (customs_typed m.now (readings c.now)) }
     requires typing { IsTyping m.now (readings c.now) t.now }
-    ensures value { IfOk result (λ o. IsFirst drop_true m.now (readings c.now) t.now o) }
-    ensures meaning { IfOk result (λ o. IfSome o (λ q. MayStandFor IsLoaded m.now (readings c.now) (shape_of_set m.now t.now.set) t.now.shape (pipe_of t.now.pipe) (pipe_of q.pipe))) }
+    ensures value { IfOk result (IsFirst drop_true m.now (readings c.now) t.now) }
+    ensures meaning { IfOk result (MayStand m.now (readings c.now) t.now) }
 {
     first_place(alloc, m, c, RuleName::DropTrue, t)
 }
@@ -89,8 +86,8 @@ pub fn rule_4(alloc: Global, m: &Model, c: &Customs, t: &Typed) -> Result<Option
     requires customs { AreTypedOver m.now c.now }
     requires whole { IsTrue (customs_typed m.now (readings c.now)) }
     requires typing { IsTyping m.now (readings c.now) t.now }
-    ensures value { IfOk result (λ o. IsFirst pass_compute m.now (readings c.now) t.now o) }
-    ensures meaning { IfOk result (λ o. IfSome o (λ q. MayStandFor IsLoaded m.now (readings c.now) (shape_of_set m.now t.now.set) t.now.shape (pipe_of t.now.pipe) (pipe_of q.pipe))) }
+    ensures value { IfOk result (IsFirst pass_compute m.now (readings c.now) t.now) }
+    ensures meaning { IfOk result (MayStand m.now (readings c.now) t.now) }
 {
     first_place(alloc, m, c, RuleName::PassCompute, t)
 }
@@ -101,8 +98,8 @@ pub fn rule_5(alloc: Global, m: &Model, c: &Customs, t: &Typed) -> Result<Option
     requires customs { AreTypedOver m.now c.now }
     requires whole { IsTrue (customs_typed m.now (readings c.now)) }
     requires typing { IsTyping m.now (readings c.now) t.now }
-    ensures value { IfOk result (λ o. IsFirst pass_order m.now (readings c.now) t.now o) }
-    ensures meaning { IfOk result (λ o. IfSome o (λ q. MayStandFor IsLoaded m.now (readings c.now) (shape_of_set m.now t.now.set) t.now.shape (pipe_of t.now.pipe) (pipe_of q.pipe))) }
+    ensures value { IfOk result (IsFirst pass_order m.now (readings c.now) t.now) }
+    ensures meaning { IfOk result (MayStand m.now (readings c.now) t.now) }
 {
     first_place(alloc, m, c, RuleName::PassOrder, t)
 }
@@ -118,8 +115,8 @@ pub fn rule_13(
     requires customs { AreTypedOver m.now c.now }
     requires whole { IsTrue (customs_typed m.now (readings c.now)) }
     requires typing { IsTyping m.now (readings c.now) t.now }
-    ensures value { IfOk result (λ o. IsFirst drop_order m.now (readings c.now) t.now o) }
-    ensures meaning { IfOk result (λ o. IfSome o (λ q. MayStandFor IsLoaded m.now (readings c.now) (shape_of_set m.now t.now.set) t.now.shape (pipe_of t.now.pipe) (pipe_of q.pipe))) }
+    ensures value { IfOk result (IsFirst drop_order m.now (readings c.now) t.now) }
+    ensures meaning { IfOk result (MayStand m.now (readings c.now) t.now) }
 {
     first_place(alloc, m, c, RuleName::DropOrder, t)
 }
@@ -135,8 +132,8 @@ pub fn rule_14(
     requires customs { AreTypedOver m.now c.now }
     requires whole { IsTrue (customs_typed m.now (readings c.now)) }
     requires typing { IsTyping m.now (readings c.now) t.now }
-    ensures value { IfOk result (λ o. IsFirst join_counts m.now (readings c.now) t.now o) }
-    ensures meaning { IfOk result (λ o. IfSome o (λ q. MayStandFor IsLoaded m.now (readings c.now) (shape_of_set m.now t.now.set) t.now.shape (pipe_of t.now.pipe) (pipe_of q.pipe))) }
+    ensures value { IfOk result (IsFirst join_counts m.now (readings c.now) t.now) }
+    ensures meaning { IfOk result (MayStand m.now (readings c.now) t.now) }
 {
     first_place(alloc, m, c, RuleName::JoinCounts, t)
 }

@@ -134,7 +134,7 @@ fn count_of(limit: &Limit) -> Option<u64>
 }
 
 /// The number of a count from the top, and what it counts by.
-fn count_by(top: &TopStep) -> Option<(u64, &Expr)>
+pub fn count_by(top: &TopStep) -> Option<(u64, &Expr)>
     ensures { option_map (λ x. (x.0, expr_of x.1.now)) result ≡ spec.count_by (top_of top.now) }
 {
     if top.bottom {
@@ -147,7 +147,7 @@ fn count_by(top: &TopStep) -> Option<(u64, &Expr)>
 }
 
 /// The number of a step that counts from the top, and what it counts by.
-pub(crate) fn count_from_top(step: &Step) -> Option<(u64, &Expr)>
+pub fn count_from_top(step: &Step) -> Option<(u64, &Expr)>
     ensures { option_map (λ x. (x.0, expr_of x.1.now)) result ≡ spec.count_from_top (step_of step.now) }
 {
     match step {

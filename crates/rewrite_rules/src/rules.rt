@@ -177,12 +177,12 @@ fn drop_order(
     ensures some { IfOk result (λ o. IfSome o (λ v. 0 < length v.items)) }
 {
     match ordered_by(step) {
-        Some(items) => {
+        Some(order) => {
             if !begins_with_aggregate(rest) {
                 return Ok(None);
             }
             let shape = shape_behind(alloc, m, c, start, before)?;
-            if !order_sure(m, &shape, items.as_slice()) {
+            if !order_sure(m, &shape, order.as_slice()) {
                 return Ok(None);
             }
             Ok(Some(copies(alloc, rest)?))

@@ -7,7 +7,7 @@ use apply_ast::{BinOp, Expr, Fun1, Fun2, UnOp};
 use context_typing::same_path;
 
 /// Whether two expressions are equal: the same operators, functions, literals and paths in the same places.
-pub(crate) fn same_expr(a: &Expr, b: &Expr) -> bool
+pub fn same_expr(a: &Expr, b: &Expr) -> bool
     ensures { result ≡ spec.expr_same (expr_of a.now) (expr_of b.now) }
 {
     match a {

@@ -15,7 +15,7 @@ use edm_model::{Model, TypeId};
 use std::alloc::{AllocError, Global};
 
 /// The shape behind a step, or the one before it where the step has no typing.
-pub(crate) fn shape_after(
+pub fn shape_after(
     alloc: Global,
     m: &Model,
     c: &Customs,
@@ -57,7 +57,7 @@ pub(crate) fn shape_behind(
 }
 
 /// The entity type of nodes.
-pub(crate) fn type_of(m: &Model, nodes: Option<Nodes>) -> Option<TypeId>
+pub fn type_of(m: &Model, nodes: Option<Nodes>) -> Option<TypeId>
     requires { IfSome nodes (λ x. IsType m.now x.of) }
     ensures value { result ≡ option_map (λ x. x.0) (option_map nodes_pair nodes) }
     ensures there { IfSome result (IsType m.now) }

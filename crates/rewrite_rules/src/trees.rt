@@ -176,7 +176,7 @@ pub(crate) fn with_starts(
 }
 
 /// The same pipeline, where there is one.
-pub(crate) fn copy_inner(alloc: Global, inner: &Option<Pipe>) -> Result<Option<Pipe>, AllocError>
+pub fn copy_inner(alloc: Global, inner: &Option<Pipe>) -> Result<Option<Pipe>, AllocError>
     ensures { IfOk result (λ o. option_map pipe_of o ≡ option_map pipe_of inner.now) }
 {
     match inner {
