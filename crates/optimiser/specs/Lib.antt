@@ -1,4 +1,11 @@
+pub use Rattle.edm_model.specs.LookUps
 pub use Rattle.apply_ast.specs.Views
 pub use Rattle.context_typing.specs.Answers
+pub use Rattle.context_typing.specs.Readings
 pub use Rattle.context_typing.specs.Typing
+pub use Rattle.apply_meaning.specs.MeaningLaws
+pub use Rattle.rewrite_laws.specs.RewriteLaws
+pub use Rattle.rewrite_laws.specs.Rewrites
 pub mod Plans
+pub mod Settled
+pub mod SegmentViews

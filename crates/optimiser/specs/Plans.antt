@@ -1,11 +1,12 @@
--- Plans as their two typings.
-use Rattle.std.specs.Prelude.{◌≡◌, unwrap_or}
+-- Plans as their two typings, and one rewrite of a typed pipeline.
+use Rattle.std.specs.Prelude.{◌≡◌, ◌⊎◌, Option, Some, None, unwrap_or}
 use Rattle.edm_model.specs.Models.{Model}
 use Rattle.apply_ast.specs.Views.{pipe_of}
 use Rattle.context_typing.specs.Answers.{IsTyping}
-use Rattle.context_typing.specs.Typing.{Customs}
+use Rattle.context_typing.specs.Typing.{Customs, shape_of_set}
 use Rattle.context_typing.specs.declared.typed.Typed.{Typed}
-use Rattle.optimiser.specs.declared.Plan.{Plan}
+use Rattle.rewrite_laws.specs.Rewrites.{IsPlanOf, next}
+use Rattle.optimiser.specs.declared.plans.Plan.{Plan}
 
 -- the typing of the pipeline that was written
 abbrev pub written_of : Plan → Typed
@@ -15,9 +16,24 @@ written_of p = p.written
 abbrev pub own_of : Plan → Typed
 own_of p = unwrap_or p.own p.written
 
--- a plan over a model and its customs: the written typing is one over them, and what is run has its set, its shape and its pipeline
+-- the typings are of one entity set, one pipeline and one shape
+pub record AreOneTyping (t u : Typed) : Type 0 where
+  pub set : t.set ≡ u.set
+  pub pipe : pipe_of t.pipe ≡ pipe_of u.pipe
+  pub shape : t.shape ≡ u.shape
+
+-- the pipeline that is run is what rewriting makes of the written one, and no rule applies to it
+abbrev pub IsOptimised : Model → Customs → Plan → Type 0
+IsOptimised m c p = IsPlanOf m c (shape_of_set m (written_of p).set) (pipe_of (written_of p).pipe) (pipe_of (own_of p).pipe)
+
+-- a plan over a model and its customs: the written typing is one over them; what is run has its set and its shape, and is the written pipeline or the plan of it
 pub record IsPlan (m : Model) (c : Customs) (p : Plan) : Type 0 where
   pub typing : IsTyping m c (written_of p)
   pub set : (own_of p).set ≡ (written_of p).set
   pub shape : (own_of p).shape ≡ (written_of p).shape
-  pub pipe : pipe_of (own_of p).pipe ≡ pipe_of (written_of p).pipe
+  pub pipe : (pipe_of (own_of p).pipe ≡ pipe_of (written_of p).pipe) ⊎ IsOptimised m c p
+
+-- the typed pipeline after one rewrite, which has the set and the shape of the one before; nothing where no rule applies
+abbrev pub IsNext : Model → Customs → Typed → Option Typed → Type 0
+IsNext m c t None = next m c (shape_of_set m t.set) (pipe_of t.pipe) ≡ None
+IsNext m c t (Some q) = (q.set ≡ t.set) × (q.shape ≡ t.shape) × (next m c (shape_of_set m t.set) (pipe_of t.pipe) ≡ Some (pipe_of q.pipe))

@@ -1,0 +1,10 @@
+pub mod PlanMeaning
+mod PlanSteps
+mod SettledFacts
+mod SettledPassing
+mod SettledRules
+mod SettledResults
+mod SettledEnd
+mod SettledPlan
+mod SettledTrees
+mod SegmentLists

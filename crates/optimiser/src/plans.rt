@@ -1,0 +1,84 @@
+//! Plans.
+ghost use Rattle.std.specs.Prelude.{◌≡◌, IfOk, IsTrue};
+ghost use Rattle.edm_model.specs.LookUps.{IsSet};
+ghost use Rattle.edm_model.specs.Models as seen;
+ghost use Rattle.apply_ast.specs.Views.{pipe_of};
+ghost use Rattle.apply_meaning.specs.MeaningLaws.{IsLoaded};
+ghost use Rattle.context_typing.specs.Answers.{IsTyping};
+ghost use Rattle.context_typing.specs.Readings.{AreTypedOver, readings};
+ghost use Rattle.context_typing.specs.Typing.{customs_typed, shape_of_set};
+ghost use Rattle.context_typing.specs.Typing as typing;
+ghost use Rattle.rewrite_laws.specs.RewriteLaws.{MayStandFor};
+ghost use Rattle.rewrite_laws.specs.Rewrites.{IsPlanOf};
+ghost use Rattle.optimiser.specs.Plans.{AreOneTyping, IsPlan, own_of, written_of};
+
+use crate::settling::settled_pipe;
+use apply_ast::Pipe;
+use context_typing::{Customs, Typed, set_shape};
+use edm_model::Model;
+use std::alloc::{AllocError, Global};
+
+/// A pipeline that was written, and the pipeline that is run in its place. Where nothing is in its place, it is run itself.
+#[derive(Debug, Drop)]
+pub struct Plan {
+    written: Typed,
+    own: Option<Typed>,
+}
+
+impl Plan {
+    /// The plan that runs a pipeline as it was written. No memory is taken.
+    pub fn written(t: Typed) -> Plan
+        ensures written { written_of result ≡ t }
+        ensures own { own_of result ≡ t }
+        ensures plan { (m : seen.Model) (c : typing.Customs) → IsTyping m c t → IsPlan m c result }
+    {
+        Plan {
+            written: t,
+            own: None,
+        }
+    }
+
+    /// The pipeline that is run.
+    pub fn pipe(&self) -> &Pipe
+        ensures { result.now ≡ (own_of self.now).pipe }
+    {
+        &self.typed().pipe
+    }
+
+    /// The pipeline that is run, with its entity set and its shape.
+    pub fn typed(&self) -> &Typed
+        ensures { result.now ≡ own_of self.now }
+    {
+        match &self.own {
+            Some(typed) => typed,
+            None => &self.written,
+        }
+    }
+}
+
+/// The plan that runs what rewriting makes of a pipeline: the first rule that applies, at its first place, and so on until none
+/// applies. What that is is made in one pass over the pipeline.
+pub fn optimise(alloc: Global, m: &Model, c: &Customs, t: &Typed) -> Result<Plan, AllocError>
+    requires set { IsSet m.now t.now.set }
+    requires customs { AreTypedOver m.now c.now }
+    requires whole { IsTrue (customs_typed m.now (readings c.now)) }
+    requires typing { IsTyping m.now (readings c.now) t.now }
+    ensures written { IfOk result (λ p. AreOneTyping (written_of p) t.now) }
+    ensures plan { IfOk result (IsPlan m.now (readings c.now)) }
+    ensures own { IfOk result (λ p. IsPlanOf m.now (readings c.now) (shape_of_set m.now t.now.set) (pipe_of t.now.pipe) (pipe_of (own_of p).pipe)) }
+    ensures meaning { IfOk result (λ p. MayStandFor IsLoaded m.now (readings c.now) (shape_of_set m.now t.now.set) t.now.shape (pipe_of t.now.pipe) (pipe_of (own_of p).pipe)) }
+{
+    let _sets = m.sets();
+    let written = t.copy(alloc)?;
+    let start = set_shape(alloc, m.set_type(t.set));
+    let pipe = settled_pipe(alloc, m, c, &t.pipe, &start)?;
+    let shape = t.shape.copy(alloc)?;
+    Ok(Plan {
+        written,
+        own: Some(Typed {
+            set: t.set,
+            pipe,
+            shape,
+        }),
+    })
+}
