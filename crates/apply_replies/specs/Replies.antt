@@ -1,6 +1,7 @@
 -- The reply to a line of the input.
 use Rattle.std.specs.Prelude.{◌≡◌, ℕ, ◌<◌, ◌≤◌, true, false, List, length, Option, Some, None, option_and_then}
 use Rattle.edm_values.specs.Literals.{plain_text}
+use Rattle.apply_ast.specs.Printing.{print}
 use Rattle.apply_ast.specs.Trees.{Pipe}
 use Rattle.edm_model.specs.LookUps.{set_name, set_named}
 use Rattle.edm_data.specs.Worlds.{World, Entity}
@@ -13,10 +14,11 @@ use Rattle.context_typing.specs.Shapes.{Shape}
 use Rattle.context_typing.specs.Readings.{readings}
 use Rattle.context_typing.specs.Typing.{Customs, Types, IsUntypedAt, shape_of_set}
 use Rattle.json_render.specs.Bodies.{body}
+use Rattle.rewrite_laws.specs.Rewrites.{IsPlanOf}
 use Rattle.hier_states.specs.NamedHierarchies.{hierarchies}
 use Rattle.hier_states.specs.States.{first_cycle}
 use Rattle.apply_store.specs.Stores.{Store}
-use Rattle.apply_replies.specs.Responses.{TooLong, Syntax, NotFound, NotBuilt, Type', Cycle, Range, Memory, answered, refused}
+use Rattle.apply_replies.specs.Responses.{TooLong, Syntax, NotFound, Type', Cycle, Range, Memory, answered, plan_body, refused}
 
 -- the set of a request is there, and the pipeline takes its shape to this one
 pub record IsTyped (w : World) (c : Customs) (asked : Asked) (set : ℕ) (s : Shape) : Type 0 where
@@ -27,11 +29,11 @@ pub record IsTyped (w : World) (c : Customs) (asked : Asked) (set : ℕ) (s : Sh
 abbrev pub answer_body : World → Customs → ℕ → Pipe → Shape → Option (List ℕ)
 answer_body w c set p s = option_and_then (body w (set_name w.model set) s) (mean w c (shape_of_set w.model set) p (rows w set))
 
--- The response to a request: the first that holds of no such set, no type from this transformation on, not built, as each request for a plan is, a cyclic hierarchy in the pipeline's text, told by its node's identifier, and a number past its range; else the body.
+-- The response to a request: the first that holds of no such set, no type from this transformation on, the text of the pipeline's plan where that was asked for, a cyclic hierarchy in the pipeline's text, told by its node's identifier, and a number past its range; else the body.
 pub data IsResponse (w : World) (c : Customs) (asked : Asked) : List ℕ → Type 0 where
   no_set : set_named w.model asked.1 ≡ None → IsResponse w c asked (refused (NotFound asked.1))
   no_type : (set k : ℕ) → set_named w.model asked.1 ≡ Some set → IsUntypedAt w.model c (shape_of_set w.model set) asked.2 k → IsResponse w c asked (refused (Type' k))
-  not_built : (set : ℕ) (s : Shape) → IsTyped w c asked set s → asked.0 ≡ true → IsResponse w c asked (refused NotBuilt)
+  plan : (set : ℕ) (s : Shape) (q : Pipe) → IsTyped w c asked set s → asked.0 ≡ true → IsPlanOf w.model c (shape_of_set w.model set) asked.2 q → IsResponse w c asked (answered (plan_body (print q)))
   cycle : (set : ℕ) (s : Shape) (node : Entity) → IsTyped w c asked set s → asked.0 ≡ false → first_cycle w (hierarchies asked.2) ≡ Some node → IsResponse w c asked (refused (Cycle (plain_text (key w node))))
   range : (set : ℕ) (s : Shape) → IsTyped w c asked set s → asked.0 ≡ false → first_cycle w (hierarchies asked.2) ≡ None → answer_body w c set asked.2 s ≡ None → IsResponse w c asked (refused Range)
   answer : (set : ℕ) (s : Shape) (bytes : List ℕ) → IsTyped w c asked set s → asked.0 ≡ false → first_cycle w (hierarchies asked.2) ≡ None → answer_body w c set asked.2 s ≡ Some bytes → IsResponse w c asked (answered bytes)

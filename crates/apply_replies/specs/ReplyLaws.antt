@@ -26,5 +26,5 @@ module _ (w : World) (cs : Customs) where
   long_lines line other r long also (no_memory within) = absurd (omega (arith, within, long))
 
   -- what bounds the cost of a line that is too long bounds that of all such lines
-  pub long_costs : (line other : List ℕ) (n : ℕ) → line_limit < length line → line_limit < length other → BoundsLine w cs line n → BoundsLine w cs other n
-  long_costs line other n long also h = λ within. absurd (omega (arith, within, also))
+  pub long_costs : (optimised : Bool) (line other : List ℕ) (n : ℕ) → line_limit < length line → line_limit < length other → BoundsLine optimised w cs line n → BoundsLine optimised w cs other n
+  long_costs optimised line other n long also h = λ within. absurd (omega (arith, within, also))

@@ -21,8 +21,6 @@ pub data Refusal : Type 0 where
   TooLong : Refusal
   -- it is no request: 0, or the number of the transformation, from 1, where its text stops being a pipeline
   Syntax : ℕ → Refusal
-  -- the request is not built
-  NotBuilt : Refusal
   -- the model has no set of this name
   NotFound : List ℕ → Refusal
   -- the transformation of this number, from 1, has no type
@@ -38,7 +36,6 @@ pub data Refusal : Type 0 where
 abbrev pub refused : Refusal → List ℕ
 refused TooLong = framed (codes "414") (error_body (codes "TooLong") (codes "the line is too long"))
 refused (Syntax k) = framed (codes "400") (error_body_at (codes "Syntax") (codes "the text is no pipeline") (decimal k))
-refused NotBuilt = framed (codes "501") (error_body (codes "NotBuilt") (codes "this form is not built yet"))
 refused (NotFound set) = framed (codes "404") (error_body_at (codes "NotFound") (codes "no such entity set") set)
 refused (Type' k) = framed (codes "400") (error_body_at (codes "Type") (codes "the transformation has no type") (decimal k))
 refused (Cycle node) = framed (codes "422") (error_body_at (codes "Cycle") (codes "the hierarchy has a cycle") node)
@@ -48,3 +45,7 @@ refused Memory = framed (codes "503") (error_body (codes "Memory") (codes "out o
 -- the response with a body
 abbrev pub answered : List ℕ → List ℕ
 answered body = framed (codes "200") body
+
+-- the body of the answer to a request for a plan: an object with one member, the plan's text
+abbrev pub plan_body : List ℕ → List ℕ
+plan_body text = compact_text (object (member (codes "plan") (string text) no_members))

@@ -1,5 +1,7 @@
 //! The reply to a line of the input.
 ghost use Rattle.std.specs.Prelude.{◌≡◌, ℕ, ◌+◌, ◌<◌, ◌≤◌, All, IfOk, Some, None, Err};
+ghost use Rattle.apply_ast.specs.Printing as printing;
+ghost use Rattle.apply_ast.specs.Trees as tree;
 ghost use Rattle.apply_ast.specs.Views.{pipe_of};
 ghost use Rattle.apply_grammar.specs.Requests.{asked_of};
 ghost use Rattle.edm_model.specs.LookUps.{IsSet};
@@ -13,19 +15,21 @@ ghost use Rattle.hier_states.specs.States.{IsReadyAt};
 ghost use Rattle.apply_meaning.specs.Instances as instances;
 ghost use Rattle.apply_meaning.specs.Meaning.{mean};
 ghost use Rattle.apply_meaning.specs.MeaningLaws.{AllFit};
+ghost use Rattle.optimiser.specs.Plans.{AreOneTyping, IsPlan, own_of, written_of};
 ghost use Rattle.plan_run.specs.Costs.{total_cost};
-ghost use Rattle.apply_replies.specs.Costs.{BoundsLine, BoundsRequest};
+ghost use Rattle.rewrite_laws.specs.Rewrites.{IsPlanOf};
+ghost use Rattle.apply_replies.specs.Costs.{BoundsLine, BoundsRequest, IsRunFor};
 ghost use Rattle.apply_replies.specs.Replies.{IsReply, IsResponse, IsTyped};
 ghost use Rattle.apply_replies.specs.Replies as spec;
-ghost use Rattle.apply_replies.specs.Responses.{Cycle, Syntax, refused};
+ghost use Rattle.apply_replies.specs.Responses.{Cycle, Syntax, answered, plan_body, refused};
 ghost use Rattle.apply_replies.specs.OutputBytes.{bytes_made};
 ghost use Rattle.line_stream.specs.Outputs.{bytes_of};
 
 use crate::responses::{
-    answered, cyclic, no_pipeline, not_built, not_found, out_of_memory, past_range, too_long,
+    answered, cyclic, explained, no_pipeline, not_found, out_of_memory, past_range, too_long,
     untyped,
 };
-use apply_ast::Request;
+use apply_ast::{Request, print};
 use apply_grammar::{GrammarRefused, read_request};
 use apply_meaning::{Row, RunRefused, Steps, data_is_loaded};
 use apply_store::{Store, identifier};
@@ -34,7 +38,7 @@ use edm_data::EntityRef;
 use hier_states::first_cycle;
 use json_render::{RenderRefused, render};
 use line_stream::Output;
-use optimiser::Plan;
+use optimiser::{Plan, optimise};
 use par_stages::Gate;
 use plan_run::run;
 use std::alloc::{AllocError, Global};
@@ -54,48 +58,71 @@ fn made(response: Result<Output, AllocError>) -> Output
     }
 }
 
-/// The rows that a typed pipeline gives fit its shape.
-fn rows_fit(store: &Store, typed: &Typed, rows: &Vec<Row>)
-    requires set { IsSet store.now.world.model typed.now.set }
-    requires typing { IsTyping store.now.world.model (readings store.now.customs) typed.now }
-    requires mean { mean store.now.world (readings store.now.customs) (shape_of_set store.now.world.model typed.now.set) (pipe_of typed.now.pipe) (instances.rows store.now.world typed.now.set) ≡ Some rows.now.items }
-    ensures { AllFit store.now.world typed.now.shape rows.now.items }
+/// The plan by which a typed pipeline is run.
+fn plan_for(
+    alloc: Global,
+    store: &Store,
+    typed: Typed,
+    is_optimised: bool,
+) -> Result<Plan, AllocError>
+    requires set { IsSet store.now.world.model typed.set }
+    requires typing { IsTyping store.now.world.model (readings store.now.customs) typed }
+    ensures plan { IfOk result (IsPlan store.now.world.model (readings store.now.customs)) }
+    ensures written { IfOk result (λ p. AreOneTyping (written_of p) typed) }
+    ensures own { IfOk result (λ p. IsRunFor is_optimised store.now.world.model (readings store.now.customs) (shape_of_set store.now.world.model typed.set) (pipe_of typed.pipe) (pipe_of (own_of p).pipe)) }
+{
+    if is_optimised {
+        return optimise(alloc, store.model(), store.customs(), &typed);
+    }
+    Ok(Plan::written(typed))
+}
+
+/// The rows that a plan gives fit the shape of what it runs.
+fn rows_fit(store: &Store, plan: &Plan, rows: &Vec<Row>)
+    requires set { IsSet store.now.world.model (written_of plan.now).set }
+    requires plan { IsPlan store.now.world.model (readings store.now.customs) plan.now }
+    requires mean { let t = written_of plan.now in
+        mean store.now.world (readings store.now.customs) (shape_of_set store.now.world.model t.set) (pipe_of t.pipe) (instances.rows store.now.world t.set) ≡ Some rows.now.items }
+    ensures set { IsSet store.now.world.model (own_of plan.now).set }
+    ensures fit { AllFit store.now.world (own_of plan.now).shape rows.now.items }
 {
     data_is_loaded(store.data());
     let _customs = store.customs();
 }
 
-/// The body of the rows that a typed pipeline gives.
+/// The body of the rows that a plan gives.
 fn body_of<R: Threads + Sync, G: Gate, L: Ledger>(
     rt: &R,
     alloc: Global,
     store: &Store,
-    typed: Typed,
+    plan: &Plan,
     gate: &G,
     steps: &mut Steps<L>,
 ) -> Result<Vec<u8>, RunRefused>
-    requires set { IsSet store.now.world.model typed.set }
-    requires typing { IsTyping store.now.world.model (readings store.now.customs) typed }
-    requires ready { All (IsReadyAt store.now.world store.now.hiers) (hierarchies (pipe_of typed.pipe)) }
-    ensures ok { IfOk result (λ b. spec.answer_body store.now.world (readings store.now.customs) typed.set (pipe_of typed.pipe) typed.shape ≡ Some b.items) }
-    ensures range { result ≡ Err RunRefused.Range → spec.answer_body store.now.world (readings store.now.customs) typed.set (pipe_of typed.pipe) typed.shape ≡ None }
-    ensures steps { steps.new ≤ steps.old + total_cost store.now.world (readings store.now.customs) typed.set (pipe_of typed.pipe) }
+    requires set { IsSet store.now.world.model (written_of plan.now).set }
+    requires plan { IsPlan store.now.world.model (readings store.now.customs) plan.now }
+    requires ready { All (IsReadyAt store.now.world store.now.hiers) (hierarchies (pipe_of (written_of plan.now).pipe)) }
+    ensures ok { let t = written_of plan.now in
+        IfOk result (λ b. spec.answer_body store.now.world (readings store.now.customs) t.set (pipe_of t.pipe) t.shape ≡ Some b.items) }
+    ensures range { let t = written_of plan.now in
+        result ≡ Err RunRefused.Range → spec.answer_body store.now.world (readings store.now.customs) t.set (pipe_of t.pipe) t.shape ≡ None }
+    ensures steps { let t = own_of plan.now in
+        steps.new ≤ steps.old + total_cost store.now.world (readings store.now.customs) t.set (pipe_of t.pipe) }
     ensures grown { steps.old ≤ steps.new }
 {
-    let plan = Plan::written(typed);
     let rows = run(
         rt,
         alloc,
         store.data(),
         store.customs(),
         store.hiers(),
-        &plan,
+        plan,
         WORKERS,
         gate,
         steps,
     )?;
+    rows_fit(store, plan, &rows);
     let typed = plan.typed();
-    rows_fit(store, typed, &rows);
     match render(
         alloc,
         store.data(),
@@ -118,11 +145,23 @@ fn cycle_response(alloc: Global, store: &Store, node: EntityRef) -> Result<Outpu
     Ok(Output::Made(cyclic(alloc, node.as_str())?))
 }
 
+/// The response to a request for the plan of a typed pipeline.
+fn plan_response(alloc: Global, store: &Store, typed: &Typed) -> Result<Output, AllocError>
+    requires set { IsSet store.now.world.model typed.now.set }
+    requires typing { IsTyping store.now.world.model (readings store.now.customs) typed.now }
+    ensures { IfOk result (λ r. (q : tree.Pipe) × IsPlanOf store.now.world.model (readings store.now.customs) (shape_of_set store.now.world.model typed.now.set) (pipe_of typed.now.pipe) q × (bytes_of r ≡ answered (plan_body (printing.print q)))) }
+{
+    let plan = optimise(alloc, store.model(), store.customs(), typed)?;
+    let text = print(alloc, plan.pipe())?;
+    explained(alloc, text.as_str())
+}
+
 /// The response to a request that has this typing.
 fn typed_response<R: Threads + Sync, G: Gate, L: Ledger>(
     rt: &R,
     alloc: Global,
     store: &Store,
+    is_optimised: bool,
     request: &Request,
     typed: Typed,
     gate: &G,
@@ -133,16 +172,17 @@ fn typed_response<R: Threads + Sync, G: Gate, L: Ledger>(
     requires pipe { pipe_of typed.pipe ≡ pipe_of request.now.pipe }
     requires typed { IsTyped store.now.world (readings store.now.customs) (asked_of request.now) typed.set typed.shape }
     ensures response { IfOk result (λ r. IsResponse store.now.world (readings store.now.customs) (asked_of request.now) (bytes_of r)) }
-    ensures steps { (n : ℕ) → BoundsRequest store.now.world (readings store.now.customs) (asked_of request.now) n → steps.new ≤ steps.old + n }
+    ensures steps { (n : ℕ) → BoundsRequest is_optimised store.now.world (readings store.now.customs) (asked_of request.now) n → steps.new ≤ steps.old + n }
     ensures grown { steps.old ≤ steps.new }
 {
     if request.explain {
-        return Ok(Output::Made(not_built(alloc)?));
+        return plan_response(alloc, store, &typed);
     }
     if let Some(node) = first_cycle(store.data(), store.hiers(), &typed.pipe) {
         return cycle_response(alloc, store, node);
     }
-    match body_of(rt, alloc, store, typed, gate, steps) {
+    let plan = plan_for(alloc, store, typed, is_optimised)?;
+    match body_of(rt, alloc, store, &plan, gate, steps) {
         Ok(body) => answered(alloc, body),
         Err(RunRefused::Range) => Ok(Output::Made(past_range(alloc)?)),
         Err(RunRefused::Memory) => Err(AllocError),
@@ -154,12 +194,13 @@ fn response_to<R: Threads + Sync, G: Gate, L: Ledger>(
     rt: &R,
     alloc: Global,
     store: &Store,
+    is_optimised: bool,
     request: &Request,
     gate: &G,
     steps: &mut Steps<L>,
 ) -> Result<Output, AllocError>
     ensures response { IfOk result (λ r. IsResponse store.now.world (readings store.now.customs) (asked_of request.now) (bytes_of r)) }
-    ensures steps { (n : ℕ) → BoundsRequest store.now.world (readings store.now.customs) (asked_of request.now) n → steps.new ≤ steps.old + n }
+    ensures steps { (n : ℕ) → BoundsRequest is_optimised store.now.world (readings store.now.customs) (asked_of request.now) n → steps.new ≤ steps.old + n }
     ensures grown { steps.old ≤ steps.new }
 {
     let set_name = request.set.text();
@@ -167,7 +208,7 @@ fn response_to<R: Threads + Sync, G: Gate, L: Ledger>(
         return Ok(Output::Made(not_found(alloc, set_name)?));
     };
     match type_pipe(alloc, store.model(), store.customs(), set, &request.pipe) {
-        Ok(typed) => typed_response(rt, alloc, store, request, typed, gate, steps),
+        Ok(typed) => typed_response(rt, alloc, store, is_optimised, request, typed, gate, steps),
         Err(TypeRefused::At(k)) => Ok(Output::Made(untyped(alloc, k)?)),
         Err(TypeRefused::Memory) => Err(AllocError),
     }
@@ -180,21 +221,22 @@ fn no_request(alloc: Global, step: u32) -> Result<Output, AllocError>
     Ok(Output::Made(no_pipeline(alloc, step)?))
 }
 
-/// The reply to a line that is not empty.
+/// The reply to a line that is not empty, whose pipeline is rewritten before it runs or runs as it was written.
 pub fn reply_to<R: Threads + Sync, G: Gate, L: Ledger>(
     rt: &R,
     alloc: Global,
     store: &Store,
+    is_optimised: bool,
     line: &[u8],
     gate: &G,
     steps: &mut Steps<L>,
 ) -> Output
     ensures reply { IsReply store.now.world (readings store.now.customs) line.now (bytes_of result) }
-    ensures steps { (n : ℕ) → BoundsLine store.now.world (readings store.now.customs) line.now n → steps.new ≤ steps.old + n }
+    ensures steps { (n : ℕ) → BoundsLine is_optimised store.now.world (readings store.now.customs) line.now n → steps.new ≤ steps.old + n }
     ensures grown { steps.old ≤ steps.new }
 {
     match read_request(alloc, line) {
-        Ok(request) => made(response_to(rt, alloc, store, &request, gate, steps)),
+        Ok(request) => made(response_to(rt, alloc, store, is_optimised, &request, gate, steps)),
         Err(GrammarRefused::TooLong) => Output::Constant(too_long()),
         Err(GrammarRefused::Syntax(k)) => made(no_request(alloc, k)),
         Err(GrammarRefused::Memory) => Output::Constant(out_of_memory()),

@@ -13,24 +13,34 @@ use std::alloc::Global;
 use std::sync::ledger::Ledger;
 use std::thread::Threads;
 
-/// Answers lines over a store. The gate is told of each piece of a fold that begins.
+/// Answers lines over a store, whose pipelines are rewritten before they run or run as they were written. The gate is told of
+/// each piece of a fold that begins.
 #[derive(Drop)]
 pub struct Replies<'a, R, G> {
     rt: &'a R,
     alloc: Global,
     store: &'a Store,
+    is_optimised: bool,
     gate: &'a G,
 }
 
 impl<'a, R: Threads + Sync, G: Gate> Replies<'a, R, G> {
     /// What answers lines over this store.
-    pub fn new(rt: &'a R, alloc: Global, store: &'a Store, gate: &'a G) -> Replies<'a, R, G>
-        ensures { result.store ≡ store.entry }
+    pub fn new(
+        rt: &'a R,
+        alloc: Global,
+        store: &'a Store,
+        is_optimised: bool,
+        gate: &'a G,
+    ) -> Replies<'a, R, G>
+        ensures store { result.store ≡ store.entry }
+        ensures plan { result.is_optimised ≡ is_optimised }
     {
         Replies {
             rt,
             alloc,
             store,
+            is_optimised,
             gate,
         }
     }
@@ -38,9 +48,17 @@ impl<'a, R: Threads + Sync, G: Gate> Replies<'a, R, G> {
     /// The reply to a line that is not empty, ready to be written. The counter rises by no more than what the line costs.
     pub fn reply<L: Ledger>(&self, steps: &mut Steps<L>, line: &[u8]) -> Output
         ensures reply { IsReplyOf self.now.store.now line.now (bytes_of result) }
-        ensures steps { (n : ℕ) → BoundsLineOf self.now.store.now line.now n → steps.new ≤ steps.old + n }
+        ensures steps { (n : ℕ) → BoundsLineOf self.now.is_optimised self.now.store.now line.now n → steps.new ≤ steps.old + n }
         ensures grown { steps.old ≤ steps.new }
     {
-        reply_to(self.rt, self.alloc, self.store, line, self.gate, steps)
+        reply_to(
+            self.rt,
+            self.alloc,
+            self.store,
+            self.is_optimised,
+            line,
+            self.gate,
+            steps,
+        )
     }
 }

@@ -110,14 +110,6 @@ pub fn no_pipeline(alloc: Global, step: u32) -> Result<Vec<u8>, AllocError>
     framed(alloc, "400", body.as_bytes())
 }
 
-/// The response to a request that is not built.
-pub fn not_built(alloc: Global) -> Result<Vec<u8>, AllocError>
-    ensures { IfOk result (λ r. r.items ≡ spec.refused spec.NotBuilt) }
-{
-    let body = error_body(alloc, "NotBuilt", "this form is not built yet")?;
-    framed(alloc, "501", body.as_bytes())
-}
-
 /// The response to a line that names no set of the model.
 pub fn not_found(alloc: Global, set: &str) -> Result<Vec<u8>, AllocError>
     ensures { IfOk result (λ r. r.items ≡ spec.refused (spec.NotFound set.now)) }
@@ -154,4 +146,27 @@ pub fn past_range(alloc: Global) -> Result<Vec<u8>, AllocError>
 {
     let body = error_body(alloc, "Range", "a number is past its range")?;
     framed(alloc, "422", body.as_bytes())
+}
+
+/// What the answer to a request for a plan is, with the plan's text.
+fn plan_object(alloc: Global, text: &str) -> Result<Value, AllocError>
+    ensures { IfOk result (λ v. view v ≡ object (member (codes "plan") (string text.now) no_members)) }
+{
+    json!(in alloc; {"plan": text})
+}
+
+/// The body of the answer to a request for a plan.
+fn plan_body(alloc: Global, text: &str) -> Result<String, AllocError>
+    ensures { IfOk result (λ s. string_bytes s ≡ spec.plan_body text.now) }
+{
+    let value = plan_object(alloc, text)?;
+    value.to_string(alloc)
+}
+
+/// The response to a request for a plan, with the plan's text.
+pub fn explained(alloc: Global, text: &str) -> Result<Output, AllocError>
+    ensures { IfOk result (λ r. bytes_of r ≡ spec.answered (spec.plan_body text.now)) }
+{
+    let body = plan_body(alloc, text)?;
+    answered(alloc, body.into_bytes())
 }

@@ -11,18 +11,18 @@ use Rattle.apply_service.proofs.Completeness.{says}
 
 module _ (r : Run) (is_steady same_folder same_input same_output : Type 0) (input : same_input → r.input.left_after ≡ r.input.left) (output : same_output → r.output.held_after ≡ r.output.held) where
   module _ (s : Settings) (asks : settings_in r.words ≡ Some s) where
-    says-mode : (m : Mode) → s.mode ≡ m → ModeSays r s.max_bytes m is_steady same_folder same_input same_output → Says r is_steady same_folder same_input same_output
+    says-mode : (m : Mode) → s.mode ≡ m → ModeSays r s.is_optimised s.max_bytes m is_steady same_folder same_input same_output → Says r is_steady same_folder same_input same_output
     says-mode m e h =
-        let P : Mode → Type 0 = λ x. ModeSays r s.max_bytes x is_steady same_folder same_input same_output in
+        let P : Mode → Type 0 = λ x. ModeSays r s.is_optimised s.max_bytes x is_steady same_folder same_input same_output in
         says r is_steady same_folder same_input same_output (ends-asked r is_steady same_folder same_input same_output s asks (subst P (sym e) h)) input output
 
-    pub says-serve : (model entities : List ℕ) → s.mode ≡ Serve model entities → ServeSays r.folder r.input r.output r.steps (names_of model entities) s.max_bytes is_steady same_input same_output r.status → Says r is_steady same_folder same_input same_output
+    pub says-serve : (model entities : List ℕ) → s.mode ≡ Serve model entities → ServeSays s.is_optimised r.folder r.input r.output r.steps (names_of model entities) s.max_bytes is_steady same_input same_output r.status → Says r is_steady same_folder same_input same_output
     says-serve model entities e h = says-mode (Serve model entities) e h
 
     pub says-check : (model entities : List ℕ) → s.mode ≡ Check model entities → CheckSays r.folder r.output (names_of model entities) is_steady same_output r.status → same_input → StandsStill r.steps → Says r is_steady same_folder same_input same_output
     says-check model entities e h same still = says-mode (Check model entities) e (h, same, still)
 
-    pub says-gen : (count : ℕ) → s.mode ≡ Gen count → GenSays r.output r.steps count same_output r.status → same_folder → same_input → Says r is_steady same_folder same_input same_output
+    pub says-gen : (count : ℕ) → s.mode ≡ Gen count → GenSays s.is_optimised r.output r.steps count same_output r.status → same_folder → same_input → Says r is_steady same_folder same_input same_output
     says-gen count e h folder same = says-mode (Gen count) e (h, folder, same)
 
   pub says-usage : r.status ≡ status.Usage → settings_in r.words ≡ None → same_folder → same_input → same_output → StandsStill r.steps → Says r is_steady same_folder same_input same_output

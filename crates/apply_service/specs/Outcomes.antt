@@ -1,5 +1,5 @@
 -- What was written in each mode, and what each status says.
-use Rattle.std.specs.Prelude.{◌≡◌, ℕ, ◌+◌, ◌≤◌, ◌⊎◌, List, length, take}
+use Rattle.std.specs.Prelude.{◌≡◌, ℕ, ◌+◌, ◌≤◌, ◌⊎◌, Bool, List, length, take}
 use Rattle.std.specs.Io.KnownBytes.{Appends, IsAtEnd}
 use Rattle.apply_io.specs.Causes.{Rose}
 use Rattle.edm_data.specs.Worlds.{World}
@@ -33,12 +33,12 @@ StandsStill t = t.count_after ≡ t.count
 
 -- ---- what was done
 
--- The files make a world, bytes that have P were taken from the source, and the replies to the lines of them were written, in order. The counter of steps rose by no more than what the lines cost.
-pub record Answers (f : FolderSeen) (i : SourceSeen) (o : SinkSeen) (t : StepsSeen) (names : FileNames) (lines : List ℕ → List (List ℕ)) (P : List ℕ → Type 0) : Type 0 where
+-- The files make a world, bytes that have P were taken from the source, and the replies to the lines of them were written, in order. The counter of steps rose by no more than what the lines cost where pipelines are rewritten before they run, or run as they were written.
+pub record Answers (optimised : Bool) (f : FolderSeen) (i : SourceSeen) (o : SinkSeen) (t : StepsSeen) (names : FileNames) (lines : List ℕ → List (List ℕ)) (P : List ℕ → Type 0) : Type 0 where
   pub world : World
   pub customs : Customs
   pub loaded : FilesMake f.files names (Loaded world customs)
-  pub answered : stream.Responds (IsReply world customs) (BoundsLine world customs) lines P i.left i.left_after o.held o.held_after t.count t.count_after
+  pub answered : stream.Responds (IsReply world customs) (BoundsLine optimised world customs) lines P i.left i.left_after o.held o.held_after t.count t.count_after
 
 -- a file is refused, and its line was written
 pub record Refuses (f : FolderSeen) (o : SinkSeen) (names : FileNames) (refused : List ℕ → Outcome) : Type 0 where
@@ -54,11 +54,11 @@ pub record Checks (f : FolderSeen) (o : SinkSeen) (names : FileNames) : Type 0 w
   pub written : Appends o.held o.held_after (check_text world)
 
 -- the replies to the sample requests over the generated world of so many sales were written, and the counter of steps rose by no more than what they cost
-pub record Generates (o : SinkSeen) (t : StepsSeen) (count : ℕ) : Type 0 where
+pub record Generates (optimised : Bool) (o : SinkSeen) (t : StepsSeen) (count : ℕ) : Type 0 where
   pub customs : Customs
   pub typed : AreCustoms (generated_world count).model customs
   pub answered : stream.Writes (IsReply (generated_world count) customs) sample_lines o.held o.held_after
-  pub counted : Rises (BoundsLine (generated_world count) customs) sample_lines t.count t.count_after
+  pub counted : Rises (BoundsLine optimised (generated_world count) customs) sample_lines t.count t.count_after
 
 -- ---- where the writing broke off
 
@@ -68,11 +68,11 @@ pub data BreaksOffInLine (f : FolderSeen) (o : SinkSeen) (names : FileNames) : T
   in_data_line : {line : List ℕ} → FilesMake f.files names (RefusedData line) → WritesFront line o.held o.held_after → BreaksOffInLine f o names
 
 -- in the replies: those to all lines that ended before the last read were written
-pub record BreaksOffInReplies (f : FolderSeen) (i : SourceSeen) (o : SinkSeen) (t : StepsSeen) (names : FileNames) (limit : ℕ) : Type 0 where
+pub record BreaksOffInReplies (optimised : Bool) (f : FolderSeen) (i : SourceSeen) (o : SinkSeen) (t : StepsSeen) (names : FileNames) (limit : ℕ) : Type 0 where
   pub world : World
   pub customs : Customs
   pub loaded : FilesMake f.files names (Loaded world customs)
-  pub front : stream.RespondsInPart (IsReply world customs) (BoundsLine world customs) read_limit limit i.left i.left_after o.held o.held_after t.count t.count_after
+  pub front : stream.RespondsInPart (IsReply world customs) (BoundsLine optimised world customs) read_limit limit i.left i.left_after o.held o.held_after t.count t.count_after
 
 -- in what is told of a world
 pub record BreaksOffInCheck (f : FolderSeen) (o : SinkSeen) (names : FileNames) : Type 0 where
@@ -82,11 +82,11 @@ pub record BreaksOffInCheck (f : FolderSeen) (o : SinkSeen) (names : FileNames) 
   pub front : WritesFront (check_text world) o.held o.held_after
 
 -- in the replies to the sample requests
-pub record BreaksOffInSamples (o : SinkSeen) (t : StepsSeen) (count : ℕ) : Type 0 where
+pub record BreaksOffInSamples (optimised : Bool) (o : SinkSeen) (t : StepsSeen) (count : ℕ) : Type 0 where
   pub customs : Customs
   pub typed : AreCustoms (generated_world count).model customs
   pub front : stream.WritesPart (IsReply (generated_world count) customs) sample_lines o.held o.held_after
-  pub counted : Rises (BoundsLine (generated_world count) customs) sample_lines t.count t.count_after
+  pub counted : Rises (BoundsLine optimised (generated_world count) customs) sample_lines t.count t.count_after
 
 -- ---- what each status says, mode by mode
 
@@ -103,19 +103,19 @@ LoadSays f o names is_steady same_output WriteFault = Rose o.faults o.faults_aft
 LoadSays f o names is_steady same_output Memory = same_output
 LoadSays f o names is_steady same_output _ = ⊥
 
--- What each status says of a run that answers requests over two files, up to so many bytes of the source.
-abbrev pub ServeSays : FolderSeen → SourceSeen → SinkSeen → StepsSeen → FileNames → ℕ → Type 0 → Type 0 → Type 0 → Status → Type 0
-ServeSays f i o t names limit is_steady same_input same_output Served = Answers f i o t names request_lines (λ bytes. length bytes ≤ limit) × IsAtEnd i.left_after
-ServeSays f i o t names limit is_steady same_input same_output ModelRefused = Refuses f o names RefusedModel × same_input × StandsStill t
-ServeSays f i o t names limit is_steady same_input same_output DataRefused = Refuses f o names RefusedData × same_input × StandsStill t
-ServeSays f i o t names limit is_steady same_input same_output ReadFault =
-    (Rose i.faults i.faults_after × Answers f i o t names ended_lines (λ bytes. length bytes ≤ limit))
+-- What each status says of a run that answers requests over two files, up to so many bytes of the source, by plans or by the pipelines as they were written.
+abbrev pub ServeSays : Bool → FolderSeen → SourceSeen → SinkSeen → StepsSeen → FileNames → ℕ → Type 0 → Type 0 → Type 0 → Status → Type 0
+ServeSays optimised f i o t names limit is_steady same_input same_output Served = Answers optimised f i o t names request_lines (λ bytes. length bytes ≤ limit) × IsAtEnd i.left_after
+ServeSays optimised f i o t names limit is_steady same_input same_output ModelRefused = Refuses f o names RefusedModel × same_input × StandsStill t
+ServeSays optimised f i o t names limit is_steady same_input same_output DataRefused = Refuses f o names RefusedData × same_input × StandsStill t
+ServeSays optimised f i o t names limit is_steady same_input same_output ReadFault =
+    (Rose i.faults i.faults_after × Answers optimised f i o t names ended_lines (λ bytes. length bytes ≤ limit))
     ⊎ (FolderFailed f names is_steady × same_input × same_output × StandsStill t)
-ServeSays f i o t names limit is_steady same_input same_output WriteFault =
-    Rose o.faults o.faults_after × (BreaksOffInReplies f i o t names limit ⊎ (BreaksOffInLine f o names × same_input × StandsStill t))
-ServeSays f i o t names limit is_steady same_input same_output InputLimit = Answers f i o t names (λ bytes. ended_lines (take limit bytes)) (λ bytes. length bytes ≡ limit + 1)
-ServeSays f i o t names limit is_steady same_input same_output Memory = same_input × same_output × StandsStill t
-ServeSays f i o t names limit is_steady same_input same_output Usage = ⊥
+ServeSays optimised f i o t names limit is_steady same_input same_output WriteFault =
+    Rose o.faults o.faults_after × (BreaksOffInReplies optimised f i o t names limit ⊎ (BreaksOffInLine f o names × same_input × StandsStill t))
+ServeSays optimised f i o t names limit is_steady same_input same_output InputLimit = Answers optimised f i o t names (λ bytes. ended_lines (take limit bytes)) (λ bytes. length bytes ≡ limit + 1)
+ServeSays optimised f i o t names limit is_steady same_input same_output Memory = same_input × same_output × StandsStill t
+ServeSays optimised f i o t names limit is_steady same_input same_output Usage = ⊥
 
 -- what each status says of a run that checks two files
 abbrev pub CheckSays : FolderSeen → SinkSeen → FileNames → Type 0 → Type 0 → Status → Type 0
@@ -127,9 +127,9 @@ CheckSays f o names is_steady same_output WriteFault = Rose o.faults o.faults_af
 CheckSays f o names is_steady same_output Memory = same_output
 CheckSays f o names is_steady same_output _ = ⊥
 
--- what each status says of a run that answers the sample requests
-abbrev pub GenSays : SinkSeen → StepsSeen → ℕ → Type 0 → Status → Type 0
-GenSays o t count same_output Served = Generates o t count
-GenSays o t count same_output WriteFault = Rose o.faults o.faults_after × BreaksOffInSamples o t count
-GenSays o t count same_output Memory = same_output × StandsStill t
-GenSays o t count same_output _ = ⊥
+-- what each status says of a run that answers the sample requests, by plans or by the pipelines as they were written
+abbrev pub GenSays : Bool → SinkSeen → StepsSeen → ℕ → Type 0 → Status → Type 0
+GenSays optimised o t count same_output Served = Generates optimised o t count
+GenSays optimised o t count same_output WriteFault = Rose o.faults o.faults_after × BreaksOffInSamples optimised o t count
+GenSays optimised o t count same_output Memory = same_output × StandsStill t
+GenSays optimised o t count same_output _ = ⊥

@@ -1,5 +1,5 @@
 -- What the service promises of a run.
-use Rattle.std.specs.Prelude.{◌≡◌, ℕ, ◌<◌, ◌≤◌, ◌⊎◌, List, [], ◌++◌, length, Some, None}
+use Rattle.std.specs.Prelude.{◌≡◌, ℕ, ◌<◌, ◌≤◌, ◌⊎◌, Bool, List, [], ◌++◌, length, Some, None}
 use Rattle.std.specs.Option.{ForSome}
 use Rattle.apply_io.specs.Causes.{Rose}
 use Rattle.apply_io.specs.Files.{Files}
@@ -55,10 +55,10 @@ IsFault status = (status ≡ ReadFault) ⊎ ((status ≡ WriteFault) ⊎ (status
 -- ---- what each end says
 
 -- what the status says of a run that was asked for this; the last three are that the folder, the source and the sink are as they were
-abbrev pub ModeSays : Run → ℕ → Mode → Type 0 → Type 0 → Type 0 → Type 0 → Type 0
-ModeSays r max_bytes (Serve model data_file) is_steady same_folder same_input same_output = ServeSays r.folder r.input r.output r.steps (names_of model data_file) max_bytes is_steady same_input same_output r.status
-ModeSays r max_bytes (Check model data_file) is_steady same_folder same_input same_output = CheckSays r.folder r.output (names_of model data_file) is_steady same_output r.status × same_input × StandsStill r.steps
-ModeSays r max_bytes (Gen count) is_steady same_folder same_input same_output = GenSays r.output r.steps count same_output r.status × same_folder × same_input
+abbrev pub ModeSays : Run → Bool → ℕ → Mode → Type 0 → Type 0 → Type 0 → Type 0 → Type 0
+ModeSays r optimised max_bytes (Serve model data_file) is_steady same_folder same_input same_output = ServeSays optimised r.folder r.input r.output r.steps (names_of model data_file) max_bytes is_steady same_input same_output r.status
+ModeSays r optimised max_bytes (Check model data_file) is_steady same_folder same_input same_output = CheckSays r.folder r.output (names_of model data_file) is_steady same_output r.status × same_input × StandsStill r.steps
+ModeSays r optimised max_bytes (Gen count) is_steady same_folder same_input same_output = GenSays optimised r.output r.steps count same_output r.status × same_folder × same_input
 
 -- What each status says of a run.
 pub record Ends (r : Run) (is_steady same_folder same_input same_output : Type 0) : Type 0 where
@@ -69,7 +69,7 @@ pub record Ends (r : Run) (is_steady same_folder same_input same_output : Type 0
   -- want of memory: nothing was read from the source and nothing written, and no step counted
   pub memory : r.status ≡ Memory → same_input × same_output × StandsStill r.steps
   -- what the words asked for was done, or was stopped by what the status says
-  pub asked : (s : Settings) → Asks r s → ModeSays r s.max_bytes s.mode is_steady same_folder same_input same_output
+  pub asked : (s : Settings) → Asks r s → ModeSays r s.is_optimised s.max_bytes s.mode is_steady same_folder same_input same_output
 
 -- ---- where a status comes
 

@@ -60,11 +60,12 @@ fn load_or_refuse<F: Folder, K: Sink>(
     }
 }
 
-/// Answers the lines of the input over two files, at most `limit` bytes.
+/// Answers the lines of the input over two files, at most `limit` bytes, by plans or by the pipelines as they were written.
 pub(crate) fn serve_files<R: Threads + Sync, F: Folder, S: Source, K: Sink, G: Gate, L: Ledger>(
     rt: &R,
     alloc: Global,
     names: FileNames<'_>,
+    is_optimised: bool,
     limit: u64,
     folder: &mut F,
     input: &mut S,
@@ -77,7 +78,7 @@ pub(crate) fn serve_files<R: Threads + Sync, F: Folder, S: Source, K: Sink, G: G
     ensures later_folder { F.fault_count folder.old ≤ F.fault_count folder.new }
     ensures later_in { S.fault_count input.old ≤ S.fault_count input.new }
     ensures later_out { K.fault_count output.old ≤ K.fault_count output.new }
-    ensures says { ServeSays
+    ensures says { ServeSays is_optimised
         (record { files = F.files folder.old; faults = F.fault_count folder.old; faults_after = F.fault_count folder.new })
         (record { left = S.left input.old; left_after = S.left input.new; faults = S.fault_count input.old; faults_after = S.fault_count input.new })
         (record { held = K.held output.old; held_after = K.held output.new; faults = K.fault_count output.old; faults_after = K.fault_count output.new })
@@ -95,7 +96,7 @@ pub(crate) fn serve_files<R: Threads + Sync, F: Folder, S: Source, K: Sink, G: G
         Ok(store) => store,
         Err(status) => return status,
     };
-    let replies = Replies::new(rt, alloc, &store, gate);
+    let replies = Replies::new(rt, alloc, &store, is_optimised, gate);
     match answer_stream(
         &replies,
         steps,
@@ -145,11 +146,12 @@ pub(crate) fn check_files<F: Folder, K: Sink>(
     }
 }
 
-/// Answers the sample requests over the generated world of so many sales.
+/// Answers the sample requests over the generated world of so many sales, by plans or by the pipelines as they were written.
 pub(crate) fn answer_generated<R: Threads + Sync, K: Sink, G: Gate, L: Ledger>(
     rt: &R,
     alloc: Global,
     count: u32,
+    is_optimised: bool,
     output: &mut K,
     gate: &G,
     steps: &mut Steps<L>,
@@ -157,7 +159,7 @@ pub(crate) fn answer_generated<R: Threads + Sync, K: Sink, G: Gate, L: Ledger>(
     requires some { 1 ≤ count }
     requires few { count ≤ 200000 }
     ensures later_out { K.fault_count output.old ≤ K.fault_count output.new }
-    ensures says { GenSays
+    ensures says { GenSays is_optimised
         (record { held = K.held output.old; held_after = K.held output.new; faults = K.fault_count output.old; faults_after = K.fault_count output.new })
         (record { count = steps.old; count_after = steps.new })
         count (output.new ≡ output.old) result }
@@ -165,7 +167,7 @@ pub(crate) fn answer_generated<R: Threads + Sync, K: Sink, G: Gate, L: Ledger>(
     let Ok(store) = load_generated(alloc, count) else {
         return Status::Memory;
     };
-    let replies = Replies::new(rt, alloc, &store, gate);
+    let replies = Replies::new(rt, alloc, &store, is_optimised, gate);
     match answer_samples(&replies, steps, output) {
         Ok(()) => Status::Served,
         Err(_) => Status::WriteFault,

@@ -37,7 +37,7 @@ pub(crate) fn answer_samples<R: Threads + Sync, G: Gate, L: Ledger, K: Sink>(
     ensures cause { HasCause (K.fault_count output.old) (K.fault_count output.new) result }
     ensures ok { OnOk result (Writes (IsReplyOf replies.now.store.now) spec.sample_lines (K.held output.old) (K.held output.new)) }
     ensures err { OnErr result (WritesPart (IsReplyOf replies.now.store.now) spec.sample_lines (K.held output.old) (K.held output.new)) }
-    ensures counted { Rises (BoundsLineOf replies.now.store.now) spec.sample_lines steps.old steps.new }
+    ensures counted { Rises (BoundsLineOf replies.now.is_optimised replies.now.store.now) spec.sample_lines steps.old steps.new }
 {
     for line in sample_lines() {
         answer_line(replies, steps, line.as_bytes(), output)?;

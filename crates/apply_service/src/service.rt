@@ -63,6 +63,7 @@ pub fn serve<R: Threads + Sync, F: Folder, S: Source, K: Sink, G: Gate, L: Ledge
                 rt,
                 alloc,
                 names,
+                options.is_optimised,
                 options.max_bytes,
                 folder,
                 input,
@@ -78,6 +79,14 @@ pub fn serve<R: Threads + Sync, F: Folder, S: Source, K: Sink, G: Gate, L: Ledge
             };
             check_files(alloc, names, folder, output)
         }
-        Mode::Gen(count) => answer_generated(rt, alloc, *count, output, gate, steps),
+        Mode::Gen(count) => answer_generated(
+            rt,
+            alloc,
+            *count,
+            options.is_optimised,
+            output,
+            gate,
+            steps,
+        ),
     }
 }

@@ -47,7 +47,7 @@ pub(crate) fn answer_line<R: Threads + Sync, G: Gate, L: Ledger, K: Sink>(
     ensures cause { HasCause (K.fault_count output.old) (K.fault_count output.new) result }
     ensures ok { OnOk result (Writes (IsReplyOf replies.now.store.now) (shown line.now) (K.held output.old) (K.held output.new)) }
     ensures err { OnErr result (WritesPart (IsReplyOf replies.now.store.now) (shown line.now) (K.held output.old) (K.held output.new)) }
-    ensures counted { Rises (BoundsLineOf replies.now.store.now) (shown line.now) steps.old steps.new }
+    ensures counted { Rises (BoundsLineOf replies.now.is_optimised replies.now.store.now) (shown line.now) steps.old steps.new }
 {
     if line.is_empty() {
         return Ok(());
@@ -67,9 +67,9 @@ fn take_bytes<R: Threads + Sync, G: Gate, L: Ledger, K: Sink>(
     requires limit { line.old.limit ≡ line_limit }
     ensures limit { line.new.limit ≡ line_limit }
     ensures cause { HasCause (K.fault_count output.old) (K.fault_count output.new) result }
-    ensures ok { OnOk result (Answers (IsReplyOf replies.now.store.now) (BoundsLineOf replies.now.store.now)
+    ensures ok { OnOk result (Answers (IsReplyOf replies.now.store.now) (BoundsLineOf replies.now.is_optimised replies.now.store.now)
         (K.held output.old) (K.held output.new) steps.old steps.new line.old line.new bytes.now) }
-    ensures err { OnErr result (BreaksOff (IsReplyOf replies.now.store.now) (BoundsLineOf replies.now.store.now)
+    ensures err { OnErr result (BreaksOff (IsReplyOf replies.now.store.now) (BoundsLineOf replies.now.is_optimised replies.now.store.now)
         (K.held output.old) (K.held output.new) steps.old steps.new line.old bytes.now) }
 {
     let mut rest = bytes;
@@ -118,16 +118,16 @@ fn answer_piece<R: Threads + Sync, G: Gate, L: Ledger, S: Source, K: Sink>(
     ensures later_in { S.fault_count input.old ≤ S.fault_count input.new }
     ensures later_out { K.fault_count output.old ≤ K.fault_count output.new }
     ensures count { IfOk result (λ n. n ≤ left) }
-    ensures ok { IfOk result (λ n. Advances (IsReplyOf replies.now.store.now) (BoundsLineOf replies.now.store.now)
+    ensures ok { IfOk result (λ n. Advances (IsReplyOf replies.now.store.now) (BoundsLineOf replies.now.is_optimised replies.now.store.now)
         (S.left input.old) (S.left input.new) (K.held output.old) (K.held output.new) steps.old steps.new line.old line.new n) }
     ensures end { IfOk result (λ n. n ≡ 0 → IsAtEnd (S.left input.new)) }
     ensures read_cause { IsErrOf result Stop.Read → Rose (S.fault_count input.old) (S.fault_count input.new) }
     ensures read { IsErrOf result Stop.Read → Keeps (S.left input.old) (S.left input.new)
         × (output.new ≡ output.old) × (line.new ≡ line.old) × (steps.new ≡ steps.old) }
     ensures write_cause { IsErrOf result Stop.Write → Rose (K.fault_count output.old) (K.fault_count output.new) }
-    ensures write { IsErrOf result Stop.Write → Breaks (IsReplyOf replies.now.store.now) (BoundsLineOf replies.now.store.now)
+    ensures write { IsErrOf result Stop.Write → Breaks (IsReplyOf replies.now.store.now) (BoundsLineOf replies.now.is_optimised replies.now.store.now)
         (length buffer.old) left (S.left input.old) (S.left input.new) (K.held output.old) (K.held output.new) steps.old steps.new line.old }
-    ensures limit_passed { IsErrOf result Stop.Limit → Overruns (IsReplyOf replies.now.store.now) (BoundsLineOf replies.now.store.now)
+    ensures limit_passed { IsErrOf result Stop.Limit → Overruns (IsReplyOf replies.now.store.now) (BoundsLineOf replies.now.is_optimised replies.now.store.now)
         (S.left input.old) (S.left input.new) (K.held output.old) (K.held output.new) steps.old steps.new line.old line.new left }
 {
     let Ok(count) = read_piece(input, left, buffer) else {
@@ -161,20 +161,20 @@ pub(crate) fn answer_stream<R: Threads + Sync, G: Gate, L: Ledger, S: Source, K:
     // Nothing is left, and one response for each line was written, in order. In each case the counter of steps rose by no
     // more than what the lines cost.
     ensures end { OnOk result (IsAtEnd (S.left input.new)) }
-    ensures ok { OnOk result (Responds (IsReplyOf replies.now.store.now) (BoundsLineOf replies.now.store.now) request_lines
+    ensures ok { OnOk result (Responds (IsReplyOf replies.now.store.now) (BoundsLineOf replies.now.is_optimised replies.now.store.now) request_lines
         (λ bytes. length bytes ≤ limit) (S.left input.old) (S.left input.new) (K.held output.old) (K.held output.new) steps.old steps.new) }
     // Where a read failed, the lines that an LF ended within the bytes taken were answered.
     ensures read_cause { IsErrOf result Stop.Read → Rose (S.fault_count input.old) (S.fault_count input.new) }
-    ensures read { IsErrOf result Stop.Read → Responds (IsReplyOf replies.now.store.now) (BoundsLineOf replies.now.store.now) ended_lines
+    ensures read { IsErrOf result Stop.Read → Responds (IsReplyOf replies.now.store.now) (BoundsLineOf replies.now.is_optimised replies.now.store.now) ended_lines
         (λ bytes. length bytes ≤ limit) (S.left input.old) (S.left input.new) (K.held output.old) (K.held output.new) steps.old steps.new }
     // Where one byte more than the limit came, those within the limit.
-    ensures limit_passed { IsErrOf result Stop.Limit → Responds (IsReplyOf replies.now.store.now) (BoundsLineOf replies.now.store.now)
+    ensures limit_passed { IsErrOf result Stop.Limit → Responds (IsReplyOf replies.now.store.now) (BoundsLineOf replies.now.is_optimised replies.now.store.now)
         (λ bytes. ended_lines (take limit bytes)) (λ bytes. length bytes ≡ limit + 1)
         (S.left input.old) (S.left input.new) (K.held output.old) (K.held output.new) steps.old steps.new }
     // Where a write failed, the responses to all lines that ended before the last read were written, and a front of responses
     // to all lines: whatever follows the bytes taken, or, in the response to a last line with no LF, at the end of the source.
     ensures write_cause { IsErrOf result Stop.Write → Rose (K.fault_count output.old) (K.fault_count output.new) }
-    ensures write { IsErrOf result Stop.Write → RespondsInPart (IsReplyOf replies.now.store.now) (BoundsLineOf replies.now.store.now)
+    ensures write { IsErrOf result Stop.Write → RespondsInPart (IsReplyOf replies.now.store.now) (BoundsLineOf replies.now.is_optimised replies.now.store.now)
         (length buffer.old) limit (S.left input.old) (S.left input.new) (K.held output.old) (K.held output.new) steps.old steps.new }
 {
     let mut taken = 0;

@@ -7,7 +7,7 @@ ghost use Rattle.context_typing.specs.Typing.{customs_typed, shape_of_set};
 ghost use Rattle.apply_meaning.specs.Instances as instances;
 ghost use Rattle.apply_meaning.specs.Meaning.{mean};
 ghost use Rattle.apply_meaning.specs.Running.{Gives};
-ghost use Rattle.plan_run.specs.Conditions.{RunsFrom};
+ghost use Rattle.plan_run.specs.Conditions.{AreReady, RunsFrom};
 ghost use Rattle.optimiser.specs.Plans.{IsPlan, own_of, written_of};
 ghost use Rattle.plan_run.specs.Costs.{total_cost};
 ghost use Rattle.hier_states.specs.NamedHierarchies.{hierarchies};
@@ -26,7 +26,7 @@ use std::alloc::Global;
 use std::sync::ledger::Ledger;
 use std::thread::Threads;
 
-/// A plan may be run on the instances of its entity set.
+/// A plan may be run on the instances of its entity set: it means there what was written, and names no other hierarchy.
 fn plan_ready<R: Threads + Sync, G: Gate>(
     context: &Context<'_, R, G>,
     plan: &Plan,
@@ -37,15 +37,21 @@ fn plan_ready<R: Threads + Sync, G: Gate>(
     requires set { IsSet context.now.world.model (written_of plan.now).set }
     requires root { root.now ≡ Some (set_type context.now.world.model (own_of plan.now).set) }
     requires rows { rows.now.items ≡ instances.rows context.now.world (own_of plan.now).set }
-    ensures { let t = own_of plan.now in
+    requires named { AreReady context.now (hierarchies (pipe_of (written_of plan.now).pipe)) }
+    ensures runs { let t = own_of plan.now in
         RunsFrom context.now root.now (shape_of_set context.now.world.model t.set) t.shape (pipe_of t.pipe) rows.now.items }
+    ensures named { AreReady context.now (hierarchies (pipe_of (own_of plan.now).pipe)) }
+    ensures means { let t = own_of plan.now in let u = written_of plan.now in
+        mean context.now.world (readings context.now.customs) (shape_of_set context.now.world.model t.set) (pipe_of t.pipe) (instances.rows context.now.world t.set)
+        ≡ mean context.now.world (readings context.now.customs) (shape_of_set context.now.world.model u.set) (pipe_of u.pipe) (instances.rows context.now.world u.set) }
 {
     data_is_loaded(context.store());
     let _customs = context.customs();
 }
 
-/// The rows that a plan gives on the instances of its entity set. `hiers` has the states of the model's hierarchies. Lists of
-/// values and of keys are folded in at most `workers` pieces, each of which tells the gate that it begins.
+/// The rows that the pipeline that was written gives on the instances of its entity set, made by the plan's own. `hiers` has the
+/// states of the model's hierarchies. Lists of values and of keys are folded in at most `workers` pieces, each of which tells the
+/// gate that it begins.
 pub fn run<R: Threads + Sync, G: Gate, L: Ledger>(
     rt: &R,
     alloc: Global,

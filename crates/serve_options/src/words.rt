@@ -58,7 +58,7 @@ pub(crate) fn command<'a>(alloc: Global) -> Result<Command<'a>, AllocError>
         "How many bytes of input are taken, from 0 to 9223372036854775807 [default: 1073741824]";
     let with_max_bytes = with_option(alloc, with_workers, "max-bytes", "N", max_bytes)?;
     let plan =
-        "How a pipeline runs: written or optimised; both run what was written as yet [default: optimised]";
+        "How a pipeline runs: written, as it stands, or optimised, by its plan [default: optimised]";
     let with_plan = with_option(alloc, with_max_bytes, "plan", "PLAN", plan)?;
     let mode = "What is done: serve, check or gen [default: serve]";
     let with_mode = with_option(alloc, with_plan, "mode", "MODE", mode)?;

@@ -10,5 +10,5 @@ abbrev pub invariant-loop-line : goal.invariant-loop-line
 invariant-loop-line g l = record {
   later : g.K.Sink.fault_count l.initial.output ≤ g.K.Sink.fault_count l.output;
   written : Writes (IsReplyOf l.replies.store.now) (shown_all (take l.line-index (map (λ line. line.now) l.line-items))) (g.K.Sink.held l.initial.output) (g.K.Sink.held l.output);
-  counted : Rises (BoundsLineOf l.replies.store.now) (shown_all (take l.line-index (map (λ line. line.now) l.line-items))) l.initial.steps l.steps;
+  counted : Rises (BoundsLineOf l.replies.is_optimised l.replies.store.now) (shown_all (take l.line-index (map (λ line. line.now) l.line-items))) l.initial.steps l.steps;
 }

@@ -19,7 +19,7 @@ loop-count-init g c = record {
   later_in = omega arith;
   later_out = omega arith;
   advanced =
-      let P : Kept → Type 0 = λ k. Advances (IsReplyOf c.args.replies.now.store.now) (BoundsLineOf c.args.replies.now.store.now) (g.S.Source.left c.args.input.now) (g.S.Source.left c.args.input.now) (g.K.Sink.held c.args.output.now) (g.K.Sink.held c.args.output.now) c.args.steps.now c.args.steps.now (nothing_kept c.args.line.now.limit) k 0 in
+      let P : Kept → Type 0 = λ k. Advances (IsReplyOf c.args.replies.now.store.now) (BoundsLineOf c.args.replies.now.is_optimised c.args.replies.now.store.now) (g.S.Source.left c.args.input.now) (g.S.Source.left c.args.input.now) (g.K.Sink.held c.args.output.now) (g.K.Sink.held c.args.output.now) c.args.steps.now c.args.steps.now (nothing_kept c.args.line.now.limit) k 0 in
       subst P (sym c.requires.empty) (Advances-nil _ _ _ _ _ (nothing_kept c.args.line.now.limit));
 }
 
@@ -57,7 +57,7 @@ returns-in-Err-clause-write g c = λ h.
 pub returns-in-Ok-answer_line-clause-ok : goal.returns-in-Ok-answer_line-clause-ok
 returns-in-Ok-answer_line-clause-ok g c =
     let long = subst (LongLines (IsReplyOf c.args.replies.now.store.now)) (sym c.in-Ok-eq0.ensures.limit) (long_lines c.args.replies.now.store.now.world (readings c.args.replies.now.store.now.customs)) in
-    let bound = subst (LongBounds (BoundsLineOf c.args.replies.now.store.now)) (sym c.in-Ok-eq0.ensures.limit) (long_costs c.args.replies.now.store.now.world (readings c.args.replies.now.store.now.customs)) in
+    let bound = subst (LongBounds (BoundsLineOf c.args.replies.now.is_optimised c.args.replies.now.store.now)) (sym c.in-Ok-eq0.ensures.limit) (long_costs c.args.replies.now.store.now.world (readings c.args.replies.now.store.now.customs) c.args.replies.now.is_optimised) in
     let last = Advances-more _ _ _ _ _ _ _ _ _ _ _ _ _ _ _ _ c.loop-count.invariant.advanced c.in-Ok-eq0.ensures.ok in
     let within = c.in-Ok-eq0.ensures.count in
     Responds-all _ _ _ _ _ _ _ _ _ _ _ _ _ _ (omega (arith, within, c.loop-count.invariant.within)) long bound last (rw c.whole.ensures at c.in-Ok-answer_line.ensures.ok) (rw c.whole.ensures at c.answer_line.ensures.counted)
@@ -65,7 +65,7 @@ returns-in-Ok-answer_line-clause-ok g c =
 pub returns-in-Err-answer_line-clause-write : goal.returns-in-Err-answer_line-clause-write
 returns-in-Err-answer_line-clause-write g c = λ _.
     let long = subst (LongLines (IsReplyOf c.args.replies.now.store.now)) (sym c.in-Ok-eq0.ensures.limit) (long_lines c.args.replies.now.store.now.world (readings c.args.replies.now.store.now.customs)) in
-    let bound = subst (LongBounds (BoundsLineOf c.args.replies.now.store.now)) (sym c.in-Ok-eq0.ensures.limit) (long_costs c.args.replies.now.store.now.world (readings c.args.replies.now.store.now.customs)) in
+    let bound = subst (LongBounds (BoundsLineOf c.args.replies.now.is_optimised c.args.replies.now.store.now)) (sym c.in-Ok-eq0.ensures.limit) (long_costs c.args.replies.now.store.now.world (readings c.args.replies.now.store.now.customs) c.args.replies.now.is_optimised) in
     let last = Advances-more _ _ _ _ _ _ _ _ _ _ _ _ _ _ _ _ c.loop-count.invariant.advanced c.in-Ok-eq0.ensures.ok in
     let within = c.in-Ok-eq0.ensures.count in
     RespondsInPart-last _ _ _ _ _ _ _ _ _ _ _ _ _ _ _ (omega (arith, within, c.loop-count.invariant.within)) (c.in-Ok-eq0.ensures.end (omega arith)) long bound last (rw c.whole.ensures at c.in-Err-answer_line.ensures.err) (rw c.whole.ensures at c.answer_line.ensures.counted)

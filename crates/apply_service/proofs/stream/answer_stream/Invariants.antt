@@ -13,7 +13,7 @@ invariant-loop-count g l = record {
   limit : l.line.limit ≡ line_limit;
   later_in : g.S.Source.fault_count l.initial.input ≤ g.S.Source.fault_count l.input;
   later_out : g.K.Sink.fault_count l.initial.output ≤ g.K.Sink.fault_count l.output;
-  advanced : Advances (IsReplyOf l.replies.store.now) (BoundsLineOf l.replies.store.now) (g.S.Source.left l.initial.input) (g.S.Source.left l.input) (g.K.Sink.held l.initial.output) (g.K.Sink.held l.output) l.initial.steps l.steps (nothing_kept l.initial.line.limit) l.line l.taken;
+  advanced : Advances (IsReplyOf l.replies.store.now) (BoundsLineOf l.replies.is_optimised l.replies.store.now) (g.S.Source.left l.initial.input) (g.S.Source.left l.input) (g.K.Sink.held l.initial.output) (g.K.Sink.held l.output) l.initial.steps l.steps (nothing_kept l.initial.line.limit) l.line l.taken;
 }
 
 abbrev pub decreases-loop-count : goal.decreases-loop-count

@@ -1,5 +1,4 @@
 use Rattle.std.proofs.Common.{◌≡◌, ◌+◌, ◌∙◌, arith, ap, sym, subst, refl}
-use Rattle.std.specs.Prelude.{All}
 use Rattle.edm_data.specs.References.{count}
 use Rattle.apply_ast.specs.Views.{pipe_of}
 use Rattle.context_typing.specs.Readings.{readings}
@@ -8,35 +7,40 @@ use Rattle.context_typing.specs.declared.typed.Typed.{Typed}
 use Rattle.apply_meaning.specs.Instances as instances
 use Rattle.apply_meaning.specs.Meaning.{mean}
 use Rattle.apply_meaning.specs.Running.{Gives}
-use Rattle.optimiser.specs.Plans.{own_of}
+use Rattle.optimiser.specs.Plans.{own_of, written_of}
 use Rattle.hier_states.specs.NamedHierarchies.{hierarchies}
-use Rattle.hier_states.specs.States.{IsReadyAt}
 use Rattle.plan_run.specs.Conditions.{AreReady}
 use Rattle.plan_run.specs.Contexts.{Context}
 use Rattle.plan_run.specs.Costs.{cost, total_cost}
-use Rattle.plan_run.proofs.PlanLemmas.{plan-means, runs-as}
+use Rattle.plan_run.proofs.PlanLemmas.{runs-as}
 use Rattle.plan_run.proofs.runs.run.Goals as goal
+
+pub plan_ready-requires-clause-named : goal.plan_ready-requires-clause-named
+plan_ready-requires-clause-named g c κs within =
+    subst (λ (x : Context). AreReady x (hierarchies (pipe_of (written_of c.args.plan.now).pipe))) (sym c.new-context.ensures) c.requires.ready
 
 pub run_pipe-requires-clause-named : goal.run_pipe-requires-clause-named
 run_pipe-requires-clause-named g c κs within =
-    let named = subst (λ p. All (IsReadyAt c.args.store.now c.args.hiers.now) (hierarchies p)) (sym c.requires.plan.pipe ∙ ap (λ (t : Typed). pipe_of t.pipe) (sym c.typed-typed.ensures)) c.requires.ready in
-    subst (λ (x : Context). AreReady x (hierarchies (pipe_of c.typed-typed.result.now.pipe))) (sym c.new-context.ensures) named
+    subst (λ (t : Typed). AreReady c.new-context.result (hierarchies (pipe_of t.pipe))) (sym c.typed-typed.ensures) c.plan_ready.ensures.named
 
 pub returns-clause-mean : goal.returns-clause-mean
 returns-clause-mean g c =
     let w = c.args.store.now in
     let cs = readings c.args.c.now in
     let own = own_of c.args.plan.now in
+    let written = written_of c.args.plan.now in
     let e = c.typed-typed.ensures in
     let S = shape_of_set w.model own.set in
     let l = c.in_ok-rows.rows.items in
     let x = c.new-context.result in
     let p = pipe_of c.typed-typed.result.now.pipe in
-    let runs = runs-as x (shape_of_set x.world.model own.set) own.shape own c.typed-typed.result.now l e c.plan_ready.ensures in
+    let runs = runs-as x (shape_of_set x.world.model own.set) own.shape own c.typed-typed.result.now l e c.plan_ready.ensures.runs in
     let given = c.run_pipe.ensures.mean (shape_of_set x.world.model own.set) own.shape runs in
+    let means = subst (λ (x : Context). mean x.world (readings x.customs) (shape_of_set x.world.model own.set) (pipe_of own.pipe) (instances.rows x.world own.set)
+    ≡ mean x.world (readings x.customs) (shape_of_set x.world.model written.set) (pipe_of written.pipe) (instances.rows x.world written.set)) c.new-context.ensures c.plan_ready.ensures.means in
     let same = ap (λ (t : Typed). mean w cs S (pipe_of t.pipe) l) e
     ∙ ap (mean w cs S (pipe_of own.pipe)) (c.in_ok-rows.ensures.rows ∙ ap (λ (t : Typed). instances.rows w t.set) e)
-    ∙ plan-means w cs c.args.plan.now c.requires.plan in
+    ∙ means in
     subst (Gives c.run_pipe.result) same (subst (λ (x : Context). Gives c.run_pipe.result (mean x.world (readings x.customs) (shape_of_set x.world.model own.set) p l)) c.new-context.ensures given)
 
 pub returns-clause-steps : goal.returns-clause-steps
@@ -49,7 +53,7 @@ returns-clause-steps g c =
     let l = c.in_ok-rows.rows.items in
     let x = c.new-context.result in
     let p = pipe_of c.typed-typed.result.now.pipe in
-    let runs = runs-as x (shape_of_set x.world.model own.set) own.shape own c.typed-typed.result.now l e c.plan_ready.ensures in
+    let runs = runs-as x (shape_of_set x.world.model own.set) own.shape own c.typed-typed.result.now l e c.plan_ready.ensures.runs in
     let spent = c.run_pipe.ensures.steps (shape_of_set x.world.model own.set) own.shape runs in
     let made = c.set_rows.ensures.steps in
     let same = ap (λ (x : Context). cost x.world (readings x.customs) (shape_of_set x.world.model own.set) p l) c.new-context.ensures in
