@@ -10,10 +10,10 @@ use crate::rules::{
     key_demand, property_demand, reference_demand, root_demand, schema_member_demand, set_demand,
     type_member_demand,
 };
-use crate::values::shown_text;
+use crate::values::{shown_text, shown_value};
 use edm_model::{MODEL_LIMIT, ModelRefused, read_model};
-use edm_schema::read_schema;
-use model_diagnosis::{Fault, SetTest, TypeFault, first_fault};
+use edm_schema::{Member, Schema, read_schema};
+use model_diagnosis::{Fault, PropertyTest, SetTest, TypeFault, first_fault};
 use serde_json::Value;
 use std::alloc::{AllocError, Global};
 
@@ -204,6 +204,44 @@ fn fault_text(alloc: Global, fault: &Fault<'_>) -> Result<String, AllocError> {
     }
 }
 
+/// The `$Type` of the member of this name, where it stands.
+fn type_in<'v>(members: &[Member<'v>], name: &str) -> Option<&'v Value> {
+    let member = members.iter().find(|m| m.name == name)?;
+    member.value.get("$Type")
+}
+
+/// The `$Type` that is at fault, if one is and it stands there.
+fn told_type<'v>(schema: &Schema<'v>, fault: &Fault<'_>) -> Option<&'v Value> {
+    match fault {
+        Fault::Type(
+            owner,
+            TypeFault::Target(name) | TypeFault::Property(name, PropertyTest::TypeName),
+        ) => {
+            let entity_type = schema.types.iter().find(|t| t.name == *owner)?;
+            type_in(entity_type.members.as_slice(), name)
+        }
+        Fault::Set(name, SetTest::Type) => type_in(schema.sets.as_slice(), name),
+        _ => None,
+    }
+}
+
+/// What is at fault, with the `$Type` that stands there where that is at fault: a set's name in place of its type's is a common
+/// slip.
+fn shown_fault(
+    alloc: Global,
+    schema: &Schema<'_>,
+    fault: &Fault<'_>,
+) -> Result<String, AllocError> {
+    let text = fault_text(alloc, fault)?;
+    match told_type(schema, fault) {
+        Some(value) => {
+            let value = shown_value(alloc, value)?;
+            format!(in alloc; "{text}, and is {value}")
+        }
+        None => Ok(text),
+    }
+}
+
 /// Which rule a model file breaks, and where; nothing where that is not found.
 fn rule_reason(alloc: Global, bytes: &[u8]) -> Result<Option<String>, AllocError>
     ensures { IfOk result (λ o. IsNone o → model_reading bytes.now ≢ ModelReading.NoModel) }
@@ -213,7 +251,7 @@ fn rule_reason(alloc: Global, bytes: &[u8]) -> Result<Option<String>, AllocError
     };
     let schema = read_schema(alloc, &root)?;
     match first_fault(alloc, &schema)? {
-        Some(fault) => Ok(Some(fault_text(alloc, &fault)?)),
+        Some(fault) => Ok(Some(shown_fault(alloc, &schema, &fault)?)),
         None => Ok(None),
     }
 }
