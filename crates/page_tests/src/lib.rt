@@ -1,10 +1,11 @@
 //! Tests of the pages, that what README.md and docs/ show is so, and of what standard error is told.
 //!
 //! `readme` and `first_model` have the files, requests and answers of the pages of these names, `mistakes` the mistakes in the
-//! sample's files that docs/mistakes.md lists, with what is told of them, and `request_lines` the lines that docs/grammar.md
-//! lists. These four are made of the pages by the script docs/examples, which also says whether they still have what the pages
-//! show; `pages` runs them. `messages` has what standard error is told of runs that no page shows, and `options` what the words of
-//! the command (`serve_options`) are read as, and what is told of wrong ones.
+//! sample's files that docs/mistakes.md lists, with what is told of them, `request_lines` the lines that docs/grammar.md
+//! lists, and `requests` the requests of docs/requests.md with their responses. These five are made of the pages by the script
+//! docs/examples, which also says whether they still have what the pages show; `pages` runs them. `messages` has what standard
+//! error is told of runs that no page shows, and `options` what the words of the command (`serve_options`) are read as, and what
+//! is told of wrong ones.
 #![tactic(auto)]
 
 #[cfg(test)]
@@ -21,3 +22,5 @@ mod pages;
 mod readme;
 #[cfg(test)]
 mod request_lines;
+#[cfg(test)]
+mod requests;

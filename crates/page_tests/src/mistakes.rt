@@ -106,7 +106,7 @@ pub(crate) const IN_MODEL_1: &[(&str, &str, &str)] = &[
     (
         "\"Edm.Int64\"",
         "\"Int64\"",
-        "entity type \"Sale\": property \"ID\": \"$Type\" must be Edm.Int64, Edm.Decimal, Edm.String, Edm.Date or Edm.Boolean (rule 4)",
+        "entity type \"Sale\": property \"ID\": \"$Type\" must be Edm.Int64, Edm.Decimal, Edm.String, Edm.Date or Edm.Boolean (rule 4), and is \"Int64\"",
     ),
 ];
 
@@ -115,7 +115,7 @@ pub(crate) const IN_MODEL_2: &[(&str, &str, &str)] = &[
     (
         "\"Edm.Date\"",
         "\"Edm.DateTimeOffset\"",
-        "entity type \"Customer\": property \"Since\": \"$Type\" must be Edm.Int64, Edm.Decimal, Edm.String, Edm.Date or Edm.Boolean (rule 4)",
+        "entity type \"Customer\": property \"Since\": \"$Type\" must be Edm.Int64, Edm.Decimal, Edm.String, Edm.Date or Edm.Boolean (rule 4), and is \"Edm.DateTimeOffset\"",
     ),
     (
         "\"Edm.Date\"",
@@ -165,7 +165,7 @@ pub(crate) const IN_MODEL_2: &[(&str, &str, &str)] = &[
     (
         "\"$Type\":\"W.Customer\",\"$Partner\"",
         "\"$Type\":\"Customer\",\"$Partner\"",
-        "entity type \"Sale\": navigation property \"Customer\": \"$Type\" must be the namespace, a point and the name of an entity type of the schema (rule 6)",
+        "entity type \"Sale\": navigation property \"Customer\": \"$Type\" must be the namespace, a point and the name of an entity type of the schema (rule 6), and is \"Customer\"",
     ),
     (
         "\"$Type\":\"W.Customer\",\"$Partner\"",
@@ -175,7 +175,7 @@ pub(crate) const IN_MODEL_2: &[(&str, &str, &str)] = &[
     (
         "\"$Type\":\"W.Org\",\"$Nullable\":true,\"$ReferentialConstraint\":{\"OrgID\":\"ID\"}",
         "\"$Type\":\"W.Orgs\",\"$Nullable\":true,\"$ReferentialConstraint\":{\"OrgID\":\"ID\"}",
-        "entity type \"Sale\": navigation property \"Org\": \"$Type\" must be the namespace, a point and the name of an entity type of the schema (rule 6)",
+        "entity type \"Sale\": navigation property \"Org\": \"$Type\" must be the namespace, a point and the name of an entity type of the schema (rule 6), and is \"W.Orgs\"",
     ),
     (
         "\"$Kind\":\"NavigationProperty\",\"$Type\":\"W.Customer\"",
@@ -269,7 +269,7 @@ pub(crate) const IN_MODEL_3: &[(&str, &str, &str)] = &[
     (
         "\"Orgs\":{\"$Collection\":true,\"$Type\":\"W.Org\"}",
         "\"Orgs\":{\"$Collection\":true,\"$Type\":\"Org\"}",
-        "entity set \"Orgs\": \"$Type\" must be the namespace, a point and the name of an entity type of the schema (rule 9)",
+        "entity set \"Orgs\": \"$Type\" must be the namespace, a point and the name of an entity type of the schema (rule 9), and is \"Org\"",
     ),
     (
         "\"Orgs\":{\"$Collection\":true,",

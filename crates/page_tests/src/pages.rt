@@ -3,6 +3,7 @@ use crate::mistakes::{
     DATA, IN_DATA_1, IN_DATA_2, IN_MODEL_1, IN_MODEL_2, IN_MODEL_3, IN_MODEL_4, IN_MODEL_5, MODEL,
 };
 use crate::request_lines::{NO_REQUESTS, REFUSED};
+use crate::requests::{EXAMPLES, RESPONSES};
 use crate::{first_model, readme};
 use apply_io::MemFolder;
 use apply_service::Status;
@@ -143,6 +144,15 @@ fn mistakes_in_a_data_file_are_told_as_shown(rt: HostRuntime) -> Result<(), Fail
 fn answer<R: Threads + Sync>(rt: &R, alloc: Global, line: &str) -> Result<String, Fail> {
     let run = outcome(rt, alloc, &plain(MODEL, DATA, line.as_bytes(), &[]))?;
     Ok(String::from_utf8(run.output).unwrap_or(String::new(alloc)))
+}
+
+#[test]
+fn requests_worth_copying_are_answered_as_shown(rt: HostRuntime) -> Result<(), Fail> {
+    let case = plain(MODEL, DATA, EXAMPLES.as_bytes(), &[]);
+    let run = outcome(&rt, rt.alloc(), &case)?;
+    assert_eq!(rt; run.status, Status::Served);
+    assert_eq!(rt; run.output.as_slice(), RESPONSES.as_bytes());
+    Ok(())
 }
 
 /// The code and the body of an answer.

@@ -69,8 +69,9 @@ S?$apply=topsum(10,Amount) => topsum(10,Amount)
 #[test]
 fn what_is_read_is_printed(rt: HostRuntime) {
     for row in PRINTED.lines() {
-        if let Some((line, text)) = row.split_once(" => ") {
-            assert!(rt; prints(&rt, line, text), "{line}");
+        match row.split_once(" => ") {
+            Some((line, text)) => assert!(rt; prints(&rt, line, text), "{line}"),
+            None => assert!(rt; row.is_empty(), "no row: {row}"),
         }
     }
     assert!(rt;

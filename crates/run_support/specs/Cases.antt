@@ -24,6 +24,6 @@ case_folder case = record { files = case_files case; fails = failing_calls case.
 abbrev pub case_source : Case → List ℕ → SourceState
 case_source case bytes = record { left = bytes; most = max case.most 1; fails = failing_calls case.input_fails; calls = 0; faults = 0 }
 
--- the sink, empty and with room for 4096 bytes, before its first call
+-- the sink, empty and with room for 16384 bytes, before its first call
 abbrev pub case_sink : Case → SinkState
-case_sink case = record { held = []; room = 4096; most = max case.most 1; fails = failing_calls case.output_fails; calls = 0; faults = 0 }
+case_sink case = record { held = []; room = 16384; most = max case.most 1; fails = failing_calls case.output_fails; calls = 0; faults = 0 }

@@ -126,7 +126,7 @@ pub fn outcome_over<R: Threads + Sync, S: Source>(
 {
     let mut folder = MemFolder::new(files(alloc, case)?, only(alloc, case.folder_fails)?);
     let most = case.most.max(1);
-    let mut output = MemSink::new(alloc, 4096, most, only(alloc, case.output_fails)?)?;
+    let mut output = MemSink::new(alloc, 16_384, most, only(alloc, case.output_fails)?)?;
     let status = serve_counted::<_, _, _, _, Brand>(
         rt,
         alloc,

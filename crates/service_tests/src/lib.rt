@@ -1,8 +1,8 @@
 //! Tests of the service: the worked rows through `serve` (`apply_service`), over objects in memory.
 //!
 //! `worlds` has the files and lines that tests share, and `run_support` runs the service over them; `lines` has requests with their
-//! responses, `files` refused files with their lines, `words` the words of the command, `modes` what each mode writes, `sizes`
-//! requests over many rows, `deep` a hierarchy as deep as it has nodes, and `ends` how runs end.
+//! responses, `plans` requests for plans, `files` refused files with their lines, `words` the words of the command, `modes`
+//! what each mode writes, `sizes` requests over many rows, `deep` a hierarchy as deep as it has nodes, and `ends` how runs end.
 #![tactic(auto)]
 
 #[cfg(test)]
@@ -15,6 +15,8 @@ mod files;
 mod lines;
 #[cfg(test)]
 mod modes;
+#[cfg(test)]
+mod plans;
 #[cfg(test)]
 mod sizes;
 #[cfg(test)]

@@ -48,7 +48,7 @@ fn each_line_is_answered_by_the_first_reason_that_holds(rt: HostRuntime) -> Resu
         ),
         (
             b"explain Sales?$apply=aggregate(Amount with sum as T)\n".as_slice(),
-            b"501 68\n{\"error\":{\"code\":\"NotBuilt\",\"message\":\"this form is not built yet\"}}\n".as_slice(),
+            b"200 42\n{\"plan\":\"aggregate(Amount with sum as T)\"}\n".as_slice(),
         ),
         (
             b"explain Sales?$apply=filter(null)\n".as_slice(),
@@ -451,13 +451,13 @@ const ANSWERS: &[(&str, &str, &str)] = &[
     ),
     (
         "explain Sales?$apply=groupby((ID))",
-        "501",
-        "{\"error\":{\"code\":\"NotBuilt\",\"message\":\"this form is not built yet\"}}",
+        "200",
+        "{\"plan\":\"groupby((ID))\"}",
     ),
     (
         "explain Sales?$apply=identity",
-        "501",
-        "{\"error\":{\"code\":\"NotBuilt\",\"message\":\"this form is not built yet\"}}",
+        "200",
+        "{\"plan\":\"identity\"}",
     ),
 ];
 
@@ -520,8 +520,8 @@ const BY_NODES: &[(&str, &str, &str)] = &[
     ),
     (
         "explain Sales?$apply=groupby((rolluprecursive($root/Orgs,OrgTree,OrgID)),aggregate(Amount with sum as T))",
-        "501",
-        "{\"error\":{\"code\":\"NotBuilt\",\"message\":\"this form is not built yet\"}}",
+        "200",
+        "{\"plan\":\"groupby((rolluprecursive($root/Orgs,OrgTree,OrgID)),aggregate(Amount with sum as T))\"}",
     ),
 ];
 
@@ -544,8 +544,8 @@ const CYCLIC: &[(&str, &str, &str)] = &[
     ),
     (
         "explain Sales?$apply=groupby((rolluprecursive($root/Orgs,OrgTree,OrgID)),aggregate(Amount with sum as T))",
-        "501",
-        "{\"error\":{\"code\":\"NotBuilt\",\"message\":\"this form is not built yet\"}}",
+        "200",
+        "{\"plan\":\"groupby((rolluprecursive($root/Orgs,OrgTree,OrgID)),aggregate(Amount with sum as T))\"}",
     ),
     (
         "Sales?$apply=filter(Nope eq 1)/traverse($root/Orgs,OrgTree,OrgID,preorder)",
@@ -597,8 +597,8 @@ const LOOPED: &[(&str, &str, &str)] = &[
     ),
 ];
 
-/// Compares the responses to requests over a model and its data.
-fn expect_answers<'a, R: Threads + Sync + Abort>(
+/// Compares the responses to requests over a model and its data, by their plans and as they are written.
+pub(crate) fn expect_answers<'a, R: Threads + Sync + Abort>(
     rt: &R,
     alloc: Global,
     model: &'a str,
@@ -606,17 +606,23 @@ fn expect_answers<'a, R: Threads + Sync + Abort>(
     answers: &'a [(&'a str, &'a str, &'a str)],
 ) -> Result<(), Fail> {
     for (line, code, body) in answers {
-        let case = Case {
-            model,
-            data,
-            input: line.as_bytes(),
-            ..PLAIN
-        };
         let length = body.len();
         let expected = format!(in alloc; "{code} {length}\n{body}\n")?;
-        let ran = outcome(rt, alloc, &case)?;
-        assert_eq!(rt; ran.status, Status::Served);
-        assert_eq!(rt; ran.output.as_slice(), expected.as_bytes(), "{line}");
+        for words in [
+            ["--plan", "optimised"].as_slice(),
+            ["--plan", "written"].as_slice(),
+        ] {
+            let case = Case {
+                model,
+                data,
+                input: line.as_bytes(),
+                words,
+                ..PLAIN
+            };
+            let ran = outcome(rt, alloc, &case)?;
+            assert_eq!(rt; ran.status, Status::Served);
+            assert_eq!(rt; ran.output.as_slice(), expected.as_bytes(), "{line}");
+        }
     }
     Ok(())
 }

@@ -83,7 +83,7 @@ fn expect_rows(
 }
 
 /// All custom aggregates of a model, with their typing.
-fn typed_customs(alloc: Global, m: &Model) -> Result<Customs, Fail>
+pub(crate) fn typed_customs(alloc: Global, m: &Model) -> Result<Customs, Fail>
     ensures over { IfOk result (AreTypedOver m.now) }
     ensures whole { IfOk result (λ c. IsTrue (customs_typed m.now (readings c))) }
 {
