@@ -2,8 +2,8 @@
 
 A request is a line, or a pipeline over the sales, beside a statement of SQLite that is meant to say the same. The kinds
 differ in the numbers of sales over which they are timed. Rows and joins take time that grows with the rows that they
-read and make. Groupings search a table of keys from its front, so that their time grows with the rows times the groups;
-`group_keys` has a group for each sale. Recursive rollups go through the rows once for each node that is shown.
+read and make. Groupings find a key by its hash, so that theirs grows with the rows; `group_keys` has a group for each sale.
+Recursive rollups take time that grows with the rows at or below each node that is shown.
 
 The time of an answer is that of a run over K + 1 copies of the line less that of a run over one, by K, each the best of
 three runs.
