@@ -4,7 +4,7 @@ use Rattle.std.specs.Prelude.{◌⊎◌, All, slice_get, slice_index, if◌then�
 use Rattle.std.specs.List.{list_any}
 use Rattle.std.specs.Global.{Vec}
 use Rattle.std.proofs.Math.Seq.{take-append_seam}
-use Rattle.std.proofs.lemmas.Bool.{true≢false, cases_eq}
+use Rattle.std.proofs.lemmas.Bool.{true≢false, cases_eq, not-true, not-false}
 use Rattle.std.proofs.lemmas.List.{append-nil, get_or-map, get_or_append_left, get_or_default, get_or_push, get_or_read, length-map, map-append, take_all, take_more}
 use Rattle.std.proofs.lemmas.List.Elements.{All-cons, All-head, All-nil, All-tail, All-filter, filter_passes}
 use Rattle.std.proofs.lemmas.Option.{slice_get_within, slice_get-get_or, slice_get-map}
@@ -90,12 +90,8 @@ module _ {X : Type 0} (eq : X → X → Bool) (t : TestsEquality eq) where
   distinct-images same s f [] = refl
   distinct-images same s f (y ∷ ys) =
       ap (λ l. f y ∷ l)
-      (others-stay f (f y) (λ z. not (same y z)) (λ z out. ap f (sym (s.same y z (kept (same y z) out)))) (distinct same ys)
+      (others-stay f (f y) (λ z. not (same y z)) (λ z out. ap f (sym (s.same y z (not-false (same y z) out)))) (distinct same ys)
       ∙ ap (filter (λ x. not (eq (f y) x))) (distinct-images same s f ys))
-    where
-      kept : (b : Bool) → not b ≡ false → b ≡ true
-      kept true h = refl
-      kept false h = absurd (true≢false h)
 
 -- ---- no key list twice
 
@@ -106,10 +102,6 @@ apart-filter p (k ∷ ks) a = go (p k) (apart-filter p ks a.1)
     go : (b : Bool) → IsApart (filter p ks) → IsApart (cond b (k ∷ filter p ks) (filter p ks))
     go true r = (All-filter p (λ l. same_keys k l ≡ false) ks a.0, r)
     go false r = r
-
-not-true : (b : Bool) → not b ≡ true → b ≡ false
-not-true true h = absurd (true≢false (sym h))
-not-true false h = refl
 
 pub distinct-apart : (ks : List (List Value)) → IsApart (distinct same_keys ks)
 distinct-apart [] = tt

@@ -1,13 +1,14 @@
 -- What has a text can be written.
-use Rattle.std.proofs.Common.{◌≡◌, refl, sym, ◌∙◌, ap, subst, ℕ, zero, suc, ◌<◌, ◌≤◌, nat_le, nat_eq, eqb-true, Bool, true, false, ◌&&◌, List, [], ◌∷◌, ◌++◌, length, codes, arith, ℤ, Option, Some, None, inl, inr}
+use Rattle.std.proofs.Common.{◌≡◌, refl, sym, subst, ℕ, zero, suc, ◌<◌, ◌≤◌, nat_le, Bool, true, false, ◌&&◌, List, [], ◌∷◌, ◌++◌, length, codes, arith, ℤ, Option, Some, None, inl, inr}
 use Rattle.std.specs.List.{list_all}
 use Rattle.std.specs.Str.Parse.{digits_value}
 use Rattle.std.proofs.lemmas.Bool.{le-leb, and_from}
 use Rattle.edm_values.specs.Values.{integer_max}
 use Rattle.edm_values.specs.Parts.{mantissa_max, scale_max}
-use Rattle.edm_values.specs.Lists.{is_nonempty, same_text}
+use Rattle.edm_values.specs.Lists.{is_nonempty}
 use Rattle.edm_values.specs.Names.{Name, Path, is_name}
 use Rattle.edm_values.proofs.EachLemmas.{and-left, and-right}
+use Rattle.edm_values.proofs.SameTexts.{same_texts}
 use Rattle.apply_ast.specs.Trees.{Expr, Named, OrderItem, AggItem, HierName, NumberLiteral, Limit, Pipe, Step, OptPipe, Pipes, Key, Keys, is_int_literal, is_dec_literal, is_long, is_distance}
 use Rattle.apply_ast.specs.Grammar.{Language, word, comma, wrapped, listed, each_behind, name_text, path_text, int_text, dec_text, bare, expr_text, as_text, named_text, item_text, agg_text, hier_text, limit_text, distance_text, Text, rest_text, inner_text, more_branches_text, branches_text, key_text, more_keys_text, keys_text, step_text, is_path, expr_writable, named_writable, item_writable, agg_writable, hier_writable, limit_writable, steps_writable, inner_writable, branches_writable, key_writable, keys_writable, step_writable, has_two, has_key}
 use Rattle.apply_ast.specs.AstLaws.{TextsAreWritable}
@@ -88,12 +89,6 @@ whole_writable e t h = let x = unwrapped h.pairs (bare e) t h.of in bare_writabl
 
 -- ---- items
 
-same_is : (a b : List ℕ) → same_text a b ≡ true → a ≡ b
-same_is [] [] h = refl
-same_is [] (y ∷ ys) h = cc
-same_is (x ∷ xs) [] h = cc
-same_is (x ∷ xs) (y ∷ ys) h = ap (λ z. z ∷ xs) (eqb-true x y (and-left (nat_eq x y) (same_text xs ys) h)) ∙ ap (λ zs. y ∷ zs) (same_is xs ys (and-right (nat_eq x y) (same_text xs ys) h))
-
 named_is : (x : Named) (t : List ℕ) → named_text x t → named_writable x ≡ true
 named_is x t h = and_from (expr_writable x.expr) (is_name x.name) (whole_writable x.expr h.left h.first) (as_writable x.name h.right h.second)
 
@@ -106,7 +101,7 @@ agg_is (AggItem.Standard e f a) t h =
     and_from (expr_writable e) (is_name a) (whole_writable e h.left h.first) (as_writable a h.second.second.second.second.right h.second.second.second.second.second)
 agg_is (AggItem.Custom n a) t h =
     and_from (is_name n) (is_name a) h.first.0
-    (elim h.second [ inl x ↦ as_writable a h.right x | inr x ↦ subst (λ z. is_name z ≡ true) (same_is n a x.0) h.first.0 ])
+    (elim h.second [ inl x ↦ as_writable a h.right x | inr x ↦ subst (λ z. is_name z ≡ true) (same_texts n a x.0) h.first.0 ])
 
 hier_is : (x : HierName) (t : List ℕ) → hier_text x t → hier_writable x ≡ true
 hier_is x t h = and_from (is_name x.set) (is_name x.qualifier) h.second.first.0 h.second.second.second.0

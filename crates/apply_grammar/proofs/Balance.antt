@@ -2,7 +2,7 @@
 use Rattle.std.proofs.Common.{◌≡◌, ℕ, suc, ◌+◌, ◌<◌, ◌≤◌, ◌==◌, nat_le, Bool, true, false, not, cond, ◌&&◌, List, [], ◌∷◌, ◌++◌, length, take, drop, get_or, IsUtf8, refl, sym, ap, subst, ◌∙◌, append_assoc, append-nil, arith, eqb-true}
 use Rattle.std.specs.Prelude.{count_by}
 use Rattle.std.specs.List.{list_all}
-use Rattle.std.proofs.lemmas.Bool.{leb-true, and_from}
+use Rattle.std.proofs.lemmas.Bool.{leb-true, and_from, not-true, and_parts}
 use Rattle.std.proofs.lemmas.List.{length-append}
 use Rattle.std.proofs.lemmas.List.Sums.{sum_by-cons, sum_by-append}
 use Rattle.std.proofs.Math.Seq.{take-append_seam}
@@ -10,7 +10,6 @@ use Rattle.std.proofs.lemmas.Str.{IsUtf8-append, IsUtf8-take, IsUtf8-drop, IsUtf
 use Rattle.std.proofs.lemmas.Str.Ascii.{IsAscii-nil, IsAscii-cons}
 use Rattle.apply_ast.specs.Printing.{quoted}
 use Rattle.apply_grammar.specs.Limits.{outside, IsShallow}
-use Rattle.apply_grammar.proofs.Runs.{and_parts, not_true}
 use Rattle.apply_grammar.proofs.Leaves.{doubled}
 
 -- ---- parentheses outside of string literals
@@ -133,7 +132,7 @@ plain_byte b h =
     let x = and_parts _ _ h in
     let y = and_parts _ _ x.0 in
     let z = and_parts _ _ y.0 in
-    record { small = omega (arith, leb-true b 127 z.0); no_quote = not_true _ z.1; no_open = not_true _ y.1; no_close = not_true _ x.1 }
+    record { small = omega (arith, leb-true b 127 z.0); no_quote = not-true _ z.1; no_open = not-true _ y.1; no_close = not-true _ x.1 }
 
 plain_outside : (t r : List ℕ) → list_all is_plain t ≡ true → outside false (t ++ r) ≡ t ++ outside false r
 plain_outside [] r h = refl

@@ -1,13 +1,13 @@
 -- Runs of bytes by index, as a loop finds them.
 use Rattle.std.proofs.Common.{◌≡◌, ℕ, zero, suc, ◌+◌, ◌-◌, ◌*◌, ◌<◌, ◌≤◌, Bool, true, false, not, List, [], ◌∷◌, length, take, drop, get_or, nat_le, Some, None, refl, sym, ap, subst, ◌∙◌, arith, take-append-drop, drop-cons, eq-eqb}
-use Rattle.std.proofs.lemmas.Bool.{ne_eqb, leb-true, le-leb, lt-leb, le-ltb, lt-ltb}
+use Rattle.std.proofs.lemmas.Bool.{ne_eqb, leb-true, le-leb, lt-leb, le-ltb, lt-ltb, and_parts}
 use Rattle.std.specs.Str.Parse.{digits_value_after}
 use Rattle.std.proofs.lemmas.List.{append-nil}
 use Rattle.std.specs.Char.{digit_value, is_ascii_digit}
 use Rattle.std.specs.List.{list_all}
 use Rattle.edm_values.proofs.DigitLaws.{value_front}
 use Rattle.apply_grammar.specs.Reading.{run, after, value_behind}
-use Rattle.apply_grammar.proofs.Runs.{stops, run_front, run_is, and_parts}
+use Rattle.apply_grammar.proofs.Runs.{stops, run_front, run_is}
 
 stop_at : (p : ℕ → Bool) (t : List ℕ) (i : ℕ) → i < length t → p (get_or t i 0) ≡ false → stops p (drop i t) ≡ true
 stop_at p t i h e = rw (drop-cons t i 0 h) (ap not e)

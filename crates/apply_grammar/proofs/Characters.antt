@@ -3,15 +3,13 @@ use Rattle.std.proofs.Common.{◌≡◌, ℕ, ◌<◌, ◌==◌, nat_le, true, L
 use Rattle.std.specs.List.{list_all}
 use Rattle.std.specs.Int.{is_in_range}
 use Rattle.std.specs.Str.{is_utf8, IsAscii}
-use Rattle.std.proofs.lemmas.Bool.{leb-true, false_from_ne_true}
+use Rattle.std.proofs.lemmas.Bool.{leb-true, false_from_ne_true, or_cases, and_parts}
 use Rattle.std.proofs.lemmas.Str.{IsUtf8-from_ascii, IsUtf8-from_is_utf8, is_utf8-from_IsUtf8}
 use Rattle.std.proofs.lemmas.Str.Ascii.{IsAscii-nil, IsAscii-cons}
 use Rattle.edm_values.specs.Names.{goes_on_name}
 use Rattle.apply_ast.specs.Trees.{Expr}
 use Rattle.apply_grammar.specs.Limits.{served}
 use Rattle.apply_grammar.specs.Reading.{quote_at, text_at}
-use Rattle.apply_grammar.proofs.Runs.{and_parts}
-use Rattle.apply_grammar.proofs.Leaves.{or_cases}
 
 in_range_ascii : (lo hi b : ℕ) → hi < 128 → is_in_range lo hi b ≡ true → b < 128
 in_range_ascii lo hi b l h = let q = and_parts (nat_le lo b) (nat_le b hi) h in omega (arith, leb-true b hi q.1)

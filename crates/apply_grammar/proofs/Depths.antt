@@ -5,7 +5,7 @@ use Rattle.std.specs.List.{list_all}
 use Rattle.std.specs.Str.Parse.{digits_value, AllDigits}
 use Rattle.std.specs.Char.{is_ascii_digit, digit_value}
 use Rattle.std.specs.Int.{is_in_range}
-use Rattle.std.proofs.lemmas.Bool.{leb-true, le-leb, and_from}
+use Rattle.std.proofs.lemmas.Bool.{leb-true, le-leb, and_from, or_cases, and_parts}
 use Rattle.std.proofs.lemmas.Str.{is_utf8-from_IsUtf8}
 use Rattle.edm_values.specs.Names.{Name, Path, goes_on_name}
 use Rattle.edm_values.specs.Values.{integer_max}
@@ -21,8 +21,7 @@ use Rattle.apply_grammar.specs.Limits.{IsShallow, operations, is_small, Bounds}
 use Rattle.apply_grammar.specs.Reading.{is_literal}
 use Rattle.apply_grammar.proofs.Nested as nested
 use Rattle.apply_grammar.proofs.Nested.{inside, SmallExpr}
-use Rattle.apply_grammar.proofs.Runs.{and_parts}
-use Rattle.apply_grammar.proofs.Leaves.{or_cases, name_parts, all_digits}
+use Rattle.apply_grammar.proofs.Leaves.{name_parts, all_digits}
 use Rattle.std.proofs.lemmas.Str.Parse.{digit_at}
 use Rattle.std.proofs.Math.Dec.{leb-zero}
 use Rattle.std.specs.Str.{is_utf8}

@@ -9,8 +9,9 @@ use Rattle.apply_ast.specs.Grammar.{Language, word, ◌·◌, close, comma, noth
 use Rattle.apply_grammar.specs.Limits.{operations, Bounds}
 use Rattle.apply_grammar.specs.Reading.{Reader, run, open_at, close_at, comma_at, op_at, sign_at, fun1_of, fun2_of, atom_at, spend, paren_at, call1_at, call2_at, call_at, primary, signed, chain, climb, parens}
 use Rattle.apply_grammar.proofs.Nested.{inside, wrapped, Operand, bare, At}
-use Rattle.apply_grammar.proofs.Runs.{bind_then, branch_then, some_is, Front, then_front, map_front, run_is}
+use Rattle.apply_grammar.proofs.Runs.{bind_then, branch_then, Front, then_front, map_front, run_is}
 use Rattle.apply_grammar.proofs.Leaves.{FoundOp, op_is, not_above, Opened, open_is, close_is, comma_is, sign_is, fun1_is, fun2_is, NumberText, WordText, IsAtomText, of_text, of_number, of_word, atom_is}
+use Rattle.edm_values.proofs.OptionFacts.{some_value}
 
 pub spend_then : {X P : Type 0} (n : ℕ) (f : ℕ → Option X) {y : X} → spend n f ≡ Some y → ((m : ℕ) → n ≡ suc m → f m ≡ Some y → P) → P
 spend_then zero f e k = absurd cc
@@ -99,7 +100,7 @@ paren_is : (limits : Bounds) (d : ℕ) (inner : Reader) → InnerIs limits d inn
 unfolding paren_at
 paren_is limits d inner i n t r o h =
     bind_then (inner n r) _ h (λ y e h. bind_then (close_at y.2) _ h (λ s f k.
-    subst (λ x. Got limits 8 d n t x) (some_is k)
+    subst (λ x. Got limits 8 d n t x) (some_value k)
     (record { front = paren_text limits d y.0 o (i n r y e).0 (close_is y.2 f); count = (i n r y e).1 })))
 
 call1_is : (limits : Bounds) (d : ℕ) (inner : Reader) → InnerIs limits d inner → (f : _) (n : ℕ) (t s r : List ℕ) {x : Expr × ℕ × List ℕ} → Front (word (fun1_word f)) t s → Opened s r → call1_at inner f n r ≡ Some x → Got limits 8 d (suc n) t x
@@ -107,7 +108,7 @@ unfolding call1_at paren_at bare
 call1_is limits d inner i f n t s r w o h =
     bind_then (paren_at inner n r) _ h (λ z e h.
     bind_then (inner n r) _ e (λ y g e. bind_then (close_at y.2) _ e (λ u l e.
-    subst (λ x. Got limits 8 d (suc n) t x) (ap (λ (v : Expr × ℕ × List ℕ). (Expr.Call1 f v.0, v.1, v.2)) (some_is e) ∙ some_is h)
+    subst (λ x. Got limits 8 d (suc n) t x) (ap (λ (v : Expr × ℕ × List ℕ). (Expr.Call1 f v.0, v.1, v.2)) (some_value e) ∙ some_value h)
     (record { front = bare_front limits 8 (Expr.Call1 f y.0) d (omega arith) (then_front w (call1_text limits d y.0 o (i n r y g).0 (close_is y.2 l))); count = omega (arith, (i n r y g).1) }))))
 
 call2_is : (limits : Bounds) (d : ℕ) (inner : Reader) → InnerIs limits d inner → (f : _) (n : ℕ) (t s r : List ℕ) {x : Expr × ℕ × List ℕ} → Front (word (fun2_word f)) t s → Opened s r → call2_at inner f n r ≡ Some x → Got limits 8 d (suc n) t x
@@ -116,7 +117,7 @@ call2_is limits d inner i f n t s r w o h =
     bind_then (inner n r) _ h (λ y g h. bind_then (comma_at y.2) _ h (λ v m h.
     bind_then (paren_at inner y.1 v) _ h (λ z e h.
     bind_then (inner y.1 v) _ e (λ b j e. bind_then (close_at b.2) _ e (λ u l e.
-    subst (λ x. Got limits 8 d (suc n) t x) (ap (λ (q : Expr × ℕ × List ℕ). (Expr.Call2 f y.0 q.0, q.1, q.2)) (some_is e) ∙ some_is h)
+    subst (λ x. Got limits 8 d (suc n) t x) (ap (λ (q : Expr × ℕ × List ℕ). (Expr.Call2 f y.0 q.0, q.1, q.2)) (some_value e) ∙ some_value h)
     (record {
       front = bare_front limits 8 (Expr.Call2 f y.0 b.0) d (omega arith) (then_front w (call2_text limits d y.0 b.0 o (i n r y g).0 (comma_is y.2 m).0 (i y.1 v b j).0 (close_is b.2 l)));
       count = omega (arith, (i n r y g).1, (i y.1 v b j).1);
@@ -137,7 +138,7 @@ primary_is limits d inner i n t x h =
     (λ f h. bind_then (atom_at limits t) _ h (λ y g k.
     let a = atom_is limits t g in
     let b = atom_bare limits y.0 d a.front a.of in
-    subst (λ x. Got limits 8 d n t x) (some_is k)
+    subst (λ x. Got limits 8 d n t x) (some_value k)
     (record { front = bare_front limits 8 y.0 d (omega (arith, b.1)) (map_front (λ a h. (atom_bare limits y.0 d a h).0) a); count = omega (arith, b.2) }))))
 
 -- ---- signs
@@ -152,7 +153,7 @@ signed_is limits d prim p (suc n) t {x} h =
     branch_then (sign_at t) _ _ h
     (λ s e h. bind_then (signed prim n s.1) _ h (λ y f k.
     let g = signed_is limits d prim p n s.1 f in
-    subst (λ x. Got limits 7 d (suc n) t x) (some_is k)
+    subst (λ x. Got limits 7 d (suc n) t x) (some_value k)
     (record { front = bare_front limits 7 (Expr.Unary s.0 y.0) d (omega arith) (then_front (sign_is t e).0 g.front); count = omega (arith, g.count) })))
     (λ e h. let g = p (suc n) t x h in record { front = front_looser limits 8 7 x.0 d (omega arith) g.front; count = g.count })
 
@@ -179,7 +180,7 @@ pub record Counted (left : Expr) (n : ℕ) (x : Expr × ℕ × List ℕ) : Type 
 pub chain_count : (limits : Bounds) (d : ℕ) (prim : Reader) → PrimIs limits d prim → (f m : ℕ) (left : Expr) (n : ℕ) (t : List ℕ) {x : Expr × ℕ × List ℕ} → chain prim f m left n t ≡ Some x → Counted left n x
 unfolding chain
 chain_count limits d prim p zero m left n t h =
-    branch_then (op_at m t) _ _ h (λ o e h. absurd cc) (λ e k. subst (λ x. Counted left n x) (some_is k) (record { count = refl; less = omega arith }))
+    branch_then (op_at m t) _ _ h (λ o e h. absurd cc) (λ e k. subst (λ x. Counted left n x) (some_value k) (record { count = refl; less = omega arith }))
 chain_count limits d prim p (suc f) m left n t {x} h =
     branch_then (op_at m t) _ _ h
     (λ o e h. spend_then n _ h (λ k z h. bind_then (signed prim k o.1) _ h (λ y g h.
@@ -188,7 +189,7 @@ chain_count limits d prim p (suc f) m left n t {x} h =
     let b = chain_count limits d prim p f (suc (binop_level o.0)) y.0 y.1 y.2 j in
     let c = chain_count limits d prim p f m (Expr.Binary o.0 left w.0) w.1 w.2 h in
     record { count = omega (arith, a.count, b.count, c.count); less = omega (arith, a.count, b.less, c.less) }))))
-    (λ e k. subst (λ x. Counted left n x) (some_is k) (record { count = refl; less = omega arith }))
+    (λ e k. subst (λ x. Counted left n x) (some_value k) (record { count = refl; less = omega arith }))
 
 -- what was read so far can be the left operand of the operator that follows
 pub record Left (limits : Bounds) (m d : ℕ) (whole : List ℕ) (left : Expr) (t : List ℕ) : Type 0 where
@@ -215,7 +216,7 @@ binary_left limits m d {s = s} {left = left} {right} {o} f a b e =
 pub chain_is : (limits : Bounds) (d : ℕ) (prim : Reader) → PrimIs limits d prim → (f m : ℕ) (whole : List ℕ) (left : Expr) (n : ℕ) (t : List ℕ) {x : Expr × ℕ × List ℕ} → m ≤ 7 → Left limits m d whole left t → chain prim f m left n t ≡ Some x → Ended limits m d whole x
 unfolding chain
 chain_is limits d prim p zero m whole left n t le l h =
-    branch_then (op_at m t) _ _ h (λ o e h. absurd cc) (λ e k. subst (λ x. Ended limits m d whole x) (some_is k) (record { front = l.front; stop = e }))
+    branch_then (op_at m t) _ _ h (λ o e h. absurd cc) (λ e k. subst (λ x. Ended limits m d whole x) (some_value k) (record { front = l.front; stop = e }))
 chain_is limits d prim p (suc f) m whole left n t {x} le l h =
     branch_then (op_at m t) _ _ h
     (λ o e h. spend_then n _ h (λ k z h. bind_then (signed prim k o.1) _ h (λ y g h.
@@ -224,7 +225,7 @@ chain_is limits d prim p (suc f) m whole left n t {x} le l h =
     let a = signed_is limits d prim p k o.1 g in
     let b = chain_is limits d prim p f (suc (binop_level o.0)) o.1 y.0 y.1 y.2 i (operand_left limits (suc (binop_level o.0)) d i a.front) j in
     chain_is limits d prim p f m whole (Expr.Binary o.0 left w.0) w.1 w.2 le (binary_left limits m d (op_is m t e) (l.binds o.0 o.1 e) b.front b.stop) h))))
-    (λ e k. subst (λ x. Ended limits m d whole x) (some_is k) (record { front = l.front; stop = e }))
+    (λ e k. subst (λ x. Ended limits m d whole x) (some_value k) (record { front = l.front; stop = e }))
 
 pub record Climbed (limits : Bounds) (m d n : ℕ) (t : List ℕ) (x : Expr × ℕ × List ℕ) : Type 0 where
   pub front : Front (At limits m x.0 d) t x.2

@@ -12,14 +12,15 @@ use Rattle.apply_grammar.specs.Gives.{Gives}
 use Rattle.apply_grammar.specs.Limits.{operations, most_open, most_operations, ExprTextIn, Bounds, served}
 use Rattle.apply_grammar.specs.Reading.{◌>>=◌, at_end, whole_expr, whole_path, path_at, primary, parens, expr_at, op_at, blanks_at}
 use Rattle.apply_grammar.proofs.Nested.{At, SmallExpr}
-use Rattle.apply_grammar.proofs.Runs.{bind_then, some_is}
+use Rattle.apply_grammar.proofs.Runs.{bind_then}
 use Rattle.apply_grammar.proofs.Leaves.{path_is, path_front}
 use Rattle.apply_grammar.proofs.ExprFound.{climb_is, prim_is}
 use Rattle.apply_grammar.proofs.ExprAgain.{expr_front}
 use Rattle.apply_grammar.proofs.Depths.{small_tied}
+use Rattle.edm_values.proofs.OptionFacts.{some_value}
 
 at_end_then : {A P : Type 0} (r : List ℕ) (x : A) {y : A} → at_end r x ≡ Some y → (r ≡ [] → x ≡ y → P) → P
-at_end_then [] x h k = k refl (some_is h)
+at_end_then [] x h k = k refl (some_value h)
 at_end_then (b ∷ t) x h k = absurd cc
 
 expr_found : (limits : Bounds) (d n : ℕ) (t : List ℕ) (e : Expr) → whole_expr limits d n t ≡ Some e → At limits 1 e d t × (operations e ≤ n)

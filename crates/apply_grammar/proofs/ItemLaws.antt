@@ -6,13 +6,14 @@ use Rattle.std.proofs.lemmas.List.{length-append}
 use Rattle.edm_values.specs.Lists.{same_text}
 use Rattle.edm_values.specs.Names.{goes_on_name, is_name}
 use Rattle.edm_values.proofs.SameTexts.{same_texts, text-self}
+use Rattle.edm_values.proofs.OptionFacts.{some_value}
 use Rattle.apply_ast.specs.Trees.{Expr, Named, OrderItem}
 use Rattle.apply_ast.specs.Grammar.{is_blank, bws, rws, word, ◌·◌, comma, name_text, as_text, direction_text}
 use Rattle.apply_grammar.specs.Limits.{operations, Bounds}
 use Rattle.apply_grammar.specs.Reading.{◌>>=◌, run, after, blanks_at, comma_at, word_behind, between_blanks, binop_of, name_at, expr_at, primary, parens}
 use Rattle.apply_grammar.specs.PipeReading.{small_at, as_at, with_at, named_at, direction_at, item_at}
 use Rattle.apply_grammar.proofs.Nested.{SmallExpr, named_text, item_text}
-use Rattle.apply_grammar.proofs.Runs.{bind_then, branch_then, guard_then, some_is, Front, then_front, map_front, word_front, run_is, blanks_is, blanks_front, blanks_none, skip_front, stops, solid, solid_on, solid_stops, recut}
+use Rattle.apply_grammar.proofs.Runs.{bind_then, branch_then, guard_then, Front, then_front, map_front, word_front, run_is, blanks_is, blanks_front, blanks_none, skip_front, stops, solid, solid_on, solid_stops, recut}
 use Rattle.apply_grammar.proofs.Lists.{Items}
 use Rattle.apply_grammar.proofs.Leaves.{ends, bws_ends, ends_go, comma_is, comma_front, name_is, name_front, first_name, op_none, rws_ends, rws_stop, word_run}
 use Rattle.apply_grammar.proofs.ExprFound.{climb_is, prim_is}
@@ -25,7 +26,7 @@ unfolding small_at
 small_is limits d t h =
     bind_then (expr_at limits d 1 limits.operations t) _ h (λ y e k.
     let c = climb_is limits d (primary limits (parens limits d)) (prim_is limits d) 1 limits.operations t (omega arith) e in
-    subst (λ x. Front (SmallExpr limits x.0 d) t x.1) (some_is k)
+    subst (λ x. Front (SmallExpr limits x.0 d) t x.1) (some_value k)
     (map_front (λ a g. record { of = g; small = omega (arith, c.count) }) c.front))
 
 pub small_front : (limits : Bounds) (d : ℕ) (e : Expr) (a r : List ℕ) → SmallExpr limits e d a → Follow 1 r → small_at limits d (a ++ r) ≡ Some (e, r)
@@ -197,7 +198,7 @@ pub named_is : (limits : Bounds) (d : ℕ) (t : List ℕ) {x : Named × List ℕ
 unfolding named_at
 named_is limits d t h =
     bind_then (small_at limits d t) _ h (λ e f h. bind_then (as_at e.1) _ h (λ r g h. bind_then (name_at r) _ h (λ n i k.
-    subst (λ x. Front (named_text limits d x.0) t x.1) (some_is k)
+    subst (λ x. Front (named_text limits d x.0) t x.1) (some_value k)
     (then_front (small_is limits d t f) (as_is e.1 g (name_is r i).0)))))
 
 named_front : (limits : Bounds) (d : ℕ) (x : Named) (a r : List ℕ) → named_text limits d x a → ItemEnd r → named_at limits d (a ++ r) ≡ Some (x, r)
@@ -243,7 +244,7 @@ pub item_is : (limits : Bounds) (d : ℕ) (t : List ℕ) {x : OrderItem × List 
 unfolding item_at
 item_is limits d t h =
     bind_then (small_at limits d t) _ h (λ e f k.
-    subst (λ x. Front (item_text limits d x.0) t x.1) (some_is k)
+    subst (λ x. Front (item_text limits d x.0) t x.1) (some_value k)
     (then_front (small_is limits d t f) (direction_is e.1 refl)))
 
 -- what stands behind an order item's expression

@@ -1,7 +1,7 @@
 -- Operators, names, paths and literals: what is read is in front, and what is in front is read.
-use Rattle.std.proofs.Common.{◌≡◌, ℕ, ◌<◌, ◌≤◌, ◌==◌, nat_le, Bool, true, false, not, ◌&&◌, ◌||◌, cond, List, [], ◌∷◌, ◌++◌, length, Some, None, refl, sym, ap, subst, ◌∙◌, append_assoc, arith, eqb-true, ◌⊎◌, inl, inr}
+use Rattle.std.proofs.Common.{◌≡◌, ℕ, ◌<◌, ◌≤◌, ◌==◌, nat_le, Bool, true, false, not, ◌&&◌, ◌||◌, cond, List, [], ◌∷◌, ◌++◌, length, Some, None, refl, sym, ap, subst, ◌∙◌, append_assoc, arith, eqb-true, inl, inr}
 use Rattle.std.proofs.Math.Dec.{leb-zero}
-use Rattle.std.proofs.lemmas.Bool.{le-leb, leb-true, cases_lt, and_from, or_left, false_from_ne_true}
+use Rattle.std.proofs.lemmas.Bool.{le-leb, leb-true, cases_lt, and_from, or_left, false_from_ne_true, not-true, or_cases, and_parts}
 use Rattle.std.specs.Str.Parse.{digits_value_after}
 use Rattle.std.specs.Prelude.{codes, slice_index, ℤ, pos, Bool, if◌then◌else◌}
 use Rattle.std.specs.List.{list_all, flat_map}
@@ -18,6 +18,7 @@ use Rattle.edm_values.specs.Values.{integer_max}
 use Rattle.edm_values.specs.Parts.{mantissa_max, scale_max, is_day}
 use Rattle.edm_values.proofs.SameTexts.{same_texts}
 use Rattle.edm_values.proofs.DigitLaws.{value_append, value_grows}
+use Rattle.edm_values.proofs.OptionFacts.{some_value}
 use Rattle.apply_ast.specs.declared.expressions.UnOp.{UnOp}
 use Rattle.apply_ast.specs.declared.expressions.BinOp.{BinOp}
 use Rattle.apply_ast.specs.declared.expressions.Fun1.{Fun1}
@@ -28,7 +29,7 @@ use Rattle.apply_ast.specs.Grammar.{Language, is_blank, bws, rws, word, ◌·◌
 use Rattle.apply_grammar.specs.Reading.{◌>>=◌, run, skip_blanks, blanks_at, after, open_at, close_at, comma_at, with_word, binop_of, op_at, not_at, sign_at, name_at, path_at, value_behind, digits_at, decimal_at, two_digits_at, date_at, number_behind, quote_at, text_at, fun1_of, fun2_of, word_at, atom_at, is_literal}
 use Rattle.apply_grammar.proofs.Nested.{Digits, IntText, Fraction, DecText, Wide, DateText}
 use Rattle.apply_grammar.proofs.Lists.{Items, list_is, list_front}
-use Rattle.apply_grammar.proofs.Runs.{and_parts, not_true, bind_then, branch_then, cond_then, guard_then, some_is, is_none, none_some, recut, solid_on, stops, solid, solid_stops, run_front, run_is, Front, then_front, map_front, word_front, skip_is, skip_stops, skip_front, blanks_front, blanks_is, blanks_none, after_is, after_front}
+use Rattle.apply_grammar.proofs.Runs.{bind_then, branch_then, cond_then, guard_then, is_none, none_some, recut, solid_on, stops, solid, solid_stops, run_front, run_is, Front, then_front, map_front, word_front, skip_is, skip_stops, skip_front, blanks_front, blanks_is, blanks_none, after_is, after_front}
 
 pub false_true : false ≡ true → ⊥
 false_true e = absurd cc
@@ -38,10 +39,6 @@ false_true e = absurd cc
 abbrev pub ends : List ℕ → Bool
 ends [] = true
 ends (b ∷ t) = is_blank b || (b == 44) || (b == 41)
-
-pub or_cases : (a b : Bool) → (a || b) ≡ true → (a ≡ true) ⊎ (b ≡ true)
-or_cases true b h = inl refl
-or_cases false b h = inr h
 
 eq_not : (p : ℕ → Bool) (a b : ℕ) → (b == a) ≡ true → p a ≡ false → not (p b) ≡ true
 eq_not p a b e h = rw (eqb-true b a e, h) refl
@@ -63,7 +60,7 @@ ends_stops p (b ∷ r) h s t c d =
 pub after_none : (a : ℕ) (t : List ℕ) → stops (λ b. b == a) t ≡ true → after a t ≡ None
 unfolding after
 after_none a [] h = refl
-after_none a (b ∷ t) h = rw (not_true (b == a) h) refl
+after_none a (b ∷ t) h = rw (not-true (b == a) h) refl
 
 pub open_none : (t : List ℕ) → stops (λ b. b == 40) t ≡ true → open_at t ≡ None
 unfolding open_at
@@ -90,7 +87,7 @@ pub open_is : (t : List ℕ) {r : List ℕ} → open_at t ≡ Some r → Opened 
 unfolding open_at
 open_is t h =
     bind_then (after 40 t) _ h (λ x e k.
-    subst (λ l. Opened t l) (some_is k)
+    subst (λ l. Opened t l) (some_value k)
     (record { behind = x; sign = word_front (codes "(") t x (after_is 40 t e); blanks = skip_is x }))
 
 pub open_front : (w r : List ℕ) → bws w → stops is_blank r ≡ true → open_at (40 ∷ (w ++ r)) ≡ Some r
@@ -109,7 +106,7 @@ pub comma_is : (t : List ℕ) {r : List ℕ} → comma_at t ≡ Some r → Front
 unfolding comma_at
 comma_is t h =
     bind_then (after 44 (skip_blanks t)) _ h (λ x e k.
-    subst (λ l. Front comma t l × (stops is_blank l ≡ true)) (some_is k)
+    subst (λ l. Front comma t l × (stops is_blank l ≡ true)) (some_value k)
     (then_front (skip_is t) (then_front (word_front (codes ",") (skip_blanks t) x (after_is 44 (skip_blanks t) e)) (skip_is x)), skip_stops x))
 
 pub comma_front : (w v r : List ℕ) → bws w → bws v → stops is_blank r ≡ true → comma_at (w ++ (44 ∷ (v ++ r))) ≡ Some r
@@ -120,7 +117,7 @@ comma_front w v r h k s = rw (skip_front w (44 ∷ (v ++ r)) h refl, after_front
 
 pub word_is : {A : Type 0} (f : A → List ℕ) (xs : List A) (w : List ℕ) {x : A} → with_word f xs w ≡ Some x → w ≡ f x
 word_is f [] w h = absurd cc
-word_is f (y ∷ ys) w h = cond_then (same_text w (f y)) (Some y) (with_word f ys w) h (λ e k. same_texts w (f y) e ∙ ap f (some_is k)) (λ e k. word_is f ys w k)
+word_is f (y ∷ ys) w h = cond_then (same_text w (f y)) (Some y) (with_word f ys w) h (λ e k. same_texts w (f y) e ∙ ap f (some_value k)) (λ e k. word_is f ys w k)
 
 -- ---- operators
 
@@ -245,7 +242,7 @@ op_above m o w v r h k s l =
     let a = op_front 0 o w v r h k s (leb-zero (binop_level o)) in
     is_none (op_at m (w ++ (binop_word o ++ (v ++ r)))) (λ x e.
     let b = op_other 0 m (w ++ (binop_word o ++ (v ++ r))) e (omega arith) in
-    let c : (o, r) ≡ x = some_is (sym a ∙ b) in
+    let c : (o, r) ≡ x = some_value (sym a ∙ b) in
     let d : m ≤ binop_level x.0 = leb-true m (binop_level x.0) (op_is m (w ++ (binop_word o ++ (v ++ r))) e).binds in
     let f : binop_level o ≡ binop_level x.0 = ap (λ (y : BinOp × List ℕ). binop_level y.0) c in
     omega arith)
@@ -258,7 +255,7 @@ not_is t h =
     cond_then (same_text (run goes_on_name t).0 (codes "not")) _ None h
     (λ e h. bind_then (blanks_at (run goes_on_name t).1) _ h (λ r f k.
     let i : Front (word (codes "not")) t (run goes_on_name t).1 = record { front = (run goes_on_name t).0; of = same_texts _ _ e; cut = (run_is goes_on_name t).cut } in
-    subst (λ x. Front (sign_text x.0) t x.1 × (stops is_blank x.1 ≡ true)) (some_is k)
+    subst (λ x. Front (sign_text x.0) t x.1 × (stops is_blank x.1 ≡ true)) (some_value k)
     (then_front i (blanks_is (run goes_on_name t).1 f).0, (blanks_is (run goes_on_name t).1 f).1)))
     (λ e h. absurd cc)
 
@@ -267,7 +264,7 @@ unfolding sign_at
 sign_is t h =
     branch_then (after 45 t) _ (not_at t) h
     (λ r e k.
-    subst (λ x. Front (sign_text x.0) t x.1 × (stops is_blank x.1 ≡ true)) (some_is k)
+    subst (λ x. Front (sign_text x.0) t x.1 × (stops is_blank x.1 ≡ true)) (some_value k)
     (then_front (word_front (codes "-") t r (after_is 45 t e)) (skip_is r), skip_stops r))
     (λ e k. not_is t k)
 
@@ -293,7 +290,7 @@ name_parts t h =
     let a = and_parts _ _ h in
     let b = and_parts _ _ a.0 in
     let c = and_parts _ _ b.0 in
-    record { begins = c.0; passes = c.1; short = b.1; free = not_true _ a.1 }
+    record { begins = c.0; passes = c.1; short = b.1; free = not-true _ a.1 }
 
 pub name_is : (t : List ℕ) {x : List ℕ × List ℕ} → name_at t ≡ Some x → Front (name_text x.0) t x.1 × (stops goes_on_name x.1 ≡ true)
 unfolding name_at
@@ -481,12 +478,12 @@ number_is ds t g {x} h =
     branch_then (after 46 t) _ _ h
     (λ r e h. bind_then (decimal_at ds r) _ h (λ d f k.
     let c = decimal_is ds r g f in
-    subst (λ x. NumberBehind ds t x) (some_is k)
+    subst (λ x. NumberBehind ds t x) (some_value k)
     (record { more = 46 ∷ c.more; cut = after_is 46 t e ∙ ap (λ l. 46 ∷ l) c.cut; of = c.of })))
     (λ e h. branch_then (after 45 t) _ _ h
     (λ r f h. subst (λ l. NumberBehind ds l x) (sym (after_is 45 t f)) (date_is ds r g h))
     (λ f h. bind_then (value_behind integer_max 0 ds) _ h (λ n i k.
-    subst (λ x. NumberBehind ds t x) (some_is k)
+    subst (λ x. NumberBehind ds t x) (some_value k)
     (record { more = []; cut = refl; of = subst (λ l. Digits integer_max n l) (sym (append-nil ds)) (record { some = g.some; digits = g.digits; value = (value_is integer_max 0 ds i).0; small = (value_is integer_max 0 ds i).1 }) }))))
 
 pub int_front : (n : ℕ) (a r : List ℕ) → Digits integer_max n a → ends r ≡ true → number_behind a r ≡ Some (Expr.Int (pos n), r)
@@ -530,13 +527,13 @@ quote_is (b ∷ (c ∷ t)) h =
     cond_then (b == 39) _ _ h
     (λ e h. cond_then (c == 39) _ _ h
     (λ f h. bind_then (quote_at t) _ h (λ x g k.
-    subst (λ (x : List ℕ × List ℕ). b ∷ (c ∷ t) ≡ doubled x.0 ++ 39 ∷ x.1) (some_is k)
+    subst (λ (x : List ℕ × List ℕ). b ∷ (c ∷ t) ≡ doubled x.0 ++ 39 ∷ x.1) (some_value k)
     (let i : b ≡ 39 = eqb-true b 39 e in let j : c ≡ 39 = eqb-true c 39 f in let l : t ≡ doubled x.0 ++ 39 ∷ x.1 = quote_is t g in cc)))
     (λ f k.
-    subst (λ (x : List ℕ × List ℕ). b ∷ (c ∷ t) ≡ doubled x.0 ++ 39 ∷ x.1) (some_is k)
+    subst (λ (x : List ℕ × List ℕ). b ∷ (c ∷ t) ≡ doubled x.0 ++ 39 ∷ x.1) (some_value k)
     (ap (λ l. l ∷ (c ∷ t)) (eqb-true b 39 e))))
     (λ e h. bind_then (quote_at (c ∷ t)) _ h (λ x g k.
-    subst (λ (x : List ℕ × List ℕ). b ∷ (c ∷ t) ≡ doubled x.0 ++ 39 ∷ x.1) (some_is k)
+    subst (λ (x : List ℕ × List ℕ). b ∷ (c ∷ t) ≡ doubled x.0 ++ 39 ∷ x.1) (some_value k)
     (rw e (ap (λ l. b ∷ l) (quote_is (c ∷ t) g)))))
 
 quote_front_step : (b : ℕ) (s r : List ℕ) (c : Bool) → (b == 39) ≡ c → quote_at (doubled s ++ (39 ∷ r)) ≡ Some (s, r) → quote_at (doubled (b ∷ s) ++ (39 ∷ r)) ≡ Some (b ∷ s, r)
@@ -547,7 +544,7 @@ quote_front_step b s r false e h = rw e (quote_plain b (doubled s ++ (39 ∷ r))
 pub quote_front : (s r : List ℕ) → stops (λ b. b == 39) r ≡ true → quote_at (doubled s ++ (39 ∷ r)) ≡ Some (s, r)
 unfolding quote_at
 quote_front [] [] h = refl
-quote_front [] (c ∷ r) h = rw (not_true (c == 39) h) refl
+quote_front [] (c ∷ r) h = rw (not-true (c == 39) h) refl
 quote_front (b ∷ s) r h = quote_front_step b s r (b == 39) refl (quote_front s r h)
 
 -- ---- words
@@ -593,7 +590,7 @@ WordText _ = λ t. ⊥
 
 the_word : (w t : List ℕ) (e : Expr) → ((a : List ℕ) → a ≡ w → WordText e a) → same_text (run goes_on_name t).0 w ≡ true → {x : Expr × List ℕ} → Some (e, (run goes_on_name t).1) ≡ Some x → Front (WordText x.0) t x.1
 the_word w t e f h {x} k =
-    subst (λ x. Front (WordText x.0) t x.1) (some_is k)
+    subst (λ x. Front (WordText x.0) t x.1) (some_value k)
     (record { front = (run goes_on_name t).0; of = f _ (same_texts _ w h); cut = (run_is goes_on_name t).cut })
 
 pub word_at_is : (t : List ℕ) {x : Expr × List ℕ} → word_at t ≡ Some x → Front (WordText x.0) t x.1
@@ -603,7 +600,7 @@ word_at_is t h =
     cond_then (same_text (run goes_on_name t).0 (codes "true")) _ _ h (λ e k. the_word (codes "true") t (Expr.Bool' true) (λ a i. i) e k) (λ e h.
     cond_then (same_text (run goes_on_name t).0 (codes "false")) _ _ h (λ e k. the_word (codes "false") t (Expr.Bool' false) (λ a i. i) e k) (λ e h.
     bind_then (path_at t) _ h (λ p f k.
-    subst (λ x. Front (WordText x.0) t x.1) (some_is k) (path_is t f)))))
+    subst (λ x. Front (WordText x.0) t x.1) (some_value k) (path_is t f)))))
 
 -- ---- first bytes
 

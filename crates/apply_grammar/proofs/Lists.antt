@@ -3,7 +3,8 @@ use Rattle.std.proofs.Common.{◌≡◌, ℕ, zero, suc, ◌-◌, ◌<◌, ◌�
 use Rattle.std.proofs.lemmas.List.{length-append, append-nil}
 use Rattle.apply_ast.specs.Grammar.{Language, ◌·◌, listed, each_behind}
 use Rattle.apply_grammar.specs.Reading.{◌>>=◌, Leaf, items_at, list_at}
-use Rattle.apply_grammar.proofs.Runs.{bind_then, branch_then, branch_agree, bind_agree, is_none, recut, front_length, some_is, Front, then_front, word_front}
+use Rattle.apply_grammar.proofs.Runs.{bind_then, branch_then, branch_agree, bind_agree, is_none, recut, front_length, Front, then_front, word_front}
+use Rattle.edm_values.proofs.OptionFacts.{some_value}
 
 -- a reader of parts and one of separators, and the texts that they read; F may follow a part
 pub record Items {X : Type 0} (S : Language) (L : X → Language) (sep : List ℕ → Option (List ℕ)) (item : List ℕ → Leaf X) (F : Language) : Type 0 where
@@ -16,29 +17,29 @@ pub record Items {X : Type 0} (S : Language) (L : X → Language) (sep : List �
 
 items_is : {X : Type 0} {S : Language} {L : X → Language} {sep : List ℕ → Option (List ℕ)} {item : List ℕ → Leaf X} {F : Language} → Items S L sep item F → (f : ℕ) (x : X) (t s : List ℕ) → Front (L x) t s → {y : List X × List ℕ} → items_at sep item f s ≡ Some y → Front (listed S L (x ∷ y.0)) t y.1
 unfolding items_at
-items_is {S = S} {L = L} i zero x t s h {y} e = subst (λ y. Front (listed S L (x ∷ y.0)) t y.1) (some_is e) h
+items_is {S = S} {L = L} i zero x t s h {y} e = subst (λ y. Front (listed S L (x ∷ y.0)) t y.1) (some_value e) h
 items_is {S = S} {L = L} {sep} {item} i (suc f) x t s h {y} e =
     branch_then (sep s) _ _ e
     (λ r g e. bind_then (item r) _ e (λ z k e. bind_then (items_at sep item f z.1) _ e (λ w l e.
-    subst (λ y. Front (listed S L (x ∷ y.0)) t y.1) (some_is e)
+    subst (λ y. Front (listed S L (x ∷ y.0)) t y.1) (some_value e)
     (then_front h (then_front (i.sep_is s r g) (items_is i f z.0 r z.1 (i.item_is r z k) l))))))
-    (λ g e. subst (λ y. Front (listed S L (x ∷ y.0)) t y.1) (some_is e) h)
+    (λ g e. subst (λ y. Front (listed S L (x ∷ y.0)) t y.1) (some_value e) h)
 
 pub items_is_behind : {X : Type 0} {S : Language} {L : X → Language} {sep : List ℕ → Option (List ℕ)} {item : List ℕ → Leaf X} {F : Language} → Items S L sep item F → (f : ℕ) (s : List ℕ) {y : List X × List ℕ} → items_at sep item f s ≡ Some y → Front (each_behind S L y.0) s y.1
 unfolding items_at
-items_is_behind {S = S} {L = L} i zero s {y} e = subst (λ y. Front (each_behind S L y.0) s y.1) (some_is e) (word_front [] s s refl)
+items_is_behind {S = S} {L = L} i zero s {y} e = subst (λ y. Front (each_behind S L y.0) s y.1) (some_value e) (word_front [] s s refl)
 items_is_behind {S = S} {L = L} {sep} {item} i (suc f) s {y} e =
     branch_then (sep s) _ _ e
     (λ r g e. bind_then (item r) _ e (λ z k e. bind_then (items_at sep item f z.1) _ e (λ w l e.
-    subst (λ y. Front (each_behind S L y.0) s y.1) (some_is e)
+    subst (λ y. Front (each_behind S L y.0) s y.1) (some_value e)
     (then_front (i.sep_is s r g) (then_front (i.item_is r z k) (items_is_behind i f z.1 l))))))
-    (λ g e. subst (λ y. Front (each_behind S L y.0) s y.1) (some_is e) (word_front [] s s refl))
+    (λ g e. subst (λ y. Front (each_behind S L y.0) s y.1) (some_value e) (word_front [] s s refl))
 
 pub list_is : {X : Type 0} {S : Language} {L : X → Language} {sep : List ℕ → Option (List ℕ)} {item : List ℕ → Leaf X} {F : Language} → Items S L sep item F → (t : List ℕ) {y : List X × List ℕ} → list_at sep item t ≡ Some y → Front (listed S L y.0) t y.1
 unfolding list_at
 list_is {S = S} {L = L} {sep} {item} i t e =
     bind_then (item t) _ e (λ z k e. bind_then (items_at sep item (length z.1) z.1) _ e (λ w l e.
-    subst (λ y. Front (listed S L y.0) t y.1) (some_is e) (items_is i (length z.1) z.0 t z.1 (i.item_is t z k) l)))
+    subst (λ y. Front (listed S L y.0) t y.1) (some_value e) (items_is i (length z.1) z.0 t z.1 (i.item_is t z k) l)))
 
 pub behind_follow : {X : Type 0} {S : Language} {L : X → Language} {sep : List ℕ → Option (List ℕ)} {item : List ℕ → Leaf X} {F : Language} → Items S L sep item F → (xs : List X) (b r : List ℕ) → each_behind S L xs b → F r → F (b ++ r)
 behind_follow {F = F} i [] b r h k = subst (λ l. F (l ++ r)) (sym h) k

@@ -6,10 +6,10 @@ use Rattle.edm_values.specs.Parts.{is_decimal, is_day}
 use Rattle.edm_values.specs.Values.{where_true, decimal_of, decimal, day_of, day_from}
 use Rattle.apply_ast.specs.Trees.{Expr}
 use Rattle.apply_grammar.specs.Reading.{after, value_behind, two_digits_at, date_at}
-use Rattle.apply_grammar.proofs.Runs.{some_is}
+use Rattle.edm_values.proofs.OptionFacts.{some_value}
 
 where_true_then : {X P : Type 0} (b : Bool) (f : IsTrue b → X) {x : X} → where_true b f ≡ Some x → ((h : b ≡ true) → f h ≡ x → P) → P
-where_true_then true f e k = k refl (some_is e)
+where_true_then true f e k = k refl (some_value e)
 where_true_then false f e k = absurd cc
 
 pub decimal_made : (m : ℤ) (s : ℕ) (d : Dec) → Some d ≡ decimal_of m s → (d.mantissa ≡ m) × (d.scale ≡ s)

@@ -7,13 +7,13 @@ use Rattle.apply_ast.specs.Trees.{Expr, AggItem, Pipe, Step, OptPipe, Pipes, Key
 use Rattle.apply_ast.specs.Grammar.{Text, expr_text}
 use Rattle.apply_ast.specs.Counts.{step_count}
 use Rattle.apply_grammar.specs.Limits.{Bounds, outside, IsShallow, operations, is_small, agg_small, all_small, inner_small, branches_small, key_small, keys_small, step_small}
-use Rattle.apply_grammar.proofs.Runs.{some_is}
 use Rattle.apply_grammar.proofs.Nested.{SmallExpr}
 use Rattle.apply_grammar.proofs.ShallowTexts.{few_are_shallow}
 use Rattle.apply_grammar.proofs.Depths.{small_tied}
 use Rattle.apply_grammar.proofs.PipeDepths.{pipe_tied}
 use Rattle.apply_grammar.proofs.ExprWhole.{expr_only}
 use Rattle.apply_grammar.proofs.PipeWhole.{NestedIn, one_pipe}
+use Rattle.edm_values.proofs.OptionFacts.{some_value}
 
 -- the test holds of each number from some number on
 abbrev FromOn : (ℕ → Bool) → Type 0
@@ -100,7 +100,7 @@ one_expr t a b h k =
     let x = small_tied (any m) e in
     let s : SmallExpr (any m) e (opens t) t = x.deep (le-leb (operations e) m l) (opens t) t g (is_shallow t) no_limit in
     expr_only (any m) (opens t) m t e s.of s.small in
-    some_is (sym (read a h (omega arith)) ∙ read b k (omega arith))
+    some_value (sym (read a h (omega arith)) ∙ read b k (omega arith))
 
 pub one_pipeline : (t : List ℕ) (p q : Pipe) → Text p t → Text q t → p ≡ q
 one_pipeline t p q h k =

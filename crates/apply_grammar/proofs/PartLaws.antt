@@ -4,6 +4,7 @@ use Rattle.std.specs.Prelude.{codes}
 use Rattle.edm_values.specs.declared.Method.{Method}
 use Rattle.edm_values.specs.Names.{Path, goes_on_name, is_name}
 use Rattle.edm_values.proofs.SameTexts.{same_texts, text-self}
+use Rattle.edm_values.proofs.OptionFacts.{some_value}
 use Rattle.apply_ast.specs.Trees.{Expr, AggItem, HierName}
 use Rattle.apply_ast.specs.Printing.{method_word}
 use Rattle.apply_ast.specs.Grammar.{Language, word, ◌·◌, comma, path_text, as_text, hier_text}
@@ -11,7 +12,7 @@ use Rattle.apply_grammar.specs.Limits.{Bounds}
 use Rattle.apply_grammar.specs.Reading.{◌>>=◌, run, after, open_at, comma_at, word_behind, binop_of, sign_at, not_at, name_at, list_at, path_at, digits_at, atom_at, word_at, signed, climb, primary, parens}
 use Rattle.apply_grammar.specs.PipeReading.{small_at, as_at, with_at, method_of, standard_at, custom_at, measure_at, count_name_at, agg_at, root_at, hier_at, node_at}
 use Rattle.apply_grammar.proofs.Nested.{SmallExpr, bare, agg_text}
-use Rattle.apply_grammar.proofs.Runs.{bind_then, branch_then, some_is, is_none, none_some, Front, then_front, map_front, word_front, run_is, after_is, after_front, stops, solid, solid_on, solid_stops, recut}
+use Rattle.apply_grammar.proofs.Runs.{bind_then, branch_then, is_none, none_some, Front, then_front, map_front, word_front, run_is, after_is, after_front, stops, solid, solid_on, solid_stops, recut}
 use Rattle.apply_grammar.proofs.Lists.{Items}
 use Rattle.apply_grammar.proofs.Leaves.{ends, ends_go, IsWord, comma_is, name_is, name_front, path_is, path_front, first_name, rws_stop, word_run, word_is}
 use Rattle.apply_grammar.proofs.ExprAgain.{Follow}
@@ -56,7 +57,7 @@ unfolding with_at standard_at
 standard_is limits d e t s f r w h =
     bind_then (method_of (run goes_on_name r).0) _ h (λ m g h. bind_then (as_at (run goes_on_name r).1) _ h (λ u i h. bind_then (name_at u) _ h (λ n j k.
     let b = between_is (codes "with") s w in
-    subst (λ x. Front (agg_text limits d x.0) t x.1) (some_is k)
+    subst (λ x. Front (agg_text limits d x.0) t x.1) (some_value k)
     (then_front f (then_front b.blanks (then_front b.the_word (then_front b.blanks_behind
     (then_front (record { front = (run goes_on_name r).0; of = method_is _ g; cut = (run_is goes_on_name r).cut }) (as_is (run goes_on_name r).1 i (name_is u j).0)))))))))
 
@@ -65,10 +66,10 @@ unfolding custom_at
 custom_is limits d t h =
     bind_then (name_at t) _ h (λ n e h. branch_then (as_at n.1) _ _ h
     (λ s f h. bind_then (name_at s) _ h (λ a g k.
-    subst (λ x. Front (agg_text limits d x.0) t x.1) (some_is k)
+    subst (λ x. Front (agg_text limits d x.0) t x.1) (some_value k)
     (then_front (name_is t e).0 (map_front (λ b i. inl i) (as_is n.1 f (name_is s g).0)))))
     (λ f k.
-    subst (λ x. Front (agg_text limits d x.0) t x.1) (some_is k)
+    subst (λ x. Front (agg_text limits d x.0) t x.1) (some_value k)
     (then_front (name_is t e).0 (map_front (λ b i. inr (text-self n.0, i)) (word_front [] n.1 n.1 refl)))))
 
 count_name_is : (limits : Bounds) (d : ℕ) (t r : List ℕ) → t ≡ 36 ∷ r → {x : AggItem × List ℕ} → count_name_at r ≡ Some x → Front (agg_text limits d x.0) t x.1
@@ -76,7 +77,7 @@ unfolding count_name_at
 count_name_is limits d t r c h =
     bind_then (word_behind (codes "count") r) _ h (λ u e h. bind_then (as_at u) _ h (λ s f h. bind_then (name_at s) _ h (λ n g k.
     let w = behind_is (codes "count") r e in
-    subst (λ x. Front (agg_text limits d x.0) t x.1) (some_is k)
+    subst (λ x. Front (agg_text limits d x.0) t x.1) (some_value k)
     (then_front (word_front (codes "$count") t u (c ∙ ap (λ l. 36 ∷ l) (w.cut ∙ ap (λ l. l ++ u) w.of))) (as_is u f (name_is s g).0)))))
 
 pub agg_is : (limits : Bounds) (d : ℕ) (t : List ℕ) {x : AggItem × List ℕ} → agg_at limits d t ≡ Some x → Front (agg_text limits d x.0) t x.1
@@ -207,7 +208,7 @@ hier_is : (t : List ℕ) {x : HierName × List ℕ} → hier_at t ≡ Some x →
 unfolding hier_at
 hier_is t h =
     bind_then (root_at t) _ h (λ u e h. bind_then (name_at u) _ h (λ n f h. bind_then (comma_at n.1) _ h (λ c g h. bind_then (name_at c) _ h (λ q i k.
-    subst (λ x. Front (hier_text x.0) t x.1) (some_is k)
+    subst (λ x. Front (hier_text x.0) t x.1) (some_value k)
     (then_front (root_is t e) (then_front (name_is u f).0 (then_front (comma_is n.1 g).0 (name_is c i).0)))))))
 
 hier_front : (h : HierName) (a r : List ℕ) → hier_text h a → ends r ≡ true → hier_at (a ++ r) ≡ Some (h, r)
@@ -235,8 +236,8 @@ pub node_is : {A : Language} (t : List ℕ) {x : (HierName × Path) × List ℕ}
 unfolding node_at
 node_is {A} t {x} {s} h r =
     bind_then (hier_at t) _ h (λ n e h. bind_then (comma_at n.1) _ h (λ c f h. bind_then (path_at c) _ h (λ p g k.
-    let i : Front A p.1 s = subst (λ (x : (HierName × Path) × List ℕ). Front A x.1 s) (sym (some_is k)) r in
-    subst (λ (x : (HierName × Path) × List ℕ). Front (hier_text x.0.0 · comma · path_text x.0.1 · A) t s) (some_is k)
+    let i : Front A p.1 s = subst (λ (x : (HierName × Path) × List ℕ). Front A x.1 s) (sym (some_value k)) r in
+    subst (λ (x : (HierName × Path) × List ℕ). Front (hier_text x.0.0 · comma · path_text x.0.1 · A) t s) (some_value k)
     (then_front (hier_is t e) (then_front (comma_is n.1 f).0 (then_front (path_is c g) i))))))
 
 pub record NodeRead (h : HierName) (p : Path) (A : Language) (a r : List ℕ) : Type 0 where

@@ -1,6 +1,6 @@
 -- The same of items, steps and pipelines: their texts by depth are those of the grammar that keep the limits.
 use Rattle.std.proofs.Common.{◌≡◌, ℕ, nat_le, Bool, true, false, ◌&&◌, List, [], ◌∷◌, length, Option, Some, None, refl, inl, inr}
-use Rattle.std.proofs.lemmas.Bool.{and_from}
+use Rattle.std.proofs.lemmas.Bool.{and_from, and_parts}
 use Rattle.std.specs.Prelude.{codes}
 use Rattle.std.specs.List.{list_all}
 use Rattle.std.proofs.Math.Dec.{leb-zero}
@@ -16,7 +16,6 @@ use Rattle.apply_ast.specs.Grammar.{Text as text, rest_text as grammar_rest, inn
 use Rattle.apply_grammar.specs.Limits.{is_small, agg_small, all_small, inner_small, branches_small, key_small, keys_small, step_small, Bounds}
 use Rattle.apply_grammar.proofs.Nested as nested
 use Rattle.apply_grammar.proofs.Nested.{Distance, Text, rest_text, inner_text, more_branches_text, branches_text, key_text, more_keys_text, keys_text, step_text}
-use Rattle.apply_grammar.proofs.Runs.{and_parts}
 use Rattle.apply_grammar.proofs.Depths.{Tied, limited, Flat, flat, joined, flat_then, then_flat, flat_join, flat_word, no_text, if_given, flat_rws, flat_comma, flat_name, flat_listed, flat_path, digits_to, digits_from, flat_digits, both_flat, int_to, int_from, flat_int, dec_to, dec_from, flat_dec, parentheses, small_tied}
 
 -- ---- parts of plain bytes

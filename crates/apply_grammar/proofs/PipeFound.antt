@@ -5,6 +5,7 @@ use Rattle.edm_values.specs.Lists.{same_text}
 use Rattle.edm_values.specs.Names.{goes_on_name}
 use Rattle.edm_values.specs.Values.{integer_max}
 use Rattle.edm_values.proofs.SameTexts.{same_texts}
+use Rattle.edm_values.proofs.OptionFacts.{some_value}
 use Rattle.apply_ast.specs.Trees.{HierName, Pipe, Step, Pipes, Key}
 use Rattle.apply_ast.specs.Views.{pipes_from, keys_from}
 use Rattle.apply_ast.specs.Printing.{join_word, climb_word}
@@ -17,7 +18,7 @@ use Rattle.apply_grammar.specs.declared.words.LimitKind.{LimitKind}
 use Rattle.apply_grammar.specs.Reading.{run, after, open_at, close_at, comma_at, list_at, path_at, count_at}
 use Rattle.apply_grammar.specs.PipeReading.{Seen, Counted, PipeReader, small_at, named_at, item_at, agg_at, top_at, traverse_at, rollup_at, node_at, alias_at, climb_end_at, more_at, some_at, inner_at, recursive_at, ended, closed, key_call_at, key_at, keys_at, groupby_at, branches_at, join_at, climb_at, selection_word, word_of, step_words, step_word_of, call_at, body_at, step_at, rest_at, steps_at, below, pipe_at}
 use Rattle.apply_grammar.proofs.Nested.{inside, SmallExpr, Digits, named_text, item_text, agg_text, traverse_text, Text, rest_text, inner_text, more_branches_text, branches_text, key_text, more_keys_text, keys_text, step_text}
-use Rattle.apply_grammar.proofs.Runs.{bind_then, branch_then, cond_then, guard_then, some_is, Front, then_front, map_front, word_front, run_is, after_is}
+use Rattle.apply_grammar.proofs.Runs.{bind_then, branch_then, cond_then, guard_then, Front, then_front, map_front, word_front, run_is, after_is}
 use Rattle.apply_grammar.proofs.Lists.{list_is}
 use Rattle.apply_grammar.proofs.Leaves.{Opened, open_is, close_is, comma_is, path_is, word_is}
 use Rattle.apply_grammar.proofs.ExprFound.{spend_then}
@@ -44,15 +45,15 @@ many_text L (x ∷ xs) = L x · each_behind comma L xs
 pub more_is : {X : Type 0} (L : X → Language) (count : X → ℕ) (item : Counted X) → IsCounted L count item → (f n : ℕ) (t : List ℕ) {x : List X × ℕ × List ℕ} → more_at item f n t ≡ Some x → Front (each_behind comma L x.0) t x.2 × (n ≡ total count x.0 + x.1)
 unfolding more_at
 more_is L count item i zero n t h =
-    subst (λ x. Front (each_behind comma L x.0) t x.2 × (n ≡ total count x.0 + x.1)) (some_is h) (word_front [] t t refl, omega arith)
+    subst (λ x. Front (each_behind comma L x.0) t x.2 × (n ≡ total count x.0 + x.1)) (some_value h) (word_front [] t t refl, omega arith)
 more_is L count item i (suc f) n t h =
     branch_then (comma_at t) _ _ h
     (λ s e h. bind_then (item n s) _ h (λ y g h. bind_then (more_at item f y.1 y.2) _ h (λ ys j k.
     let a = i n s y g in
     let b = more_is L count item i f y.1 y.2 j in
-    subst (λ x. Front (each_behind comma L x.0) t x.2 × (n ≡ total count x.0 + x.1)) (some_is k)
+    subst (λ x. Front (each_behind comma L x.0) t x.2 × (n ≡ total count x.0 + x.1)) (some_value k)
     (then_front (comma_is t e).0 (then_front a.0 b.0), omega (arith, a.1, b.1)))))
-    (λ e k. subst (λ x. Front (each_behind comma L x.0) t x.2 × (n ≡ total count x.0 + x.1)) (some_is k) (word_front [] t t refl, omega arith))
+    (λ e k. subst (λ x. Front (each_behind comma L x.0) t x.2 × (n ≡ total count x.0 + x.1)) (some_value k) (word_front [] t t refl, omega arith))
 
 pub many_is : {X : Type 0} (L : X → Language) (count : X → ℕ) (item : Counted X) → IsCounted L count item → IsCounted (many_text L) (total count) (some_at item)
 unfolding some_at
@@ -60,7 +61,7 @@ many_is L count item i n t x h =
     bind_then (item n t) _ h (λ y e h. bind_then (more_at item (length y.2) y.1 y.2) _ h (λ ys f k.
     let a = i n t y e in
     let b = more_is L count item i (length y.2) y.1 y.2 f in
-    subst (λ x. Front (many_text L x.0) t x.2 × (n ≡ total count x.0 + x.1)) (some_is k)
+    subst (λ x. Front (many_text L x.0) t x.2 × (n ≡ total count x.0 + x.1)) (some_value k)
     (then_front a.0 b.0, omega (arith, a.1, b.1))))
 
 -- a reader of pipelines where d parentheses may be open
@@ -87,7 +88,7 @@ pub closed_is : {X Y : Type 0} (L : Y → ℕ → Language) (count : Y → ℕ) 
 unfolding closed
 closed_is L count f d n w A whole s t read a o g k z h =
     bind_then read _ h (λ y e h. bind_then (close_at y.1) _ h (λ r c i.
-    subst (λ x. Got L count d n whole x) (some_is i)
+    subst (λ x. Got L count d n whole x) (some_value i)
     (record { front = map_front (k y.0) (then_front a (in_front o (g y e) (close_is y.1 c))); enough = omega (arith, z y.0) })))
 
 -- one that may hold steps
@@ -96,7 +97,7 @@ unfolding ended
 ended_is L count f d n w A whole s t read a o g k h =
     bind_then read _ h (λ y e h. bind_then (close_at y.2) _ h (λ r c i.
     let p = g y e in
-    subst (λ x. Got L count d n whole x) (some_is i)
+    subst (λ x. Got L count d n whole x) (some_value i)
     (record { front = map_front (k y.0) (then_front a (in_front o p.0 (close_is y.2 c))); enough = p.1 })))
 
 same_word : (w v : List ℕ) {t r : List ℕ} → same_text w v ≡ true → Front (word w) t r → Front (word v) t r
@@ -110,9 +111,9 @@ inner_is limits d pipe i n t x h =
     branch_then (comma_at t) _ _ h
     (λ s e h. bind_then (pipe n s) _ h (λ p f k.
     let a = i n s p f in
-    subst (λ x. Front (inner_text limits x.0 d) t x.2 × (n ≡ opt_count x.0 + x.1)) (some_is k)
+    subst (λ x. Front (inner_text limits x.0 d) t x.2 × (n ≡ opt_count x.0 + x.1)) (some_value k)
     (then_front (comma_is t e).0 a.0, a.1)))
-    (λ e k. subst (λ x. Front (inner_text limits x.0 d) t x.2 × (n ≡ opt_count x.0 + x.1)) (some_is k) (word_front [] t t refl, omega arith))
+    (λ e k. subst (λ x. Front (inner_text limits x.0 d) t x.2 × (n ≡ opt_count x.0 + x.1)) (some_value k) (word_front [] t t refl, omega arith))
 
 -- ---- keys
 
@@ -126,7 +127,7 @@ unfolding recursive_at key_count
 recursive_is limits d pipe i n t x h =
     bind_then (node_at t) _ h (λ y e h. bind_then (inner_at pipe n y.1) _ h (λ T f k.
     let a = inner_is limits d pipe i n y.1 T f in
-    subst (λ x. Front (recursive_text limits x.0 d) t x.2 × (n ≡ key_count x.0 + x.1)) (some_is k)
+    subst (λ x. Front (recursive_text limits x.0 d) t x.2 × (n ≡ key_count x.0 + x.1)) (some_value k)
     (node_is t e a.0, a.1)))
 
 recursive_key : (limits : Bounds) (d : ℕ) (k : Key) (a : List ℕ) → (word (codes "rolluprecursive") · in_parentheses (recursive_text limits k d)) a → key_text limits k (suc d) a
@@ -169,7 +170,7 @@ key_call_is limits (suc d) pipe i w n whole s t {x} a o h =
     cond_then (same_text w (codes "rollup")) _ _ h
     (λ e h. bind_then (rollup_at t) _ h (λ y f h. bind_then (close_at y.1) _ h (λ r c k.
     let z = rolled_none n t y f in
-    subst (λ x. Front (key_text limits x.0 (suc d)) whole x.2 × (n ≡ key_count x.0 + x.1)) (some_is k)
+    subst (λ x. Front (key_text limits x.0 (suc d)) whole x.2 × (n ≡ key_count x.0 + x.1)) (some_value k)
     (map_front (rolled_key limits d y.0) (then_front (same_word w (codes "rollup") e a) (in_front o (rolled_is t y f) (close_is y.1 c))), omega (arith, z)))))
     (λ e h. cond_then (same_text w (codes "rolluprecursive")) _ _ h
     (λ e h.
@@ -183,7 +184,7 @@ key_is limits d pipe i n t x h =
     branch_then (open_at (run goes_on_name t).1) _ _ h
     (λ r e h. key_call_is limits d pipe i (run goes_on_name t).0 n t (run goes_on_name t).1 r (record { front = (run goes_on_name t).0; of = refl; cut = (run_is goes_on_name t).cut }) (open_is (run goes_on_name t).1 e) h)
     (λ e h. bind_then (path_at t) _ h (λ p f k.
-    subst (λ x. Front (key_text limits x.0 d) t x.2 × (n ≡ key_count x.0 + x.1)) (some_is k) (path_is t f, omega arith)))
+    subst (λ x. Front (key_text limits x.0 d) t x.2 × (n ≡ key_count x.0 + x.1)) (some_value k) (path_is t f, omega arith)))
 
 more_keys_from : (limits : Bounds) (d : ℕ) (ks : List Key) (a : List ℕ) → each_behind comma (λ k. key_text limits k d) ks a → more_keys_text limits (keys_from ks) d a
 unfolding more_keys_text
@@ -211,7 +212,7 @@ keys_is limits zero pipe i n t x h = absurd cc
 keys_is limits (suc d) pipe i n t x h =
     bind_then (open_at t) _ h (λ s e h. bind_then (some_at (key_at pipe d) n s) _ h (λ ks f h. bind_then (close_at ks.2) _ h (λ r c k.
     let a = many_is (λ k. key_text limits k d) key_count (key_at pipe d) (key_is limits d pipe (inner_ok limits d pipe (λ e z. i e (ap suc z)))) n s ks f in
-    subst (λ x. Front (inside (suc d) (keys_text limits x.0)) t x.2 × (n ≡ keys_count x.0 + x.1)) (some_is k)
+    subst (λ x. Front (inside (suc d) (keys_text limits x.0)) t x.2 × (n ≡ keys_count x.0 + x.1)) (some_value k)
     (in_front (open_is t e) (map_front (keys_text_from limits d ks.0) a.0) (close_is ks.2 c), omega (arith, a.1, keys_total ks.0)))))
 
 -- ---- branches
@@ -271,7 +272,7 @@ groupby_is limits d pipe deep i j n whole s t a o h =
     bind_then (keys_at deep d n t) _ h (λ ks f h. bind_then (inner_at pipe ks.1 ks.2) _ h (λ T g h. bind_then (close_at T.2) _ h (λ r c k.
     let u = keys_is limits d deep j n t ks f in
     let v = inner_is limits d pipe i ks.1 ks.2 T g in
-    subst (λ x. StepGot limits d n whole x) (some_is k)
+    subst (λ x. StepGot limits d n whole x) (some_value k)
     (record { front = then_front a (in_front o (then_front u.0 v.0) (close_is T.2 c)); enough = omega (arith, u.1, v.1) }))))
 
 concat_is : (limits : Bounds) (d : ℕ) (pipe : PipeReader) → PipeIs limits d pipe → (n : ℕ) (whole s t : List ℕ) {x : Step × ℕ × List ℕ} → Front (word (codes "concat")) whole s → Opened s t → ended Step.Concat (branches_at pipe n t) ≡ Some x → StepGot limits d n whole x
@@ -284,7 +285,7 @@ unfolding join_at ended step_text inner_count
 join_is limits d pipe i outer n whole s t a o h =
     bind_then (alias_at t) _ h (λ y f h. bind_then (inner_at pipe n y.1) _ h (λ T g h. bind_then (close_at T.2) _ h (λ r c k.
     let v = inner_is limits d pipe i n y.1 T g in
-    subst (λ x. StepGot limits d n whole x) (some_is k)
+    subst (λ x. StepGot limits d n whole x) (some_value k)
     (record { front = then_front a (in_front o (alias_is t f v.0) (close_is T.2 c)); enough = v.1 }))))
 
 -- a pipeline, the end of a climb, and the parenthesis
@@ -306,7 +307,7 @@ climb_is limits d pipe i up n whole s t a o h =
     bind_then (node_at t) _ h (λ y f h. bind_then (comma_at y.1) _ h (λ c g h. bind_then (pipe n c) _ h (λ p j h. bind_then (climb_end_at p.2) _ h (λ e l k.
     let v = i n c p j in
     let z = climb_front_end (then_front v.0 (climb_end_is p.2 l)) in
-    subst (λ x. StepGot limits d n whole x) (some_is k)
+    subst (λ x. StepGot limits d n whole x) (some_value k)
     (record { front = then_front a (then_front (then_front o.sign o.blanks) (node_end t y c z f (comma_is y.1 g).0)); enough = v.1 })))))
   where
     node_end : {B : Language} (t : List ℕ) (y : (HierName × List (List ℕ)) × List ℕ) (c : List ℕ) {r : List ℕ} → Front (B · close) c r → node_at t ≡ Some y → Front comma y.1 c → Front ((hier_text y.0.0 · comma · path_text y.0.1 · comma · B) · close) t r
@@ -332,7 +333,7 @@ unfolding closed step_text inner_count
 select_is limits d b k n whole s t a o h =
     bind_then (top_at limits d b k t) _ h (λ y e h. bind_then (close_at y.1) _ h (λ r c i.
     let g = top_is limits d b k t e in
-    subst (λ x. StepGot limits d n whole x) (some_is i)
+    subst (λ x. StepGot limits d n whole x) (some_value i)
     (record { front = then_front (map_front (λ a j. j ∙ sym g.its_word) a) (in_front o g.front (close_is y.1 c)); enough = omega arith })))
 
 pub call_is : (limits : Bounds) (d : ℕ) (pipe : ℕ → PipeReader) → FamilyOk limits (suc d) pipe → (f : StepWord) (n : ℕ) (whole s t : List ℕ) {x : Step × ℕ × List ℕ} → Front (word (word_of f)) whole s → Opened s t → call_at limits pipe d f n t ≡ Some x → StepGot limits d n whole x
@@ -371,7 +372,7 @@ step_is limits d pipe i n t x h =
     spend_then n _ h (λ m z h.
     cond_then (same_text (run goes_on_name t).0 (codes "identity")) _ _ h
     (λ e k.
-    subst (λ x. Front (step_text limits x.0 d) t x.2 × (n ≡ suc (inner_count x.0) + x.1)) (some_is k)
+    subst (λ x. Front (step_text limits x.0 d) t x.2 × (n ≡ suc (inner_count x.0) + x.1)) (some_value k)
     (record { front = (run goes_on_name t).0; of = same_texts _ _ e; cut = (run_is goes_on_name t).cut }, omega arith))
     (λ e h. body_is limits d pipe i m t (run goes_on_name t).0 (run goes_on_name t).1 n z (record { front = (run goes_on_name t).0; of = refl; cut = (run_is goes_on_name t).cut }) x h))
 
@@ -379,15 +380,15 @@ pub rest_is : (limits : Bounds) (d : ℕ) (step : Counted Step) → StepIs limit
 unfolding rest_at rest_text step_count
 rest_is limits d step i zero n t h =
     branch_then (after 47 t) _ _ h (λ s e h. absurd cc)
-    (λ e k. subst (λ x. Front (rest_text limits x.0 d) t x.2 × (n ≡ step_count x.0 + x.1)) (some_is k) (word_front [] t t refl, omega arith))
+    (λ e k. subst (λ x. Front (rest_text limits x.0 d) t x.2 × (n ≡ step_count x.0 + x.1)) (some_value k) (word_front [] t t refl, omega arith))
 rest_is limits d step i (suc f) n t h =
     branch_then (after 47 t) _ _ h
     (λ s e h. bind_then (step n s) _ h (λ y g h. bind_then (rest_at step f y.1 y.2) _ h (λ p j k.
     let a = i n s y g in
     let b = rest_is limits d step i f y.1 y.2 j in
-    subst (λ x. Front (rest_text limits x.0 d) t x.2 × (n ≡ step_count x.0 + x.1)) (some_is k)
+    subst (λ x. Front (rest_text limits x.0 d) t x.2 × (n ≡ step_count x.0 + x.1)) (some_value k)
     (then_front (word_front (codes "/") t s (after_is 47 t e)) (then_front a.0 b.0), omega (arith, a.1, b.1)))))
-    (λ e k. subst (λ x. Front (rest_text limits x.0 d) t x.2 × (n ≡ step_count x.0 + x.1)) (some_is k) (word_front [] t t refl, omega arith))
+    (λ e k. subst (λ x. Front (rest_text limits x.0 d) t x.2 × (n ≡ step_count x.0 + x.1)) (some_value k) (word_front [] t t refl, omega arith))
 
 pub steps_is : (limits : Bounds) (d : ℕ) (step : Counted Step) → StepIs limits d step → PipeIs limits d (steps_at step)
 unfolding steps_at Text step_count
@@ -395,7 +396,7 @@ steps_is limits d step i n t x h =
     bind_then (step n t) _ h (λ y g h. bind_then (rest_at step y.1 y.1 y.2) _ h (λ p j k.
     let a = i n t y g in
     let b = rest_is limits d step i y.1 y.1 y.2 j in
-    subst (λ x. Front (Text limits x.0 d) t x.2 × (n ≡ step_count x.0 + x.1)) (some_is k)
+    subst (λ x. Front (Text limits x.0 d) t x.2 × (n ≡ step_count x.0 + x.1)) (some_value k)
     (then_front a.0 b.0, omega (arith, a.1, b.1))))
 
 same_depth : (d e k : ℕ) → suc d ≡ suc (0 + e) → d ≡ e

@@ -18,14 +18,15 @@ use Rattle.apply_grammar.specs.Gives.{GivesRequest}
 use Rattle.apply_grammar.specs.Reading.{◌>>=◌, branch, run, after, blanks_at, word_behind, name_at}
 use Rattle.apply_grammar.specs.PipeReading.{pipeline_at}
 use Rattle.apply_grammar.specs.FrameReading.{asked_for, explain_at, without_slash, query_at, frame_at, decoded_at, line_at}
-use Rattle.apply_grammar.proofs.Runs.{and_parts, bind_then, branch_then, cond_then, some_is, none_some, blanks_is, blanks_front, after_is, after_front, stops, solid_stops}
+use Rattle.apply_grammar.proofs.Runs.{bind_then, branch_then, cond_then, none_some, blanks_is, blanks_front, after_is, after_front, stops, solid_stops}
 use Rattle.apply_grammar.proofs.Leaves.{false_true, name_is, name_front, name_leads, name_parts, leads_after, rws_stop, word_run}
 use Rattle.apply_grammar.proofs.ItemLaws.{behind_is, behind_front, name_solid}
 use Rattle.apply_grammar.proofs.Balance.{cut_utf8, peel}
 use Rattle.std.specs.List.{list_all}
-use Rattle.std.proofs.lemmas.Bool.{leb-true}
+use Rattle.std.proofs.lemmas.Bool.{leb-true, and_parts}
 use Rattle.apply_grammar.proofs.PipeDepths.{pipe_tied}
 use Rattle.apply_grammar.proofs.PipeWhole.{NestedIn, BeginsIn, IsStop, length_of, pipeline_found, pipeline_only, pipeline_stops}
+use Rattle.edm_values.proofs.OptionFacts.{some_value}
 
 -- ---- pipelines
 
@@ -127,7 +128,7 @@ frame_found line u h =
     bind_then (name_at (without_slash (explain_at t).1)) _ h (λ n f h. bind_then (query_at n.1) _ h (λ q g k.
     let m = (name_is (without_slash (explain_at t).1) f).0 in
     let o = m.of in
-    subst (λ (x : Bool × Name × List ℕ). IsFrame line x.0 x.1 x.2) (some_is k)
+    subst (λ (x : Bool × Name × List ℕ). IsFrame line x.0 x.1 x.2) (some_value k)
     (record {
       utf8 = u;
       name = o.0;

@@ -1,21 +1,12 @@
 -- Runs of bytes, blanks and single bytes.
-use Rattle.std.proofs.Common.{◌≡◌, ℕ, ◌+◌, ◌==◌, Bool, true, false, not, ◌&&◌, cond, List, [], ◌∷◌, ◌++◌, length, Option, Some, None, refl, sym, ap, subst, ◌∙◌, append_assoc, eqb-true, eq-eqb}
-use Rattle.std.proofs.lemmas.Bool.{and_from}
+use Rattle.std.proofs.Common.{◌≡◌, ℕ, ◌+◌, ◌==◌, Bool, true, false, not, cond, List, [], ◌∷◌, ◌++◌, length, Option, Some, None, refl, sym, ap, subst, ◌∙◌, append_assoc, eqb-true, eq-eqb}
+use Rattle.std.proofs.lemmas.Bool.{and_from, not-true, and_parts}
 use Rattle.std.proofs.lemmas.List.{length-append}
 use Rattle.std.specs.List.{list_all}
 use Rattle.apply_ast.specs.Grammar.{Language, is_blank, bws, rws, word, ◌·◌}
 use Rattle.apply_grammar.specs.Reading.{◌>>=◌, branch, run, skip_blanks, blanks_at, after}
 
 -- ---- tests
-
-pub and_parts : (a b : Bool) → (a && b) ≡ true → (a ≡ true) × (b ≡ true)
-and_parts true true h = (refl, refl)
-and_parts true false h = absurd cc
-and_parts false b h = absurd cc
-
-pub not_true : (a : Bool) → not a ≡ true → a ≡ false
-not_true true h = absurd cc
-not_true false h = refl
 
 -- what follows from a part that did not fail
 pub bind_then : {A B P : Type 0} (o : Option A) (f : A → Option B) {y : B} → (o >>= f) ≡ Some y → ((x : A) → o ≡ Some x → f x ≡ Some y → P) → P
@@ -33,9 +24,6 @@ cond_then false a b e k l = l refl e
 pub guard_then : {B P : Type 0} (c : Bool) (a : B) {y : B} → cond c (Some a) None ≡ Some y → (c ≡ true → a ≡ y → P) → P
 guard_then true a e k = k refl cc
 guard_then false a e k = absurd cc
-
-pub some_is : {A : Type 0} {a b : A} → Some a ≡ Some b → a ≡ b
-some_is e = cc
 
 pub is_none : {A : Type 0} (o : Option A) → ((x : A) → o ≡ Some x → ⊥) → o ≡ None
 is_none None k = refl
@@ -79,7 +67,7 @@ solid_on (b ∷ a) r h = h
 pub run_front : (p : ℕ → Bool) (a r : List ℕ) → list_all p a ≡ true → stops p r ≡ true → run p (a ++ r) ≡ (a, r)
 unfolding run
 run_front p [] [] h s = refl
-run_front p [] (b ∷ r) h s = rw (not_true (p b) s) refl
+run_front p [] (b ∷ r) h s = rw (not-true (p b) s) refl
 run_front p (b ∷ a) r h s =
     let q = and_parts (p b) (list_all p a) h in
     rw (q.0, run_front p a r q.1 s) refl
@@ -150,7 +138,7 @@ blanks_is (b ∷ t) {r} h =
 pub blanks_none : (t : List ℕ) → stops is_blank t ≡ true → blanks_at t ≡ None
 unfolding blanks_at
 blanks_none [] h = refl
-blanks_none (b ∷ t) h = rw (not_true (is_blank b) h) refl
+blanks_none (b ∷ t) h = rw (not-true (is_blank b) h) refl
 
 pub after_is : (a : ℕ) (t : List ℕ) {r : List ℕ} → after a t ≡ Some r → t ≡ a ∷ r
 unfolding after

@@ -13,12 +13,13 @@ use Rattle.apply_grammar.specs.declared.words.LimitKind.TheVariants as kind
 use Rattle.apply_grammar.specs.Reading.{◌>>=◌, Leaf, branch, run, after, blanks_at, close_at, comma_at, word_behind, name_at, items_at, list_at, path_at, digits_at, value_behind, count_at, decimal_at}
 use Rattle.apply_grammar.specs.PipeReading.{small_at, as_at, item_at, node_at, literal_at, limit_at, top_at, order_at, traverse_at, distance_at, keep_at, climb_end_at, all_at, rollup_at, alias_at, selection_word}
 use Rattle.apply_grammar.proofs.Nested.{Digits, Fraction, item_text, literal_text, limit_text, distance_text, top_text, traverse_text}
-use Rattle.apply_grammar.proofs.Runs.{bind_then, branch_then, guard_then, some_is, none_some, Front, then_front, map_front, word_front, blanks_is, blanks_front, after_is, after_front, stops, solid, solid_on, solid_stops, recut}
+use Rattle.apply_grammar.proofs.Runs.{bind_then, branch_then, guard_then, none_some, Front, then_front, map_front, word_front, blanks_is, blanks_front, after_is, after_front, stops, solid, solid_on, solid_stops, recut}
 use Rattle.apply_grammar.proofs.Lists.{list_is, list_front, items_is_behind, items_front, behind_follow}
 use Rattle.apply_grammar.proofs.Leaves.{ends, ends_stops, bws_ends, ends_go, comma_is, close_is, close_front, name_is, name_front, digits_is, digits_front, value_is, value_front, rws_stop, after_none, leads_after, leads_solid, leads, decimal_is, decimal_front, dec_atom, digits_lead, leads_on, path_leads}
 use Rattle.apply_grammar.proofs.ExprAgain.{Follow}
 use Rattle.apply_grammar.proofs.ItemLaws.{small_is, small_front, small_solid, behind_is, behind_front, behind_other, ItemEnd, close_end, comma_solid, comma_reads, comma_none, name_solid, as_parts, as_front, as_follow, as_is, order_items}
 use Rattle.apply_grammar.proofs.PartLaws.{path_items, node_is, node_front}
+use Rattle.edm_values.proofs.OptionFacts.{some_value}
 
 -- ---- numbers
 
@@ -28,7 +29,7 @@ count_is most t h =
     bind_then (digits_at t) _ h (λ ds e h. bind_then (value_behind most 0 ds.0) _ h (λ n f k.
     let d = digits_is t e in
     let v = value_is most 0 ds.0 f in
-    subst (λ x. Front (Digits most x.0) t x.1) (some_is k)
+    subst (λ x. Front (Digits most x.0) t x.1) (some_value k)
     (record { front = ds.0; of = record { some = d.0.some; digits = d.0.digits; value = v.0; small = v.1 }; cut = d.1 })))
 
 pub count_front : (most n : ℕ) (a r : List ℕ) → Digits most n a → ends r ≡ true → count_at most (a ++ r) ≡ Some (n, r)
@@ -47,11 +48,11 @@ literal_is t h =
     branch_then (after 46 ds.1) _ _ h
     (λ r f h. bind_then (decimal_at ds.0 r) _ h (λ y g k.
     let c = decimal_is ds.0 r d.0 g in
-    subst (λ x. Front (literal_text x.0) t x.1) (some_is k)
+    subst (λ x. Front (literal_text x.0) t x.1) (some_value k)
     (record { front = ds.0 ++ 46 ∷ c.more; of = c.of; cut = d.1 ∙ ap (λ l. ds.0 ++ l) (after_is 46 ds.1 f ∙ ap (λ l. 46 ∷ l) c.cut) ∙ sym (append_assoc ds.0 (46 ∷ c.more) y.1) })))
     (λ f h. bind_then (value_behind integer_max 0 ds.0) _ h (λ n i k.
     let v = value_is integer_max 0 ds.0 i in
-    subst (λ x. Front (literal_text x.0) t x.1) (some_is k)
+    subst (λ x. Front (literal_text x.0) t x.1) (some_value k)
     (record { front = ds.0; of = record { some = d.0.some; digits = d.0.digits; value = v.0; small = v.1 }; cut = d.1 }))))
 
 int_literal : (n : ℕ) (a r : List ℕ) → Digits integer_max n a → ends r ≡ true → literal_at (a ++ r) ≡ Some (NumberLiteral.Int (pos n), r)
@@ -102,9 +103,9 @@ top_word_is b (Limit.Percent p) = refl
 
 limit_is : (k : LimitKind) (t : List ℕ) {x : Limit × List ℕ} → limit_at k t ≡ Some x → Front (limit_text x.0) t x.1 × (kind_of x.0 ≡ k)
 unfolding limit_at
-limit_is kind.Count t h = bind_then (count_at integer_max t) _ h (λ n e k. subst (λ (x : Limit × List ℕ). Front (limit_text x.0) t x.1 × (kind_of x.0 ≡ kind.Count)) (some_is k) (count_is integer_max t e, refl))
-limit_is kind.Sum t h = bind_then (literal_at t) _ h (λ n e k. subst (λ (x : Limit × List ℕ). Front (limit_text x.0) t x.1 × (kind_of x.0 ≡ kind.Sum)) (some_is k) (literal_is t e, refl))
-limit_is kind.Percent t h = bind_then (count_at 100 t) _ h (λ n e k. subst (λ (x : Limit × List ℕ). Front (limit_text x.0) t x.1 × (kind_of x.0 ≡ kind.Percent)) (some_is k) (count_is 100 t e, refl))
+limit_is kind.Count t h = bind_then (count_at integer_max t) _ h (λ n e k. subst (λ (x : Limit × List ℕ). Front (limit_text x.0) t x.1 × (kind_of x.0 ≡ kind.Count)) (some_value k) (count_is integer_max t e, refl))
+limit_is kind.Sum t h = bind_then (literal_at t) _ h (λ n e k. subst (λ (x : Limit × List ℕ). Front (limit_text x.0) t x.1 × (kind_of x.0 ≡ kind.Sum)) (some_value k) (literal_is t e, refl))
+limit_is kind.Percent t h = bind_then (count_at 100 t) _ h (λ n e k. subst (λ (x : Limit × List ℕ). Front (limit_text x.0) t x.1 × (kind_of x.0 ≡ kind.Percent)) (some_value k) (count_is 100 t e, refl))
 
 limit_front : (l : Limit) (a r : List ℕ) → limit_text l a → ends r ≡ true → limit_at (kind_of l) (a ++ r) ≡ Some (l, r)
 unfolding limit_at
@@ -127,7 +128,7 @@ unfolding top_at
 top_is limits d b k t h =
     bind_then (limit_at k t) _ h (λ l e h. bind_then (comma_at l.1) _ h (λ c f h. bind_then (small_at limits d c) _ h (λ y g i.
     let m = limit_is k t e in
-    subst (λ x. TopRead limits d b k t x) (some_is i)
+    subst (λ x. TopRead limits d b k t x) (some_value i)
     (record {
       front = then_front m.0 (then_front (comma_is l.1 f).0 (small_is limits d c g));
       its_word = top_word_is b l.0 ∙ ap (selection_word b) m.1;
@@ -156,8 +157,8 @@ order_is : (t : List ℕ) {x : Bool × List ℕ} → order_at t ≡ Some x → F
 unfolding order_at
 order_is t h =
     branch_then (word_behind (codes "preorder") t) _ _ h
-    (λ u e k. subst (λ (x : Bool × List ℕ). Front (order_text x.0) t x.1) (some_is k) (behind_is (codes "preorder") t e))
-    (λ e h. bind_then (word_behind (codes "postorder") t) _ h (λ u f k. subst (λ (x : Bool × List ℕ). Front (order_text x.0) t x.1) (some_is k) (behind_is (codes "postorder") t f)))
+    (λ u e k. subst (λ (x : Bool × List ℕ). Front (order_text x.0) t x.1) (some_value k) (behind_is (codes "preorder") t e))
+    (λ e h. bind_then (word_behind (codes "postorder") t) _ h (λ u f k. subst (λ (x : Bool × List ℕ). Front (order_text x.0) t x.1) (some_value k) (behind_is (codes "postorder") t f)))
 
 order_front : (b : Bool) (r : List ℕ) → stops goes_on_name r ≡ true → order_at (walk_word b ++ r) ≡ Some (b, r)
 unfolding order_at
@@ -172,7 +173,7 @@ pub traverse_is : (limits : Bounds) (d : ℕ) (t : List ℕ) {x : TraverseStep �
 unfolding traverse_at
 traverse_is limits d t h =
     bind_then (node_at t) _ h (λ n e h. bind_then (comma_at n.1) _ h (λ c f h. bind_then (order_at c) _ h (λ o g h. bind_then (items_at comma_at (item_at limits d) (length o.1) o.1) _ h (λ is i k.
-    subst (λ x. Front (traverse_text limits x.0 d) t x.1) (some_is k)
+    subst (λ x. Front (traverse_text limits x.0 d) t x.1) (some_value k)
     (node_is t e (then_front (comma_is n.1 f).0 (then_front (order_is c g) (items_is_behind (order_items limits d) (length o.1) o.1 i))))))))
 
 behind_ends : (limits : Bounds) (d : ℕ) (xs : List OrderItem) (a r : List ℕ) → each_behind comma (item_text limits d) xs a → ItemEnd r → ends (a ++ r) ≡ true
@@ -210,8 +211,8 @@ distance_is t h =
     let v = value_is integer_max 0 ds.0 g in
     subst (λ (x : Option ℕ × List ℕ). Front (distance_text x.0) t x.1) k
     (then_front (comma_is t e).0 (record { front = ds.0; of = record { of = record { some = d.0.some; digits = d.0.digits; value = v.0; small = v.1 }; some = l }; cut = d.1 })))))
-    (λ f k. subst (λ (x : Option ℕ × List ℕ). Front (distance_text x.0) t x.1) (some_is k) (word_front [] t t refl)))
-    (λ e k. subst (λ (x : Option ℕ × List ℕ). Front (distance_text x.0) t x.1) (some_is k) (word_front [] t t refl))
+    (λ f k. subst (λ (x : Option ℕ × List ℕ). Front (distance_text x.0) t x.1) (some_value k) (word_front [] t t refl)))
+    (λ e k. subst (λ (x : Option ℕ × List ℕ). Front (distance_text x.0) t x.1) (some_value k) (word_front [] t t refl))
 
 -- a comma with no number behind it may follow
 no_distance : (r : List ℕ) → ((u : List ℕ) → comma_at r ≡ Some u → digits_at u ≡ None) → distance_at r ≡ Some (None, r)
@@ -243,9 +244,9 @@ unfolding keep_at
 keep_is t h =
     branch_then (comma_at t) _ _ h
     (λ s e h. bind_then (word_behind (codes "keep") s) _ h (λ k f h. bind_then (blanks_at k) _ h (λ b g h. bind_then (word_behind (codes "start") b) _ h (λ u i j.
-    subst (λ (x : Bool × List ℕ). Front (keep_text x.0) t x.1) (some_is j)
+    subst (λ (x : Bool × List ℕ). Front (keep_text x.0) t x.1) (some_value j)
     (then_front (comma_is t e).0 (then_front (behind_is (codes "keep") s f) (then_front (blanks_is k g).0 (behind_is (codes "start") b i))))))))
-    (λ e k. subst (λ (x : Bool × List ℕ). Front (keep_text x.0) t x.1) (some_is k) (word_front [] t t refl))
+    (λ e k. subst (λ (x : Bool × List ℕ). Front (keep_text x.0) t x.1) (some_value k) (word_front [] t t refl))
 
 -- what follows the pipeline of a climb, or its distance
 record Kept (b : Bool) (a z : List ℕ) : Type 0 where
@@ -292,14 +293,14 @@ keep_front true a w r h b =
       ends_here = subst (λ l. ends l ≡ true) (sym e) (comma_solid h.left y h.first);
       no_number = λ u i.
           let c : Some y ≡ Some u = sym (comma_reads h.left y h.first refl) ∙ ap comma_at (sym e) ∙ i in
-          subst (λ l. digits_at l ≡ None) (some_is c) (no_digits_keep (v.left ++ (codes "start" ++ z)));
+          subst (λ l. digits_at l ≡ None) (some_value c) (no_digits_keep (v.left ++ (codes "start" ++ z)));
     }
 
 pub climb_end_is : (t : List ℕ) {x : (Option ℕ × Bool) × List ℕ} → climb_end_at t ≡ Some x → Front ((distance_text x.0.0 · keep_text x.0.1) · close) t x.1
 unfolding climb_end_at
 climb_end_is t h =
     bind_then (distance_at t) _ h (λ d e h. bind_then (keep_at d.1) _ h (λ k f h. bind_then (close_at k.1) _ h (λ r g i.
-    subst (λ (x : (Option ℕ × Bool) × List ℕ). Front ((distance_text x.0.0 · keep_text x.0.1) · close) t x.1) (some_is i)
+    subst (λ (x : (Option ℕ × Bool) × List ℕ). Front ((distance_text x.0.0 · keep_text x.0.1) · close) t x.1) (some_value i)
     (then_front (then_front (distance_is t e) (keep_is d.1 f)) (close_is k.1 g)))))
 
 -- the end of a climb, with what it follows
@@ -360,7 +361,7 @@ unfolding rollup_at
 rollup_is t h =
     branch_then (after 36 t) _ _ h
     (λ r e h. bind_then (all_at r) _ h (λ c f h. bind_then (list_at comma_at path_at c) _ h (λ ps g k.
-    subst (λ x. RollupRead t x) (some_is k)
+    subst (λ x. RollupRead t x) (some_value k)
     (record { all = true; paths = ps.0; key = refl; front = regroup (then_front (all_is t r (after_is 36 t e) f) (list_is path_items c g)) }))))
     (λ e h. bind_then (list_at comma_at path_at t) _ h (λ ps g h. guard_then (nat_le 2 (length ps.0)) _ h (λ l k.
     subst (λ x. RollupRead t x) k
@@ -410,8 +411,8 @@ pub alias_is : {A : Language} (t : List ℕ) {x : (Name × Name) × List ℕ} {s
 unfolding alias_at
 alias_is {A} t {x} {s} h z =
     bind_then (name_at t) _ h (λ n e h. bind_then (as_at n.1) _ h (λ r f h. bind_then (name_at r) _ h (λ a g k.
-    let i : Front A a.1 s = subst (λ (x : (Name × Name) × List ℕ). Front A x.1 s) (sym (some_is k)) z in
-    subst (λ (x : (Name × Name) × List ℕ). Front (name_text x.0.0 · as_text x.0.1 · A) t s) (some_is k)
+    let i : Front A a.1 s = subst (λ (x : (Name × Name) × List ℕ). Front A x.1 s) (sym (some_value k)) z in
+    subst (λ (x : (Name × Name) × List ℕ). Front (name_text x.0.0 · as_text x.0.1 · A) t s) (some_value k)
     (then_front (name_is t e).0 (then_front (as_is n.1 f (name_is r g).0) i)))))
 
 pub record AliasRead (n m : Name) (A : Language) (a r : List ℕ) : Type 0 where

@@ -6,7 +6,6 @@ use Rattle.std.proofs.lemmas.Bool.{and_parts, not-true, true≢false}
 use Rattle.std.specs.declared.result.Result.{Result}
 use Rattle.std.proofs.lemmas.List.{append-nil, map_more}
 use Rattle.std.proofs.lemmas.List.Elements.{filter-append}
-use Rattle.context_typing.proofs.TableLemmas.{filter-passes}
 use Rattle.edm_values.specs.declared.Method.{Method}
 use Rattle.edm_values.specs.declared.Seen.{Seen}
 use Rattle.edm_values.specs.declared.Value.{Value}
@@ -17,6 +16,7 @@ use Rattle.apply_meaning.specs.Aggregates.{aggregate, aggregate_of}
 use Rattle.apply_meaning.specs.Meaning.{item_before}
 use Rattle.edm_values.proofs.Reorderings.{TestsEquality, all-reorders}
 use Rattle.edm_values.proofs.SortedLists.{inserted, ordered, reorders-ordered, sorted-is_ordered}
+use Rattle.edm_values.proofs.ListFacts.{filter-passes}
 use Rattle.indexmap.specs.IndexSet.{insert_key}
 use Rattle.apply_meaning.proofs.SumLaws.{kept}
 

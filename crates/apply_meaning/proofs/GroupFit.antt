@@ -4,9 +4,9 @@ use Rattle.std.specs.Prelude.{option_and_then, option_map, is_some, is_none, fla
 use Rattle.std.specs.List.{list_all, list_any, range_with_len}
 use Rattle.std.proofs.lemmas.List.{append-nil, append_assoc, map-append, reverse-append}
 use Rattle.std.proofs.lemmas.Bool.{eq-eqb, and_parts, and_from, not-true, both_ways, or_right, not_from_false, le-leb}
-use Rattle.edm_values.proofs.EachLemmas.{Each, all-filter, each-append, each-map}
+use Rattle.edm_values.proofs.EachLemmas.{Each, each-append, each-map}
 use Rattle.edm_values.proofs.KindLaws.{same_kind-fits}
-use Rattle.edm_values.proofs.ListFacts.{all-any, all-append, all-map, all-parts, all-take}
+use Rattle.edm_values.proofs.ListFacts.{all-any, all-append, all-map, all-parts, all-take, all-filter, filter-passes}
 use Rattle.edm_values.proofs.OptionFacts.{all_some-parts, and_3, mapped, none_or, option_cases, some_and, some_value}
 use Rattle.edm_values.proofs.SearchFacts.{IsAmong, all-distinct, found-all, member-self, none-all}
 use Rattle.edm_values.specs.Lists.{all_some, is_nonempty, is_some_and}
@@ -26,7 +26,6 @@ use Rattle.context_typing.proofs.LawfulLemmas.{member-of_property}
 use Rattle.context_typing.proofs.MergedShape.{at-root, root_entry, same_kind-left}
 use Rattle.context_typing.proofs.PathLemmas.{entry-path, longest-at, path-self}
 use Rattle.context_typing.proofs.ShapeLemmas.{Law}
-use Rattle.context_typing.proofs.TableLemmas.{filter-passes}
 use Rattle.context_typing.proofs.TypingLaw.{no-overlap}
 use Rattle.context_typing.specs.Paths.{at_path, is_none_or, is_proper_prefix, same_path}
 use Rattle.context_typing.specs.Shapes.{ColumnShape, PrefixShape, RootShape, Shape}

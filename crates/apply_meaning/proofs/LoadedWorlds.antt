@@ -1,5 +1,5 @@
 -- A world that fits a sound model is well typed.
-use Rattle.std.proofs.Common.{◌≡◌, refl, sym, ◌∙◌, ap, ℕ, zero, suc, ◌<◌, true, false, List, [], ◌∷◌, length, Some, inl, inr, arith}
+use Rattle.std.proofs.Common.{◌≡◌, refl, sym, ◌∙◌, ap, ℕ, zero, suc, ◌<◌, true, false, List, [], ◌∷◌, length, Some, inl, inr}
 use Rattle.std.specs.Prelude.{option_map, unwrap_or, slice_get}
 use Rattle.std.proofs.lemmas.Bool.{and_parts}
 use Rattle.edm_values.specs.declared.Value.{Value}
@@ -7,6 +7,7 @@ use Rattle.edm_values.specs.Literals.{is_of_kind}
 use Rattle.edm_values.specs.Values.{is_beyond, value_in}
 use Rattle.edm_values.proofs.KindLaws.{null-fits}
 use Rattle.edm_values.proofs.OptionFacts.{option_cases, some_value}
+use Rattle.edm_values.proofs.TopPlaces.{element-there}
 use Rattle.edm_model.specs.Models.{EntityType, Property, Model}
 use Rattle.edm_model.specs.LookUps.{type_at, properties_of, navigations_of, set_type, set_of_type, navigation_on}
 use Rattle.edm_model.specs.Soundness.{IsSound}
@@ -46,15 +47,10 @@ properties-at m t E h = ap (λ o. unwrap_or (option_map (λ e. e.properties) o) 
 navigations-at : (m : Model) (t : ℕ) (E : EntityType) → type_at m t ≡ Some E → navigations_of m t ≡ E.navigations
 navigations-at m t E h = ap (λ o. unwrap_or (option_map (λ e. e.navigations) o) []) h
 
-something-within : {X : Type 0} (xs : List X) (k : ℕ) → k < length xs → (x : X) × (slice_get xs k ≡ Some x)
-something-within [] k h = absurd (omega (arith, h))
-something-within (x ∷ xs) zero h = (x, refl)
-something-within (x ∷ xs) (suc k) h = something-within xs k (omega (arith, h))
-
 -- a set that there is has its type
 pub set-here : (m : Model) (s : ℕ) → s < length m.sets → option_map (λ x. x.of) (slice_get m.sets s) ≡ Some (set_type m s)
 set-here m s h =
-    let x = something-within m.sets s h in
+    let x = element-there m.sets s h in
     ap (option_map (λ x. x.of)) x.1 ∙ ap (λ z. Some z) (sym (ap (λ o. unwrap_or (option_map (λ x. x.of) o) 0) x.1))
 
 pub well_typed : (w : World) → IsSound w.model → FitsModel w → IsWellTyped w

@@ -1,12 +1,12 @@
 -- Look-ups as the program makes them: by the fronts of a path, and by names of navigations.
 use Rattle.std.proofs.Common.{◌≡◌, ℕ, zero, suc, ◌+◌, ◌-◌, ◌<◌, ◌≤◌, length, take, drop, refl, sym, ◌∙◌, ap, Bool, true, false, List, [], ◌∷◌, ◌++◌, Option, Some, None, arith, map, inl, inr}
-use Rattle.std.specs.Prelude.{option_map, option_and_then, unwrap_or, slice_get, is_some, find, if◌then◌else◌, IfSome}
-use Rattle.std.specs.List.{enumerate_from}
+use Rattle.std.specs.Prelude.{option_map, option_and_then, unwrap_or, slice_get, is_some, if◌then◌else◌, IfSome}
 use Rattle.edm_values.specs.declared.Value.{Value}
 use Rattle.edm_values.specs.Lists.{find_map, first_some, same_text}
 use Rattle.edm_values.specs.Names.{Name, Path}
-use Rattle.edm_values.proofs.OptionFacts.{mapped, chained, option_cases, none_or}
-use Rattle.edm_values.proofs.SearchFacts.{chosen, found-all}
+use Rattle.edm_values.proofs.OptionFacts.{mapped, chained, option_cases, unmapped}
+use Rattle.edm_values.proofs.SearchFacts.{found-all, found-numbered_at}
+use Rattle.edm_values.proofs.ListFacts.{none-past}
 use Rattle.edm_model.specs.Models.{Part, Navigation, EntitySet, EntityType}
 use Rattle.edm_model.specs.LookUps.{IsSet, set_type, type_at, found_part, navigation_named, item_named}
 use Rattle.edm_data.specs.Worlds.{World, Entity}
@@ -73,13 +73,9 @@ front-hit w i p k o h =
     ap (λ a. behind w (first_some (option_map (λ y. (y, drop (suc k) p)) a) (find_map (found i) (fronts p k)))) x.1
     ∙ ap (option_and_then (value_behind w (drop (suc k) p))) x.2
 
-no-map : {X Y : Type 0} (f : X → Y) (o : Option X) → option_map f o ≡ None → o ≡ None
-no-map f None h = refl
-no-map f (Some x) h = none_or _ (sym h)
-
 -- and one that is none
 pub front-shorter : (w : World) (i : Instance) (p : Path) (k : ℕ) → option_map (λ x. x.1) (at_path (λ x. x.0) i.prefixes (take (suc k) p)) ≡ None → front_value w i p (suc k) ≡ front_value w i p k
-front-shorter w i p k h = ap (λ a. behind w (first_some (option_map (λ y. (y, drop (suc k) p)) a) (find_map (found i) (fronts p k)))) (no-map (λ (x : Prefix). x.1) (at_path (λ x. x.0) i.prefixes (take (suc k) p)) h)
+front-shorter w i p k h = ap (λ a. behind w (first_some (option_map (λ y. (y, drop (suc k) p)) a) (find_map (found i) (fronts p k)))) (unmapped (λ (x : Prefix). x.1) (at_path (λ x. x.0) i.prefixes (take (suc k) p)) h)
 
 -- the same of the front behind which one more name is left, among the prefixes of a row
 pub next-hit : (w : World) (i : Instance) (ps : List Prefix) (p : Path) (k : ℕ) (o : Option Entity) → i.prefixes ≡ with_root (root_of i) ps → 0 < k → k ≤ length p → option_map (λ x. x.1) (at_path (λ x. x.0) ps (take (k - 1 + 1) p)) ≡ Some o → front_value w i p k ≡ option_and_then (value_behind w (drop (k - 1 + 1) p)) o
@@ -124,20 +120,6 @@ fronts-whole w i p = ap (λ cs. behind w (find_map (found i) cs)) (sym (splits-f
 
 -- ---- navigation by name
 
--- what is found among numbered elements stands at its number
-numbered : {X : Type 0} (t : ℕ × X → Bool) (n : ℕ) (xs : List X) (x : ℕ × X) → find t (enumerate_from n xs) ≡ Some x → (k : ℕ) × (x.0 ≡ n + k) × (slice_get xs k ≡ Some x.1)
-numbered t n [] x e = none_or x e
-numbered t n (y ∷ ys) x e = elim (chosen (t (n, y)) (n, y) x (find t (enumerate_from (n + 1) ys)) e) [
-  | inl h ↦ (0, (let s : n ≡ x.0 = ap (λ z. z.0) h.1 in omega (arith, s)), ap (λ z. Some z.1) h.1)
-  | inr h ↦ let r = numbered t (n + 1) ys x h.1 in (suc r.0, (let s : x.0 ≡ n + 1 + r.0 = r.1 in omega (arith, s)), r.2)
-]
-
-numbered-at : {X : Type 0} (t : ℕ × X → Bool) (xs : List X) (x : ℕ × X) → find t (enumerate_from 0 xs) ≡ Some x → slice_get xs x.0 ≡ Some x.1
-numbered-at t xs x e =
-    let r = numbered t 0 xs x e in
-    let s : x.0 ≡ r.0 = (let u : x.0 ≡ 0 + r.0 = r.1 in omega (arith, u)) in
-    ap (slice_get xs) s ∙ r.2
-
 abbrev follows : World → Entity → Navigation → Option Entity
 follows w e x = if x.many then None else referred w e x
 
@@ -146,12 +128,12 @@ one x = if (x.1).many then None else Some x.1
 
 pub follow-named : (w : World) (e : Entity) (n : Name) (t k : ℕ) (r : Part) → IsSet w.model e.set → t ≡ set_type w.model e.set → Some r ≡ found_part t (navigation_named w.model t n) → k ≡ r.at → follow w e k ≡ named_reference w n e
 follow-named w e n t k r s h f z = elim (option_cases (slice_get w.model.sets e.set)) [
-  | inl g ↦ absurd (let u : e.set < length w.model.sets = s in let v = past w.model.sets e.set g in omega (arith, u, v))
+  | inl g ↦ absurd (let u : e.set < length w.model.sets = s in let v = none-past w.model.sets e.set g in omega (arith, u, v))
   | inr g ↦
       let of : t ≡ (g.0).of = h ∙ ap (λ o. unwrap_or (option_map (λ (x : EntitySet). x.of) o) 0) g.1 in
       let x = mapped (λ (x : ℕ × Navigation). record { of = t; at = x.0 }) (navigation_named w.model t n) r (sym f) in
       let E = chained (λ (E : EntityType). item_named (λ (v : Navigation). v.name) n E.navigations) (type_at w.model t) x.0 x.1 in
-      let at : slice_get (E.0).navigations k ≡ Some (x.0).1 = ap (slice_get (E.0).navigations) (z ∙ ap (λ (p : Part). p.at) (sym x.2)) ∙ numbered-at (λ y. same_text (y.1).name n) (E.0).navigations x.0 E.2 in
+      let at : slice_get (E.0).navigations k ≡ Some (x.0).1 = ap (slice_get (E.0).navigations) (z ∙ ap (λ (p : Part). p.at) (sym x.2)) ∙ found-numbered_at (λ y. same_text (y.1).name n) (E.0).navigations x.0 E.2 in
       ap (λ o. option_and_then (follows w e) (option_and_then (λ (T : EntityType). slice_get T.navigations k) (option_and_then (λ (es : EntitySet). type_at w.model es.of) o))) g.1
       ∙ ap (λ u. option_and_then (follows w e) (option_and_then (λ (T : EntityType). slice_get T.navigations k) (type_at w.model u))) (sym of)
       ∙ ap (λ o. option_and_then (follows w e) (option_and_then (λ (T : EntityType). slice_get T.navigations k) o)) E.1
@@ -162,11 +144,6 @@ follow-named w e n t k r s h f z = elim (option_cases (slice_get w.model.sets e.
       ∙ ap (λ o. option_and_then (referred w e) (option_and_then (λ u. option_and_then one (navigation_named w.model u n)) (option_map (λ (x : EntitySet). x.of) o))) (sym g.1)
 ]
   where
-    past : {X : Type 0} (xs : List X) (k : ℕ) → slice_get xs k ≡ None → length xs ≤ k
-    past [] k h = omega arith
-    past (x ∷ xs) zero h = none_or x (sym h)
-    past (x ∷ xs) (suc k) h = let r = past xs k h in omega (arith, r)
-
     either : (b : Bool) (v : Navigation) → (if b then None else referred w e v) ≡ option_and_then (referred w e) (if b then None else Some v)
     either true v = refl
     either false v = refl

@@ -4,8 +4,7 @@ use Rattle.std.specs.Prelude.{option_and_then, option_map, flat_map, unwrap_or, 
 use Rattle.std.specs.Bool.{then_some}
 use Rattle.std.specs.List.{list_all, list_any}
 use Rattle.std.proofs.lemmas.Bool.{and_parts, and_from, or_left, or_right, or_cases, not-true, both_ways}
-use Rattle.edm_values.proofs.EachLemmas.{all-filter}
-use Rattle.edm_values.proofs.ListFacts.{all-append, all-drop, all-each, all-map, all-sorted, all-take}
+use Rattle.edm_values.proofs.ListFacts.{all-append, all-drop, all-each, all-map, all-sorted, all-take, all-filter}
 use Rattle.edm_values.proofs.OptionFacts.{all_some-parts, and_7, chained, if_else-parts, mapped, none_or, some_value, then_some-parts}
 use Rattle.edm_values.proofs.SearchFacts.{IsAmong}
 use Rattle.edm_values.specs.Lists.{all_some, are_distinct, at_places, is_nonempty, sorted}
@@ -17,7 +16,8 @@ use Rattle.edm_data.specs.Worlds.{World}
 use Rattle.apply_ast.specs.Trees.{Key, Keys, OptPipe, Pipe, Pipes, Step, is_long}
 use Rattle.context_typing.proofs.MergedShape.{root_entry}
 use Rattle.context_typing.proofs.ShapeLemmas.{Law, law-from, lawful-from}
-use Rattle.context_typing.proofs.TypingLaw.{branches_law, inner_law, key-paths, law-none, law-own, navigation-root, root-same, step_law}
+use Rattle.context_typing.proofs.TypingLaw.{branches_law, inner_law, law-none, law-own, navigation-root, root-same, step_law}
+use Rattle.context_typing.proofs.GroupFacts.{columns-paths}
 use Rattle.context_typing.specs.Paths.{same_path}
 use Rattle.context_typing.specs.Shapes.{RootShape, Shape, set_shape}
 use Rattle.context_typing.specs.Typing.{Customs, after, all_prefixes, branch_shapes, branches_agree, columns_differ, concat_shape, expr_kind, group_keys, grouped_shape, hierarchy_at, inner_shape, is_free, is_lawful, is_node_path, is_nodes, is_sure, item_column, join_navigation, joined_shape, key_columns, key_paths, keys_typed, new_column, no_shape, plain_paths, rollup_part, rollup_parts, step_shape, steps_shape}
@@ -99,7 +99,7 @@ module _ (m : Model) (c : Customs) where
         let u = then_some-parts _ _ S' G.2 in
         let v = and_7 (is_nonempty (key_paths (group_keys ks))) _ _ _ _ _ (not (is_nodes (rollup_part (group_keys ks))) || not (is_nonempty (all_prefixes G.0))) u.0 in
         λ h. sym (ap is_something u.1) ∙ something-columns (record (G.0) { columns = (G.0).columns ++ key_columns m S (group_keys ks) }) (nonempty-behind (G.0).columns (key_columns m S (group_keys ks))
-        (sym (nonempty-map (λ c. c.path) (key_columns m S (group_keys ks))) ∙ ap is_nonempty (key-paths m S (group_keys ks)) ∙ v.0))
+        (sym (nonempty-map (λ c. c.path) (key_columns m S (group_keys ks))) ∙ ap is_nonempty (columns-paths m S (group_keys ks)) ∙ v.0))
     step_something (Step.Concat ps) S S' L e =
         let Ss = chained (concat_shape m) (all_some (branch_shapes m c S ps)) S' e in
         let B = branches_law m c ps S Ss.0 L Ss.1 in
@@ -196,7 +196,7 @@ module _ (w : World) (c : Customs) (P : IsWellTyped w) where
         let v = and_7 (is_nonempty (key_paths (group_keys ks))) (nat_le (length (rollup_parts ks)) 1) _ _ _ _ (not (is_nodes (rollup_part (group_keys ks))) || not (is_nonempty (all_prefixes G.0))) u.0 in
         let x = chained (λ shown. grouping_mean w (group_keys ks) shown (inner_mean w c S (λ g. Some (no_instance ∷ [])) T) l) (keys_shown w c ks) r h in
         let law = lawful-from w.model S' (step_law w.model c (Step.GroupBy ks T) S S' L e).0 in
-        let paths = key-paths w.model S (group_keys ks) in
+        let paths = columns-paths w.model S (group_keys ks) in
         parts-fit w P S G.0 S' L K.0 (inner_mean w c S (λ g. Some (no_instance ∷ [])) T) (inner_fits T S no_shape G.0 L G.1 (λ g. Some (no_instance ∷ [])) nothing)
         (λ Q l r b k. inner_roots w c Q T S (λ g. Some (no_instance ∷ [])) (λ l r a e. sym (ap (list_all (root_passes Q)) (some_value e))) l r b k) (plain_paths ks) (rollup_part (group_keys ks)) v.2
         (λ y Y cs o. ap (λ z. fits w z (extended y cs)) (sym u.1) ∙ fit-whole w _ _ (fit-more w G.0 _ y cs Y (ap (is_lawful w.model) u.1 ∙ law) (ap (are_distinct same_path) paths ∙ v.3)

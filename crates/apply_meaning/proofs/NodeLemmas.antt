@@ -1,11 +1,12 @@
 -- The nodes of a hierarchy and related entities fit the shapes of their types.
-use Rattle.std.proofs.Common.{◌≡◌, refl, sym, ◌∙◌, ap, ℕ, zero, suc, ◌≤◌, ◌==◌, true, [], ◌∷◌, Option, Some, None, map, arith}
+use Rattle.std.proofs.Common.{◌≡◌, refl, sym, ◌∙◌, ap, ℕ, ◌==◌, true, [], Option, Some, None, map, arith}
 use Rattle.std.specs.Prelude.{option_and_then, option_map, unwrap_or, find, slice_get, nat_lt}
 use Rattle.std.specs.List.{list_all}
-use Rattle.std.proofs.lemmas.Bool.{and_from, lt-ltb, eq-eqb}
+use Rattle.std.proofs.lemmas.Bool.{and_from, eq-eqb}
 use Rattle.edm_values.specs.Lists.{places, is_some_and, same_text}
 use Rattle.edm_values.proofs.OptionFacts.{chained, mapped}
-use Rattle.edm_values.proofs.ListFacts.{all-map, all-filter, all-append}
+use Rattle.edm_values.proofs.ListFacts.{all-map, all-filter}
+use Rattle.edm_values.proofs.PlaceFacts.{places-within}
 use Rattle.edm_model.specs.Models.{EntityType, Hierarchy, Property, Navigation, Model}
 use Rattle.edm_model.specs.LookUps.{HierarchyPlace, placed, set_named, set_type, type_at, type_of_set, set_of_type, many_named}
 use Rattle.edm_data.specs.Worlds.{World, Entity, entity_at}
@@ -30,14 +31,10 @@ entity-fits w t e h = fit-whole w (set_shape t) (entity_instance e) (record {
   prefixes_fit = and_from _ _ h refl;
 })
 
-within-places : (m n : ℕ) → n ≤ m → list_all (λ k. nat_lt k m) (places n) ≡ true
-within-places m zero h = refl
-within-places m (suc n) h = all-append (λ k. nat_lt k m) (places n) (n ∷ []) (within-places m n (omega (arith, h))) (and_from _ _ (lt-ltb n m (omega (arith, h))) refl)
-
 -- the entities of a set are entities of its type
 pub all-entities : (w : World) (s t : ℕ) → option_map (λ x. x.of) (slice_get w.model.sets s) ≡ Some t → list_all (is_entity w t) (entities_in w s) ≡ true
 all-entities w s t h =
-    all-map (λ k. nat_lt k (count w s)) (is_entity w t) (entity_at s) (places (count w s)) (within-places (count w s) (count w s) (omega arith))
+    all-map (λ k. nat_lt k (count w s)) (is_entity w t) (entity_at s) (places (count w s)) (places-within (count w s) (count w s) (omega arith))
     (λ k l. and_from _ _ (ap (is_some_and (λ t'. t' == t)) h ∙ eq-eqb t t refl) l)
 
 -- a hierarchy that is found: the type of its set, and the key of that type

@@ -5,9 +5,8 @@ use Rattle.std.specs.Bool.{then_some}
 use Rattle.std.specs.List.{list_any, list_all}
 use Rattle.std.proofs.lemmas.Bool.{and_parts, and_from, not-true, or_right}
 use Rattle.std.proofs.lemmas.List.{map-append}
-use Rattle.edm_values.proofs.EachLemmas.{all-filter}
-use Rattle.edm_values.proofs.ListFacts.{all-any, all-append, all-map, none-append, none-flat_map, none-map}
-use Rattle.edm_values.proofs.OptionFacts.{all_some-parts, all_some-there, and_3, chained, if_else-parts, map-there, some_and, some_value, then_some-parts}
+use Rattle.edm_values.proofs.ListFacts.{all-any, all-append, all-map, none-append, none-flat_map, none-map, all-filter}
+use Rattle.edm_values.proofs.OptionFacts.{all_some-parts, all_some-there, and_3, chained, if_else-parts, map-there, some_and, some_value, then_some-parts, some_there, some_and-there}
 use Rattle.edm_values.specs.Lists.{all_some, at_places, is_some_and, places, sorted}
 use Rattle.edm_values.specs.Literals.{is_boolean_kind, is_number_kind}
 use Rattle.edm_values.specs.Names.{Name, Path}
@@ -20,7 +19,7 @@ use Rattle.edm_data.specs.Worlds.{World}
 use Rattle.apply_ast.specs.Trees.{Expr, HierName, Key, Keys, Limit, NumberLiteral, OptPipe, OrderItem, Pipe, Pipes, Step, is_long}
 use Rattle.context_typing.proofs.TypingLaw.{typing_keeps_lawful}
 use Rattle.context_typing.specs.Shapes.{Shape, set_shape}
-use Rattle.context_typing.specs.Typing.{Customs, RollupPart, Types, after, branch_shapes, branches_quiet, concat_shape, customs_typed, expr_kind, group_keys, grouped_shape, hierarchy_at, inner_quiet, inner_shape, is_free, is_lawful, is_node_path, is_quiet, is_risky, is_sure, is_typed, join_navigation, joined_shape, key_paths, key_quiet, key_typed, keys_quiet, keys_typed, no_shape, order_sure, plain_paths, rollup_part, rollup_paths, root_type, step_quiet, step_shape, steps_shape, top_typed}
+use Rattle.context_typing.specs.Typing.{Customs, RollupPart, after, branch_shapes, branches_quiet, concat_shape, customs_typed, expr_kind, group_keys, grouped_shape, hierarchy_at, inner_quiet, inner_shape, is_free, is_lawful, is_node_path, is_quiet, is_risky, is_sure, is_typed, join_navigation, joined_shape, key_paths, key_quiet, key_typed, keys_quiet, keys_typed, no_shape, order_sure, plain_paths, rollup_part, rollup_paths, root_type, step_quiet, step_shape, steps_shape, top_typed}
 use Rattle.context_typing.specs.TypingLaws.{TypingKeepsLawful}
 use Rattle.apply_meaning.proofs.FitLemmas.{fit-parts}
 use Rattle.apply_meaning.proofs.LookupLemmas.{lookup-not_beyond}
@@ -47,14 +46,6 @@ chain-there : {X Y : Type 0} (f : X → Option Y) (o : Option X) → is_some o �
 chain-there f None h g = h
 chain-there f (Some x) h g = g x refl
 
-there-is : {X : Type 0} (o : Option X) → is_some o ≡ true → (x : X) × (o ≡ Some x)
-there-is None h = cc
-there-is (Some x) h = (x, refl)
-
-kind-typed : {X : Type 0} (t : X → Bool) (o : Option X) → is_some_and t o ≡ true → is_some o ≡ true
-kind-typed t None h = h
-kind-typed t (Some x) h = refl
-
 module _ (w : World) (c : Customs) where
   plain-quiet : (S : Shape) (ks : Keys) → keys_quiet w.model c S ks ≡ true → list_all (λ p. not (is_risky S p)) (plain_paths ks) ≡ true
   unfolding is_quiet
@@ -80,7 +71,7 @@ module _ (w : World) (c : Customs) where
   part-named S Keys.NoKeys h = refl
   part-named S (Keys.MoreKeys (Key.Plain p) ks) h = part-named S ks (and_parts true (keys_typed w.model c S ks) h).1
   part-named S (Keys.MoreKeys (Key.Rollup all ps) ks) h = refl
-  part-named S (Keys.MoreKeys (Key.Recursive n p T) ks) h = kind-typed _ (hierarchy_at w.model n) (and_parts _ _ (and_parts _ _ h).0).0
+  part-named S (Keys.MoreKeys (Key.Recursive n p T) ks) h = some_and-there _ (hierarchy_at w.model n) (and_parts _ _ (and_parts _ _ h).0).0
 
   -- a grouping is not refused where what is made of each group is not
   grouped-there : (S : Shape) (ks : List Path) (f : List Instance → Outcome) (l : List Instance) → AllFit w S l → ((x : List Instance) → AllFit w S x → is_some (f x) ≡ true) → is_some (grouped w ks f l) ≡ true
@@ -144,9 +135,9 @@ module _ (w : World) (c : Customs) (P : IsWellTyped w) (M : MeanFitsIn w c) (L :
 
   top-typed : (S : Shape) (t : Limit) (e : Expr) → top_typed w.model S t e ≡ true → is_typed w.model S e ≡ true
   top-typed S (Limit.Count n) e h = (and_parts _ _ h).1
-  top-typed S (Limit.Sum (NumberLiteral.Int n)) e h = kind-typed is_number_kind (expr_kind w.model S e) (and_parts _ _ h).1
-  top-typed S (Limit.Sum (NumberLiteral.Dec n k)) e h = kind-typed is_number_kind (expr_kind w.model S e) (and_parts _ _ h).1
-  top-typed S (Limit.Percent n) e h = kind-typed is_number_kind (expr_kind w.model S e) (and_parts _ _ h).1
+  top-typed S (Limit.Sum (NumberLiteral.Int n)) e h = some_and-there is_number_kind (expr_kind w.model S e) (and_parts _ _ h).1
+  top-typed S (Limit.Sum (NumberLiteral.Dec n k)) e h = some_and-there is_number_kind (expr_kind w.model S e) (and_parts _ _ h).1
+  top-typed S (Limit.Percent n) e h = some_and-there is_number_kind (expr_kind w.model S e) (and_parts _ _ h).1
 
   mutual
     unfolding mean steps_shape is_quiet
@@ -200,7 +191,7 @@ module _ (w : World) (c : Customs) (P : IsWellTyped w) (M : MeanFitsIn w c) (L :
     step_runs : (s : Step) (S S' : Shape) → IsTrue (is_lawful w.model S) → step_shape w.model c S s ≡ Some S' → step_quiet w.model c S s ≡ true → (l : List Instance) → AllFit w S l
         → is_some (step_mean w c S s l) ≡ true
     step_runs (Step.Filter e) S S' law h q l a =
-        unless-there (values w e l) (filter (λ i. is_value true (val w i e)) l) (sure-values S e l (kind-typed is_boolean_kind (expr_kind w.model S e) (then_some-parts _ S S' h).0) q a)
+        unless-there (values w e l) (filter (λ i. is_value true (val w i e)) l) (sure-values S e l (some_and-there is_boolean_kind (expr_kind w.model S e) (then_some-parts _ S S' h).0) q a)
     step_runs (Step.OrderBy items) S S' law h q l a =
         unless-there (order_values w items l) (sorted (order_before w items) l) (sure-order S items l (and_parts _ _ (then_some-parts _ S S' h).0).1 q a)
     step_runs (Step.GroupBy ks T) S S' law h q l a =
@@ -235,7 +226,7 @@ module _ (w : World) (c : Customs) (P : IsWellTyped w) (M : MeanFitsIn w c) (L :
         let e = and_parts _ _ (then_some-parts _ S S' h).0 in
         let R = some_and (λ R. is_node_path w.model R n p) (steps_shape w.model c S T) e.1 in
         let u = and_3 (not (is_risky S p)) (is_quiet w.model c S T) _ q in
-        let f = there-is (hierarchy_at w.model n) (kind-typed _ (hierarchy_at w.model n) (and_3 _ _ _ e.0).0) in
+        let f = some_there (hierarchy_at w.model n) (some_and-there _ (hierarchy_at w.model n) (and_3 _ _ _ e.0).0) in
         let risky = ap (is_some_and (λ R. not (is_risky R p))) (sym R.1) ∙ u.2 in
         let Q : Option HierarchyPlace → Type 0 = λ o. is_some (elim o [
           | None ↦ None
@@ -275,7 +266,7 @@ steps_lawful-in L w c S S' (Pipe.Then s p) law e = L w.model c S S' (Pipe.Then s
 pub quiet_is_not_refused : (A : World → Type 0) → ((w : World) → A w → IsWellTyped w) → TypingKeepsLawful (λ m. Unit {0}) → MeanFits A → NodesFit A → RelatedFit A
     → QuietIsNotRefused A
 quiet_is_not_refused A P L M N J w c S S' p l a k law t q f =
-    there-is (mean w c S p l)
+    some_there (mean w c S p l)
     (pipe_runs w c (P w a) (mean_fits-in A M w c a k) (steps_lawful-in L w c) (λ h g e. N w h g a e) (λ S n v i e. J w S n v i a e) p S S' law t.1 q l f)
 
 -- and so with the laws of this crate

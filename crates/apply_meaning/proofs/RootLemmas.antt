@@ -3,9 +3,8 @@ use Rattle.std.proofs.Common.{◌≡◌, refl, sym, ◌∙◌, ap, ℕ, Bool, tr
 use Rattle.std.specs.Prelude.{option_and_then, option_map, flat_map, slice_get, if◌then◌else◌}
 use Rattle.std.specs.List.{list_all, list_any}
 use Rattle.std.proofs.lemmas.Bool.{and_parts, and_from}
-use Rattle.edm_values.proofs.EachLemmas.{all-filter}
-use Rattle.edm_values.proofs.ListFacts.{all-any, all-append, all-at, all-drop, all-filter_map, all-map, all-sorted, all-take}
-use Rattle.edm_values.proofs.OptionFacts.{all_some-parts, chained, mapped, none_or, some_value, then_some-parts}
+use Rattle.edm_values.proofs.ListFacts.{all-any, all-append, all-at, all-drop, all-filter_map, all-map, all-sorted, all-take, all-filter}
+use Rattle.edm_values.proofs.OptionFacts.{all_some-parts, chained, mapped, none_or, some_value, then_some-parts, first_some-None}
 use Rattle.edm_values.proofs.SearchFacts.{IsAmong, find-joined}
 use Rattle.edm_values.specs.Lists.{all_some, at_places, first_some, is_nonempty}
 use Rattle.edm_values.specs.Names.{Name, Path}
@@ -49,11 +48,7 @@ abbrev pub root_passes : (Entity → Bool) → Instance → Bool
 root_passes Q i = is_none_or Q (root_of i)
 
 pub root-of_joined : (i : Instance) (ps : List (Path × Option Entity)) (cs : List (Path × Value)) → at_path (λ x. x.0) ps [] ≡ None → root_of (record { prefixes = i.prefixes ++ ps; columns = cs }) ≡ root_of i
-root-of_joined i ps cs n = ap (option_and_then (λ x. x.1)) (find-joined (λ x. same_path x.0 []) i.prefixes ps ∙ ap (first_some (at_path (λ x. x.0) i.prefixes [])) n ∙ first-none (at_path (λ x. x.0) i.prefixes []))
-  where
-    first-none : (o : Option (Path × Option Entity)) → first_some o None ≡ o
-    first-none None = refl
-    first-none (Some x) = refl
+root-of_joined i ps cs n = ap (option_and_then (λ x. x.1)) (find-joined (λ x. same_path x.0 []) i.prefixes ps ∙ ap (first_some (at_path (λ x. x.0) i.prefixes [])) n ∙ first_some-None (at_path (λ x. x.0) i.prefixes []))
 
 bound-roots : (Q : Entity → Bool) (outer : Bool) (a : Name) (i : Instance) (rs : List Instance) → root_passes Q i ≡ true → list_all (root_passes Q) (bound_to outer a i rs) ≡ true
 bound-roots Q outer a i rs h = go (outer && not (is_nonempty rs))

@@ -3,9 +3,8 @@ use Rattle.std.proofs.Common.{◌≡◌, ℕ, suc, ◌+◌, ◌<◌, refl, sym, 
 use Rattle.std.specs.Prelude.{option_and_then, unwrap_or, is_some}
 use Rattle.std.proofs.lemmas.Bool.{and_parts}
 use Rattle.std.specs.List.{list_all}
-use Rattle.edm_values.specs.Lists.{is_some_and}
 use Rattle.edm_values.specs.Names.{Path}
-use Rattle.edm_values.proofs.OptionFacts.{chained}
+use Rattle.edm_values.proofs.OptionFacts.{chained, some_and-there}
 use Rattle.apply_meaning.proofs.FitLemmas.{fit-parts}
 use Rattle.edm_values.proofs.ListFacts.{all-each, all-of_mapped}
 use Rattle.edm_data.specs.Worlds.{World, Entity}
@@ -36,14 +35,10 @@ use Rattle.std.proofs.Common.{Err}
 
 -- ---- what fits is of the world
 
-some-there : {X : Type 0} (q : X → Bool) (o : Option X) → is_some_and q o ≡ true → is_some o ≡ true
-some-there q None h = absurd (cc)
-some-there q (Some x) h = refl
-
 prefix-of : (w : World) (S : Shape) (i : Instance) (p : Path) (e : Option Entity) (o : Option PrefixShape) → prefix_fits_at w S i (p, e) o ≡ true → is_none_or (λ e. is_some (entity_type w e)) e ≡ true
 prefix-of w S i p None o h = refl
 prefix-of w S i p (Some e) None h = absurd (cc)
-prefix-of w S i p (Some e) (Some y) h = some-there _ (entity_type w e) (and_parts _ _ h).0
+prefix-of w S i p (Some e) (Some y) h = some_and-there _ (entity_type w e) (and_parts _ _ h).0
 
 pub fits-of : (w : World) (S : Shape) (i : Instance) → fits w S i ≡ true → is_of w i ≡ true
 fits-of w S i h =

@@ -1,12 +1,9 @@
 -- The sum of a list of values, as the sum of the mantissas of its numbers.
-use Rattle.std.proofs.Common.{◌≡◌, ◌++◌, ℕ, ◌+◌, ◌-◌, ◌^◌, ◌<◌, max, Bool, true, false, not, ◌&&◌, ◌||◌, List, [], ◌∷◌, map, filter, fold, take, length, get_or, ℤ, pos, ◌+ℤ◌, ◌*ℤ◌, IsTrue, Some, None, if◌then◌else◌, refl, ap, sym, ◌∙◌, arith, eqb-true}
+use Rattle.std.proofs.Common.{◌≡◌, ◌++◌, ℕ, ◌+◌, ◌-◌, ◌<◌, Bool, true, false, not, ◌||◌, List, [], ◌∷◌, map, filter, fold, take, length, get_or, ℤ, pos, ◌+ℤ◌, IsTrue, Some, None, if◌then◌else◌, refl, ap, sym, ◌∙◌, eqb-true}
 use Rattle.std.specs.Option.{option_map, unwrap_or}
 use Rattle.std.specs.List.{list_any, list_all}
 use Rattle.std.proofs.lemmas.Bool.{false≢true, and_from}
-use Rattle.std.proofs.lemmas.Int.{ints}
 use Rattle.std.proofs.lemmas.List.{map_more}
-use Rattle.std.proofs.Math.IntN.{zero-*ℤ}
-use Rattle.std.proofs.Math.Nat.{sub_self, zero-max}
 use Rattle.edm_values.specs.declared.EdmType.{EdmType}
 use Rattle.edm_values.specs.declared.Method.TheVariants as method
 use Rattle.edm_values.specs.declared.Seen.{Seen}
@@ -17,6 +14,8 @@ use Rattle.edm_values.specs.Literals.{is_number_kind, is_of_kind}
 use Rattle.edm_values.specs.Values.{Number, number_of, number_part, number_plus, is_beyond, integer, dec, is_integer, is_null, is_number, seen_value, total}
 use Rattle.edm_data.specs.Fitting.{is_value_of}
 use Rattle.apply_meaning.specs.Aggregates.{aggregate, exact_sum, number_in}
+use Rattle.edm_values.proofs.EachLemmas.{and-left, and-right}
+use Rattle.edm_values.proofs.NumberLaws.{number_plus-same, number_plus-zero, plus_nothing}
 
 -- ---- the sum of mantissas
 
@@ -47,14 +46,6 @@ abbrev pub AllAt : ℕ → List Value → Type 0
 AllAt s [] = Unit {0}
 AllAt s (v ∷ vs) = IsAt s v × AllAt s vs
 
-and_first : (a b : Bool) → (a && b) ≡ true → a ≡ true
-and_first true b h = refl
-and_first false b h = h
-
-and_second : (a b : Bool) → (a && b) ≡ true → b ≡ true
-and_second true b h = h
-and_second false b h = absurd (false≢true h)
-
 -- the value is null, where it may be, or one of the kind
 abbrev fits : EdmType → Bool → Value → Bool
 fits kind nullable v = is_value_of (record { name = []; kind = kind; nullable = nullable }) v
@@ -70,7 +61,7 @@ fits-at EdmType.Int b Value.Beyond n h = false≢true h
 fits-at (EdmType.Dec s p) b Value.Null n h = tt
 fits-at (EdmType.Dec s p) b (Value.Int z) n h = absurd (false≢true h)
 fits-at (EdmType.Dec s p) b (Value.Bool x) n h = false≢true h
-fits-at (EdmType.Dec s p) b (Value.Dec d) n h = eqb-true d.scale s (and_first _ _ (and_first _ _ h))
+fits-at (EdmType.Dec s p) b (Value.Dec d) n h = eqb-true d.scale s (and-left _ _ (and-left _ _ h))
 fits-at (EdmType.Dec s p) b (Value.Text t) n h = false≢true h
 fits-at (EdmType.Dec s p) b (Value.Day d) n h = false≢true h
 fits-at (EdmType.Dec s p) b Value.Beyond n h = false≢true h
@@ -80,7 +71,7 @@ fits-at EdmType.Day b v n h = absurd (false≢true n)
 
 all-at : (kind : EdmType) (b : Bool) (vs : List Value) → IsTrue (is_number_kind kind) → list_all (fits kind b) vs ≡ true → AllAt (scale_of kind) vs
 all-at kind b [] n h = tt
-all-at kind b (v ∷ vs) n h = (fits-at kind b v n (and_first _ _ h), all-at kind b vs n (and_second (fits kind b v) _ h))
+all-at kind b (v ∷ vs) n h = (fits-at kind b v n (and-left _ _ h), all-at kind b vs n (and-right (fits kind b v) _ h))
 
 -- ---- the exact sum
 
@@ -91,23 +82,6 @@ kept = filter (λ v. not (is_null v))
 -- a number and a value, added
 abbrev plus_value : Number → Value → Number
 plus_value a v = unwrap_or (option_map (number_plus a) (number_of v)) a
-
-at_own_scale : (z : ℤ) (s : ℕ) → z *ℤ pos (10 ^ (s - s)) ≡ z
-at_own_scale z s = ap (λ k. z *ℤ pos (10 ^ k)) (sub_self s) ∙ omega (arith, ints)
-
-max-same : (s : ℕ) → max s s ≡ s
-max-same s = omega arith
-
-number_plus-same : (a m : ℤ) (s : ℕ) → number_plus (a, s) (m, s) ≡ (a +ℤ m, s)
-number_plus-same a m s =
-    ap (λ t. (a *ℤ pos (10 ^ (t - s)) +ℤ m *ℤ pos (10 ^ (t - s)), t)) (max-same s) ∙ (λ i. (at_own_scale a s i +ℤ at_own_scale m s i, s))
-
-number_plus-zero : (m : ℤ) (s : ℕ) → number_plus (pos 0, 0) (m, s) ≡ (pos 0 +ℤ m, s)
-number_plus-zero m s =
-    ap (λ t. (pos 0 *ℤ pos (10 ^ (t - 0)) +ℤ m *ℤ pos (10 ^ (t - s)), t)) (zero-max s) ∙ (λ i. (zero-*ℤ (pos (10 ^ (s - 0))) i +ℤ at_own_scale m s i, s))
-
-plus_nothing : (a : ℤ) → a ≡ a +ℤ pos 0
-plus_nothing a = omega (arith, ints)
 
 fold-at : (vs : List Value) (a : ℤ) (s : ℕ) → AllAt s vs → fold plus_value (a, s) (kept vs) ≡ (amounts a vs, s)
 fold-at [] a s h = refl
@@ -145,7 +119,7 @@ nonempty-kept (Value.Beyond ∷ vs) s h = absurd h.0
 
 integers-kept : (b : Bool) (vs : List Value) → list_all (fits EdmType.Int b) vs ≡ true → list_all is_integer (kept vs) ≡ true
 integers-kept b [] h = refl
-integers-kept b (Value.Null ∷ vs) h = integers-kept b vs (and_second b _ h)
+integers-kept b (Value.Null ∷ vs) h = integers-kept b vs (and-right b _ h)
 integers-kept b (Value.Int z ∷ vs) h = integers-kept b vs h
 integers-kept b (Value.Dec d ∷ vs) h = absurd (false≢true h)
 integers-kept b (Value.Bool x ∷ vs) h = absurd (false≢true h)
@@ -155,7 +129,7 @@ integers-kept b (Value.Beyond ∷ vs) h = absurd (false≢true h)
 
 decimals-kept : (s p : ℕ) (b : Bool) (vs : List Value) → list_all (fits (EdmType.Dec s p) b) vs ≡ true → list_any is_number vs ≡ true → list_all is_integer (kept vs) ≡ false
 decimals-kept s p b [] h n = absurd (false≢true n)
-decimals-kept s p b (Value.Null ∷ vs) h n = decimals-kept s p b vs (and_second b _ h) n
+decimals-kept s p b (Value.Null ∷ vs) h n = decimals-kept s p b vs (and-right b _ h) n
 decimals-kept s p b (Value.Int z ∷ vs) h n = absurd (false≢true h)
 decimals-kept s p b (Value.Dec d ∷ vs) h n = refl
 decimals-kept s p b (Value.Bool x ∷ vs) h n = absurd (false≢true h)
@@ -170,12 +144,12 @@ not_beyond kind b (Value.Int x) h = refl
 not_beyond kind b (Value.Dec x) h = refl
 not_beyond kind b (Value.Text x) h = refl
 not_beyond kind b (Value.Day x) h = refl
-not_beyond kind b Value.Beyond h = absurd (false≢true (and_second (is_of_kind kind Value.Beyond) false h))
+not_beyond kind b Value.Beyond h = absurd (false≢true (and-right (is_of_kind kind Value.Beyond) false h))
 
 none_beyond : (kind : EdmType) (b : Bool) (vs : List Value) → list_all (fits kind b) vs ≡ true → list_any is_beyond vs ≡ false
 none_beyond kind b [] h = refl
 none_beyond kind b (v ∷ vs) h =
-    ap (λ t. t || list_any is_beyond vs) (not_beyond kind b v (and_first _ _ h)) ∙ none_beyond kind b vs (and_second (fits kind b v) _ h)
+    ap (λ t. t || list_any is_beyond vs) (not_beyond kind b v (and-left _ _ h)) ∙ none_beyond kind b vs (and-right (fits kind b v) _ h)
 
 exact_sum-kept : (kind : EdmType) (b : Bool) (vs : List Value) → IsTrue (is_number_kind kind) → list_all (fits kind b) vs ≡ true → list_any is_number vs ≡ true → exact_sum (kept vs) ≡ number_in kind (amounts (pos 0) vs)
 exact_sum-kept EdmType.Int b vs k h n =
@@ -206,7 +180,7 @@ fits-from kind Value.Beyond h b = absurd (false≢true (sym b))
 all-fit-from : (kind : EdmType) (vs : List Value) → list_all (is_of_kind kind) vs ≡ true → list_any is_beyond vs ≡ false → list_all (fits kind true) vs ≡ true
 all-fit-from kind [] h b = refl
 all-fit-from kind (v ∷ vs) h b =
-    and_from _ _ (fits-from kind v (and_first _ _ h) (or_first (is_beyond v) _ b)) (all-fit-from kind vs (and_second (is_of_kind kind v) _ h) (or_second (is_beyond v) _ b))
+    and_from _ _ (fits-from kind v (and-left _ _ h) (or_first (is_beyond v) _ b)) (all-fit-from kind vs (and-right (is_of_kind kind v) _ h) (or_second (is_beyond v) _ b))
   where
     or_first : (a b : Bool) → (a || b) ≡ false → a ≡ false
     or_first false b h = refl
@@ -233,14 +207,14 @@ pub record FirstNumber (kind : EdmType) (vs : List Seen) (x : Seen) : Type 0 whe
 
 pub first-number : (kind : EdmType) (vs : List Seen) (x : Seen) → find (λ v. is_number (seen_value v)) vs ≡ Some x → list_all (is_of_kind kind) (map seen_value vs) ≡ true → FirstNumber kind vs x
 first-number kind [] x h a = cc
-first-number kind (v ∷ vs) x h a = go (is_number (seen_value v)) refl h (λ later. first-number kind vs x later (and_second (is_of_kind kind (seen_value v)) _ a))
+first-number kind (v ∷ vs) x h a = go (is_number (seen_value v)) refl h (λ later. first-number kind vs x later (and-right (is_of_kind kind (seen_value v)) _ a))
   where
     go : (b : Bool) → is_number (seen_value v) ≡ b → cond b (Some v) (find (λ v. is_number (seen_value v)) vs) ≡ Some x → (find (λ v. is_number (seen_value v)) vs ≡ Some x → FirstNumber kind vs x) → FirstNumber kind (v ∷ vs) x
     go true e h r =
         let same : v ≡ x = cc in
         record {
           number = ap (λ v. is_number (seen_value v)) (sym same) ∙ e;
-          kind_is = ap (λ v. is_of_kind kind (seen_value v)) (sym same) ∙ and_first _ _ a;
+          kind_is = ap (λ v. is_of_kind kind (seen_value v)) (sym same) ∙ and-left _ _ a;
           there = ap (λ b. b || list_any is_number (map seen_value vs)) e;
         }
     go false e h r =

@@ -48,7 +48,7 @@ pub use laws::{
     set_rows_fit, sure_values_are_in_range, values_fit,
 };
 pub use lookups::lookup;
-pub use plain::{aggregated, is_plain, is_plain_step, run_plain};
+pub use plain::{aggregation_rows, is_plain, is_plain_step, run_plain};
 pub use refusals::RunRefused;
 pub use rows::{Row, copy_columns, copy_prefixes};
 pub use sets::set_rows;

@@ -74,7 +74,7 @@ fn aggregation_ready(store: &Data, items: &AggList, rows: &[Row])
 }
 
 /// The row of an aggregation, alone in a list: one step.
-pub fn aggregated<L: Ledger>(
+pub fn aggregation_rows<L: Ledger>(
     alloc: Global,
     store: &Data,
     items: &AggList,
@@ -116,7 +116,7 @@ fn plain_step<L: Ledger>(
         Step::Compute(items) => Ok(compute_rows(alloc, store, items.as_slice(), rows, steps)?),
         Step::Skip(n) => Ok(skip_rows(*n, rows)),
         Step::Top(n) => Ok(top_rows(*n, rows)),
-        Step::Aggregate(items) => Ok(aggregated(alloc, store, items, rows, steps)?),
+        Step::Aggregate(items) => Ok(aggregation_rows(alloc, store, items, rows, steps)?),
         _ => unreachable!(),
     }
 }

@@ -1,8 +1,8 @@
 -- From what was read of a model's custom aggregates to their typed readings, or to the first that has none.
 use Rattle.std.proofs.Common.{◌≡◌, ℕ, zero, suc, ◌<◌, ◌≤◌, ◌&&◌, Bool, true, false, List, [], ◌∷◌, Option, Some, None, Err, refl, sym, ap, subst, ◌∙◌, map, take, length, get_or, arith, cond}
-use Rattle.std.specs.Prelude.{All, find, is_none, is_some, slice_get, option_map, unwrap_or, ◌==◌}
+use Rattle.std.specs.Prelude.{All, find, is_none, is_some, slice_get, option_map, unwrap_or}
 use Rattle.std.specs.List.{AllZip, enumerate_from}
-use Rattle.std.proofs.lemmas.Bool.{and_parts, eqb-true, eq-eqb}
+use Rattle.std.proofs.lemmas.Bool.{eq-eqb}
 use Rattle.std.proofs.lemmas.List.{length-map, take-map, take_all}
 use Rattle.std.proofs.lemmas.List.Elements.{All-get_or, All-head, All-tail, All-take}
 use Rattle.edm_values.specs.declared.EdmType.{EdmType}
@@ -25,6 +25,7 @@ use Rattle.context_typing.specs.declared.definitions.CustomRefused.TheVariants a
 use Rattle.context_typing.specs.declared.customs.TypedCustom.{TypedCustom}
 use Rattle.context_typing.proofs.CustomEntries.{entries, read-kind-is}
 use Rattle.context_typing.proofs.WholeCustoms.{customs_are_typed}
+use Rattle.context_typing.proofs.CustomFacts.{same_part-is}
 use Rattle.custom_readings.specs.Readings.{AreRead, HasNoReading, IsRead}
 use Rattle.custom_readings.proofs.ReadLists.{first-ids}
 use Rattle.apply_store.specs.CustomReadings.{IsTypedReading, AreCustoms, IsFirstUntyped}
@@ -142,11 +143,6 @@ module _ (m : Model) where
 
   -- ---- of its id
 
-  same-id : (a b : Part) → same_part a b ≡ true → a ≡ b
-  same-id a b h =
-      let t = and_parts (a.of == b.of) (a.at == b.at) h in
-      λ i. record { of = eqb-true a.of b.of t.0 i; at = eqb-true a.at b.at t.1 i }
-
   id-same : (a b : Part) → a ≡ b → same_part a b ≡ true
   id-same a b e = ap (λ p. same_part p b) e ∙ (λ i. eq-eqb b.of b.of refl i && eq-eqb b.at b.at refl i)
 
@@ -213,7 +209,7 @@ module _ (m : Model) where
         let f = first-at (custom_list m) list id (entries m sound) are.read e in
         let v = found-id (custom_list m) f.place f.custom id f.stands f.is in
         let entry = entry-found (custom_list m) (λ u. same_part u.id id) v.0 (entries m sound) v.1 in
-        let same = owned-same f.custom v.0 f.entry entry (f.is ∙ sym (same-id (v.0).id id (found-passes (λ u. same_part u.id id) (custom_list m) v.0 v.1))) in
+        let same = owned-same f.custom v.0 f.entry entry (f.is ∙ sym (same_part-is (v.0).id id (found-passes (λ u. same_part u.id id) (custom_list m) v.0 v.1))) in
         let P : ℕ × seen.Custom → Type 0 = IsFirstUntyped m in
         record {
           custom = v.0;

@@ -1,14 +1,15 @@
 -- The custom aggregates of a sound model, and their readings with typings.
 use Rattle.std.proofs.Common.{◌≡◌, refl, sym, ◌∙◌, ap, subst, ℕ, zero, suc, ◌+◌, ◌<◌, Bool, true, false, ◌&&◌, List, [], ◌∷◌, ◌++◌, Option, Some, None, map, take, length, get_or, arith, add-zero}
-use Rattle.std.specs.Prelude.{◌≤◌, All, Ok, Err, find, flat_map, is_none, is_some, option_and_then, option_map, slice_get}
+use Rattle.std.specs.Prelude.{◌≤◌, All, Ok, Err, find, is_none, is_some, option_and_then, option_map, slice_get}
 use Rattle.std.specs.Bool.{then_some}
 use Rattle.std.specs.List.{enumerate_from, list_all}
 use Rattle.std.proofs.lemmas.List.{get_or-map, get_or-take, length-map, length-take, take_more, map-append}
-use Rattle.std.proofs.lemmas.List.Elements.{All-nil, All-cons, All-append, All-get_or, All-head, All-tail, All-map, All-weaker}
+use Rattle.std.proofs.lemmas.List.Elements.{All-nil, All-cons, All-get_or, All-map, All-weaker}
 use Rattle.edm_values.specs.declared.EdmType.{EdmType}
 use Rattle.edm_values.specs.Lists.{all_some, are_distinct, places}
 use Rattle.edm_values.specs.Names.{Name, Path}
-use Rattle.edm_values.proofs.OptionFacts.{none_or, some_value}
+use Rattle.edm_values.proofs.OptionFacts.{none_or, some_value, no-then_some}
+use Rattle.edm_values.proofs.PlaceFacts.{All-flat_map_below}
 use Rattle.edm_model.specs.Models.{Model, Part, Property, Custom as ModelCustom}
 use Rattle.edm_model.specs.LookUps.{customs_of_type, property_on, IsType}
 use Rattle.edm_model.specs.IdLists.{custom_list, custom_entry, customs_in}
@@ -32,10 +33,6 @@ use Rattle.context_typing.proofs.PathOrders.{find-first}
 
 -- ---- the list of a model's custom aggregates
 
-flat_all : {X : Type 0} (P : X → Type 0) (f : ℕ → List X) (n : ℕ) → ((t : ℕ) → t < n → All P (f t)) → (ts : List ℕ) → All (λ t. t < n) ts → All P (flat_map f ts)
-flat_all P f n h [] below = All-nil P
-flat_all P f n h (t ∷ ts) below = All-append P (f t) (flat_map f ts) (h t (All-head (λ t. t < n) t ts below)) (flat_all P f n h ts (All-tail (λ t. t < n) t ts below))
-
 enumerated : {X : Type 0} (all : List X) (n : ℕ) (xs : List X) → ((i : ℕ) → slice_get all (n + i) ≡ slice_get xs i) → All (λ x. slice_get all x.0 ≡ Some x.1) (enumerate_from n xs)
 enumerated all n [] h = All-nil (λ x. slice_get all x.0 ≡ Some x.1)
 enumerated all n (x ∷ xs) h =
@@ -43,7 +40,7 @@ enumerated all n (x ∷ xs) h =
     (enumerated all (n + 1) xs (λ i. let e : n + 1 + i ≡ n + suc i = omega arith in ap (slice_get all) e ∙ h (suc i)))
 
 pub entries : (m : Model) → IsSound m → All (IsEntry m) (custom_list m)
-entries m sound = flat_all (IsEntry m) (customs_in m) (length m.types) of_type (places (length m.types)) (places_within (length m.types))
+entries m sound = All-flat_map_below (IsEntry m) (customs_in m) (length m.types) of_type (places (length m.types)) (places_within (length m.types))
   where
     of_type : (t : ℕ) → IsType m t → All (IsEntry m) (customs_in m t)
     of_type t is =
@@ -133,7 +130,7 @@ first-untyped m all list i r reads typed h count is none =
 
 -- ---- the paths that a custom aggregate groups by
 
-set-property : (m : Model) (t : ℕ) (p : Path) → path_property m (set_shape t) p ≡ property_on m t p
+pub set-property : (m : Model) (t : ℕ) (p : Path) → path_property m (set_shape t) p ≡ property_on m t p
 set-property m t [] = property_from-all m (set_shape t) [] ∙ property_from-root m (set_shape t) [] t refl
 set-property m t (n ∷ q) = property_from-all m (set_shape t) (n ∷ q) ∙ go (length (n ∷ q))
   where
@@ -164,11 +161,7 @@ per-some m t ps cs e =
 
 pub per-none : (m : Model) (t : ℕ) (ps : List Path) → None ≡ all_some (map (typed_key m (set_shape t) false) ps) → false ≡ per_typed m t ps
 per-none m t ps e =
-    ap (λ b. b && are_distinct same_path ps) (sym (no-some (list_all (λ p. is_some (path_kind m (set_shape t) p)) ps) (map (key_column m (set_shape t) false) ps) (e ∙ typed-all m (set_shape t) false ps)) ∙ all-typed m t ps)
-  where
-    no-some : {X : Type 0} (b : Bool) (x : X) → None ≡ then_some b x → b ≡ false
-    no-some true x e = cc
-    no-some false x e = refl
+    ap (λ b. b && are_distinct same_path ps) (sym (no-then_some (list_all (λ p. is_some (path_kind m (set_shape t) p)) ps) (map (key_column m (set_shape t) false) ps) (e ∙ typed-all m (set_shape t) false ps)) ∙ all-typed m t ps)
 
 pub refused-first : (X : Type 0) (m : Model) (all : List TypedCustom) (list : List ReadCustom) (i : ℕ) (r : ReadCustom) (e : CustomRefused) → map (λ x. x.read) all ≡ take i list → All (λ x. read_kind m x.read ≡ Some x.kind) all → i < length list → length all ≡ i → r ≡ get_or list i r
     → AnswersCustom m r (Err e) → IfUntyped {X = X} (Err e) (λ id. option_map (λ r. r.id) (find (λ r. is_none (read_kind m r)) list) ≡ Some id)

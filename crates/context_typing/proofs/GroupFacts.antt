@@ -1,10 +1,9 @@
 -- The keys of a grouping, and the columns of those that have a typing.
-use Rattle.std.proofs.Common.{◌≡◌, refl, sym, ◌∙◌, ap, ℕ, ◌+◌, ◌<◌, Bool, true, false, not, ◌&&◌, ◌||◌, List, [], ◌∷◌, ◌++◌, Option, Some, None, map, take, drop, length, get_or, arith}
+use Rattle.std.proofs.Common.{◌≡◌, refl, sym, ◌∙◌, ap, ℕ, ◌+◌, ◌<◌, Bool, true, false, not, ◌&&◌, ◌||◌, List, [], ◌∷◌, ◌++◌, Option, Some, None, map, take, drop, length, get_or}
 use Rattle.std.specs.Prelude.{option_and_then, option_map, is_some, nat_le, if◌then◌else◌}
 use Rattle.std.specs.Bool.{then_some}
 use Rattle.std.specs.List.{list_any, list_all}
-use Rattle.std.proofs.lemmas.Bool.{lt-leb}
-use Rattle.std.proofs.lemmas.List.{map-append, take-append-drop, drop_more, take_more, append-nil}
+use Rattle.std.proofs.lemmas.List.{map-append, take-append-drop, take_more, append-nil, append_assoc}
 use Rattle.std.proofs.lemmas.List.Folds.{list_all-append}
 use Rattle.edm_values.specs.declared.EdmType.{EdmType}
 use Rattle.edm_values.specs.Lists.{all_some, are_distinct, is_nonempty}
@@ -13,10 +12,10 @@ use Rattle.edm_model.specs.Models.{Model}
 use Rattle.edm_model.proofs.Mapped.{list_any-map}
 use Rattle.apply_ast.specs.Trees.{Key, Keys}
 use Rattle.apply_ast.specs.Views.{keys_from}
-use Rattle.context_typing.specs.Grouping.{typed_key, level_columns, rollup_key_columns, part_columns, typed_columns, is_rollup_key, is_recursive_key, may_stand, plain_of, part_of}
+use Rattle.context_typing.specs.Grouping.{typed_key, level_columns, part_columns, typed_columns, may_stand, plain_of}
 use Rattle.context_typing.specs.Paths.{same_path, is_prefix}
 use Rattle.context_typing.specs.Shapes.{Shape, ColumnShape}
-use Rattle.context_typing.specs.Typing.{GroupKeys, RollupPart, group_keys, grouped_shape, is_nodes, key_column, key_columns, key_paths, overlaps, path_kind, plain_paths, rollup_columns, rollup_part, rollup_parts, rollup_paths, all_prefixes}
+use Rattle.context_typing.specs.Typing.{GroupKeys, RollupPart, grouped_shape, is_nodes, key_column, key_columns, key_paths, overlaps, path_kind, plain_paths, rollup_columns, rollup_part, rollup_paths, all_prefixes}
 
 -- ---- keys one after another
 
@@ -25,20 +24,11 @@ plain-cons (Key.Plain p) ks = refl
 plain-cons (Key.Rollup all ps) ks = refl
 plain-cons (Key.Recursive h p T) ks = refl
 
-part-cons : (k : Key) (ks : Keys) → rollup_parts (Keys.MoreKeys k ks) ≡ part_of k ++ rollup_parts ks
-part-cons (Key.Plain p) ks = refl
-part-cons (Key.Rollup all ps) ks = refl
-part-cons (Key.Recursive h p T) ks = refl
-
-append-assoc : {X : Type 0} (xs ys zs : List X) → (xs ++ ys) ++ zs ≡ xs ++ (ys ++ zs)
-append-assoc [] ys zs = refl
-append-assoc (x ∷ xs) ys zs = ap (λ l. x ∷ l) (append-assoc xs ys zs)
-
 pub plain-append : (ks ls : List Key) → plain_paths (keys_from (ks ++ ls)) ≡ plain_paths (keys_from ks) ++ plain_paths (keys_from ls)
 plain-append [] ls = refl
 plain-append (k ∷ ks) ls =
     plain-cons k (keys_from (ks ++ ls)) ∙ ap (λ l. plain_of k ++ l) (plain-append ks ls)
-    ∙ sym (append-assoc (plain_of k) (plain_paths (keys_from ks)) (plain_paths (keys_from ls))) ∙ ap (λ l. l ++ plain_paths (keys_from ls)) (sym (plain-cons k (keys_from ks)))
+    ∙ sym (append_assoc (plain_of k) (plain_paths (keys_from ks)) (plain_paths (keys_from ls))) ∙ ap (λ l. l ++ plain_paths (keys_from ls)) (sym (plain-cons k (keys_from ks)))
 
 -- ---- the answers of a function over lists that are joined
 
@@ -98,17 +88,6 @@ module _ {X : Type 0} (key : X → Key) (f : Path → Option ColumnShape) (keys 
       none None = refl
       none (Some xs) = refl
 
--- ---- the first key that is not plain
-
-module _ {X : Type 0} (key : X → Key) (keys : List X) (i : ℕ) (d : X) (within : i < length keys) where
-  abbrev parts-in : List X → List RollupPart
-  parts-in xs = rollup_parts (keys_from (map key xs))
-
--- ---- the columns of all keys
-
-abbrev pub typed_from : Model → Shape → List Path → List RollupPart → Option (List ColumnShape)
-typed_from m S plain parts = typed_columns m S (record { plain = plain; parts = parts })
-
 -- ---- which keys have columns, and which these are
 
 collected : {X : Type 0} (c : X) (b : Bool) (cs : List X) (o : Option (List X)) → o ≡ then_some b cs → option_map (λ l. c ∷ l) o ≡ then_some b (c ∷ cs)
@@ -163,7 +142,7 @@ part-paths m S (RollupPart.Levels all []) = refl
 part-paths m S (RollupPart.Levels all (p ∷ ps)) = ap (λ l. p ∷ l) (key-paths-of m S true ps)
 part-paths m S (RollupPart.Nodes h p) = refl
 
-columns-paths : (m : Model) (S : Shape) (g : GroupKeys) → map (λ c. c.path) (key_columns m S g) ≡ key_paths g
+pub columns-paths : (m : Model) (S : Shape) (g : GroupKeys) → map (λ c. c.path) (key_columns m S g) ≡ key_paths g
 columns-paths m S g = map-append (λ c. c.path) (map (key_column m S false) g.plain) (rollup_columns m S (rollup_part g)) ∙ (λ i. key-paths-of m S false g.plain i ++ part-paths m S (rollup_part g) i)
 
 -- a grouping's shape from the columns of its keys

@@ -6,21 +6,20 @@ use Rattle.std.specs.List.{list_any, list_all}
 use Rattle.std.proofs.Math.Bool.{and-true, or-false}
 use Rattle.std.proofs.lemmas.Bool.{or_right, eq-eqb, eqb-true}
 use Rattle.std.proofs.lemmas.List.{take_more}
-use Rattle.std.proofs.lemmas.List.Folds.{list_all-append, list_any-append, list_all_at, fold_stuck, fold_stays}
-use Rattle.std.proofs.lemmas.List.Sums.{fold-append}
+use Rattle.std.proofs.lemmas.List.Folds.{list_all-append, list_any-append, fold_stuck, fold_stays, list_any_at}
 use Rattle.edm_values.specs.declared.EdmType.{EdmType}
 use Rattle.edm_values.specs.Lists.{all_some, distinct, find_map}
 use Rattle.edm_values.specs.Literals.{same_kind}
 use Rattle.edm_values.specs.Names.{Path}
-use Rattle.edm_values.proofs.OptionFacts.{some_value}
+use Rattle.edm_values.proofs.OptionFacts.{some_value, same_bool}
 use Rattle.edm_model.specs.Models.{Model}
-use Rattle.context_typing.specs.Merging.{Joined, add_column, add_columns, add_entry, add_prefix, add_prefixes, all_columns, all_prefixes_of, both, column_agrees, concat_columns, concat_prefixes, in_branch, in_branches, joined_branches, joined_column, joined_prefix, lacks_prefix, may_join, prefix_agrees, root_agrees, roots_agree, some_lack_prefix}
+use Rattle.context_typing.specs.Merging.{Joined, add_column, add_columns, add_entry, add_prefix, add_prefixes, all_columns, all_prefixes_of, both, column_agrees, concat_columns, concat_prefixes, in_branch, in_branches, joined_branches, joined_column, joined_prefix, may_join, prefix_agrees, root_agrees, roots_agree, some_lack_prefix}
 use Rattle.context_typing.specs.Paths.{same_path, at_path, is_none_or}
 use Rattle.context_typing.specs.Shapes.{RootShape, PrefixShape, ColumnShape, Shape}
 use Rattle.context_typing.specs.Typing.{all_prefixes, branches_agree, column_at, concat_shape, is_risky, merged_column, merged_prefix, merged_root, path_kind, path_property, prefix_at, widened}
 use Rattle.context_typing.proofs.MergedShape.{same_kind-left}
 use Rattle.context_typing.proofs.PathLemmas.{path-self}
-use Rattle.context_typing.proofs.PathOrders.{any-there, found-there, same_bool}
+use Rattle.context_typing.proofs.PathOrders.{found-there}
 use Rattle.context_typing.proofs.TableFold.{branches-joined}
 
 -- ---- columns
@@ -41,7 +40,7 @@ same_kind-met a b k h g = sym (same_kind-left k a b (same_kind-flip k a ∙ h)) 
 own-column : (m : Model) (S : Shape) (i : ℕ) (d : ColumnShape) → i < length S.columns → is_some (path_kind m S (get_or S.columns i d).path) ≡ true
 own-column m S i d h =
     let p = (get_or S.columns i d).path in
-    let f = found-there (λ c. same_path c.path p) S.columns (any-there (λ c. same_path c.path p) S.columns i d h (path-self p)) in
+    let f = found-there (λ c. same_path c.path p) S.columns (list_any_at (λ c. same_path c.path p) S.columns i d h (path-self p)) in
     ap (λ o. is_some (elim o [ Some c ↦ Some c.kind | None ↦ option_map (λ x. widened x.kind) (path_property m S p) ])) f.1
 
 pub columns-from : (m : Model) (Ss : List Shape) → option_and_then (λ t. all_some (map (joined_column m Ss) t)) (fold add_columns (Some []) Ss) ≡ concat_columns m Ss
@@ -54,7 +53,7 @@ columns-from m Ss =
 own-prefix : (S : Shape) (i : ℕ) (d : PrefixShape) → i < length S.prefixes → is_some (prefix_at S (get_or S.prefixes i d).path) ≡ true
 own-prefix S i d h =
     let p = (get_or S.prefixes i d).path in
-    let f = found-there (λ x. same_path x.path p) (all_prefixes S) (go p S.root (any-there (λ x. same_path x.path p) S.prefixes i d h (path-self p))) in
+    let f = found-there (λ x. same_path x.path p) (all_prefixes S) (go p S.root (list_any_at (λ x. same_path x.path p) S.prefixes i d h (path-self p))) in
     ap is_some f.1
   where
     go : (p : Path) (o : Option RootShape) → list_any (λ x. same_path x.path p) S.prefixes ≡ true

@@ -11,17 +11,17 @@ use Rattle.std.specs.Ordering.{nat_cmp, is_eq, is_lt, is_gt, ordering_reverse, o
 use Rattle.std.specs.declared.cmp.Ordering.{Ordering}
 use Rattle.std.specs.declared.cmp.Ordering.TheVariants.{Less, Equal, Greater}
 use Rattle.std.proofs.Math.Bool.{and-true, and-false}
-use Rattle.std.proofs.lemmas.Bool.{and_parts, and_from, both_ways, cases_lt, false_from_ne_true, or_left, or_right, eq-eqb, eqb-true, ne_eqb}
+use Rattle.std.proofs.lemmas.Bool.{and_parts, and_from, both_ways, cases_lt, false_from_ne_true, eq-eqb, eqb-true, ne_eqb, not-true}
 use Rattle.std.proofs.lemmas.Cmp.{nat_list_cmp_total, lists_total, tied_itself, tied_back}
 use Rattle.std.proofs.lemmas.List.{get_or-map, length-map, length_push, map-append, take-map, drop-map, take-append-drop, drop_all, drop_more, get_or_append_left, get_or_push, get_or_read}
 use Rattle.std.proofs.lemmas.List.Edits.{length-insert}
 use Rattle.std.proofs.lemmas.List.Elements.{All-append, All-cons, All-drop, All-get_or, All-take, All-weaker, All-head, All-tail, All-from_get_or, All-from_recursion, recursion_from_All}
-use Rattle.std.proofs.lemmas.List.Folds.{find-append, list_any-append}
+use Rattle.std.proofs.lemmas.List.Folds.{find-append, list_any-append, list_any_at}
 use Rattle.std.proofs.lemmas.Map.Keys.{Less-from_sorted}
 use Rattle.std.proofs.lemmas.Map.Text.{is_eq-slice_cmp}
 use Rattle.edm_values.specs.Lists.{same_text, are_distinct}
 use Rattle.edm_values.specs.Names.{Name, Path}
-use Rattle.edm_values.proofs.OptionFacts.{some_value, none_or}
+use Rattle.edm_values.proofs.OptionFacts.{some_value, none_or, same_bool}
 use Rattle.edm_values.proofs.SameTexts.{same_texts, text-self}
 use Rattle.edm_model.proofs.Mapped.{list_any-map}
 use Rattle.context_typing.specs.Orders.{path_cmp, no_column, columns_at, column_paths, IsLowerBound, IsOrder}
@@ -157,11 +157,6 @@ any-at q (y ∷ xs) e = go (any-at q xs) (q y) refl e
     go more true h e = (0, y, omega arith, (λ d. refl), h)
     go more false h e = let r = more e in (suc r.0, r.1, omega arith, r.3, r.4)
 
-pub any-there : {X : Type 0} (q : X → Bool) (xs : List X) (i : ℕ) (d : X) → i < length xs → q (get_or xs i d) ≡ true → list_any q xs ≡ true
-any-there q [] i d h e = absurd (omega arith)
-any-there q (x ∷ xs) zero d h e = or_left _ _ e
-any-there q (x ∷ xs) (suc i) d h e = or_right (q x) _ (any-there q xs i d (omega arith) e)
-
 -- where one passes, one is found
 pub found-there : {X : Type 0} (t : X → Bool) (xs : List X) → list_any t xs ≡ true → (x : X) × (find t xs ≡ Some x)
 found-there t [] e = cc
@@ -175,21 +170,16 @@ found-there t (x ∷ xs) e = go (found-there t xs) (t x) refl e
 pub none-there : {X : Type 0} (t : X → Bool) (xs : List X) → find t xs ≡ None → list_any t xs ≡ false
 none-there t xs e = false_from_ne_true (list_any t xs) (λ h. let f = found-there t xs h in none_or f.0 (sym e ∙ f.1))
 
-pub same_bool : (a b : Bool) → (a ≡ true → b ≡ true) → (b ≡ true → a ≡ true) → a ≡ b
-same_bool true b h k = sym (h refl)
-same_bool false true h k = k refl
-same_bool false false h k = refl
-
 -- ---- columns that are found by the same paths
 
 module _ (q : Path → Bool) where
   any-moved : (xs ys : List ColumnShape) → ((p : Path) → at_path (λ c. c.path) xs p ≡ at_path (λ c. c.path) ys p) → list_any (λ c. q c.path) xs ≡ true → list_any (λ c. q c.path) ys ≡ true
   any-moved xs ys same e =
       let a = any-at (λ c. q c.path) xs e in
-      let there : list_any (λ c. same_path c.path (a.1).path) xs ≡ true = any-there (λ c. same_path c.path (a.1).path) xs a.0 a.1 a.2 (ap (λ c. same_path c.path (a.1).path) (a.3 a.1) ∙ path-self (a.1).path) in
+      let there : list_any (λ c. same_path c.path (a.1).path) xs ≡ true = list_any_at (λ c. same_path c.path (a.1).path) xs a.0 a.1 a.2 (ap (λ c. same_path c.path (a.1).path) (a.3 a.1) ∙ path-self (a.1).path) in
       let f = found-there (λ c. same_path c.path (a.1).path) xs there in
       let g = find-at (λ c. same_path c.path (a.1).path) ys f.0 (sym (same (a.1).path) ∙ f.1) in
-      any-there (λ c. q c.path) ys g.0 f.0 g.1 (ap (λ c. q c.path) (g.2 f.0) ∙ ap q (same_paths (f.0).path (a.1).path g.3) ∙ a.4)
+      list_any_at (λ c. q c.path) ys g.0 f.0 g.1 (ap (λ c. q c.path) (g.2 f.0) ∙ ap q (same_paths (f.0).path (a.1).path g.3) ∙ a.4)
 
   -- a test of paths that some column passes
   pub any-same : (xs ys : List ColumnShape) → ((p : Path) → at_path (λ c. c.path) xs p ≡ at_path (λ c. c.path) ys p) → list_any (λ c. q c.path) xs ≡ list_any (λ c. q c.path) ys
@@ -334,7 +324,7 @@ module _ (es : List ColumnShape) (rising : IsStrictlySortedBy path_cmp (column_p
 
   -- whether p leads to a column: whether it leads to the first that does not stand before it
   pub leads-hit : n < length es → list_any (λ c. is_prefix p c.path) es ≡ is_prefix p (get_or es n no_column).path
-  leads-hit h = same_bool _ _ (leads-forward h) (λ e. any-there (λ c. is_prefix p c.path) es n no_column h e)
+  leads-hit h = same_bool _ _ (leads-forward h) (λ e. list_any_at (λ c. is_prefix p c.path) es n no_column h e)
 
   pub leads-none : length es ≤ n → list_any (λ c. is_prefix p c.path) es ≡ false
   leads-none h =
@@ -401,7 +391,7 @@ module _ (cs : List ColumnShape) (ks : List ℕ) (order : IsOrder cs ks) (c : Co
     where
       go : (o : Option ColumnShape) → found cs c.path ≡ o → list_any (λ d. same_path d.path c.path) cs ≡ is_some (found cs c.path)
       go None e = none-there (λ d. same_path d.path c.path) cs e ∙ sym (ap is_some e)
-      go (Some x) e = let f = find-at (λ d. same_path d.path c.path) cs x e in any-there (λ d. same_path d.path c.path) cs f.0 x f.1 (ap (λ d. same_path d.path c.path) (f.2 x) ∙ f.3) ∙ sym (ap is_some e)
+      go (Some x) e = let f = find-at (λ d. same_path d.path c.path) cs x e in list_any_at (λ d. same_path d.path c.path) cs f.0 x f.1 (ap (λ d. same_path d.path c.path) (f.2 x) ∙ f.3) ∙ sym (ap is_some e)
 
   distinct-more : are_distinct same_path (column_paths (cs ++ c ∷ [])) ≡ ((length ks == length cs) && not (is_some (found cs c.path)))
   distinct-more =
@@ -488,17 +478,13 @@ found-near [] i p x d h is e = absurd (omega arith)
 found-near (c ∷ cs) zero p x d h is e = sym (ap (λ b. cond b (Some c) (at_path (λ c. c.path) cs p)) (ap (λ c. same_path c.path p) (sym is) ∙ e) ∙ ap Some (sym is))
 found-near (c ∷ cs) (suc i) p x d h is e =
     let t = and_parts _ _ d in
-    let none : list_any (same_path c.path) (column_paths cs) ≡ false = not_true (list_any (same_path c.path) (column_paths cs)) t.0 in
+    let none : list_any (same_path c.path) (column_paths cs) ≡ false = not-true (list_any (same_path c.path) (column_paths cs)) t.0 in
     let other : same_path c.path p ≡ false = apart none in
     found-near cs i p x t.1 (omega arith) is e ∙ sym (ap (λ b. cond b (Some c) (at_path (λ c. c.path) cs p)) other)
   where
-    not_true : (b : Bool) → not b ≡ true → b ≡ false
-    not_true true k = cc
-    not_true false k = refl
-
     apart : list_any (same_path c.path) (column_paths cs) ≡ false → same_path c.path p ≡ false
     apart none = false_from_ne_true (same_path c.path p) (λ k. both_ways (list_any (same_path c.path) (column_paths cs)) none
-        (list_any-map (same_path c.path) (λ c. c.path) cs ∙ any-there (λ d. same_path c.path d.path) cs i x (omega arith)
+        (list_any-map (same_path c.path) (λ c. c.path) cs ∙ list_any_at (λ d. same_path c.path d.path) cs i x (omega arith)
         (ap (λ d. same_path c.path d.path) (sym is) ∙ ap (same_path c.path) (same_paths x.path p e) ∙ k)))
 
 -- ---- what the program's searches read
@@ -580,7 +566,7 @@ leads-found cs p k h = go (at_path (λ c. c.path) cs (take k p)) refl h
     go None e h = cc
     go (Some x) e h =
         let f = find-at (λ c. same_path c.path (take k p)) cs x e in
-        sym (any-there (λ c. is_prefix c.path p) cs f.0 x f.1 (ap (λ c. is_prefix c.path p) (f.2 x) ∙ ap (λ q. is_prefix q p) (same_paths x.path (take k p) f.3) ∙ prefix-take k p))
+        sym (list_any_at (λ c. is_prefix c.path p) cs f.0 x f.1 (ap (λ c. is_prefix c.path p) (f.2 x) ∙ ap (λ q. is_prefix q p) (same_paths x.path (take k p) f.3) ∙ prefix-take k p))
 
 pub leads-missed : (cs : List ColumnShape) (p : Path) → ((k : ℕ) → k ≤ length p → at_path (λ c. c.path) cs (take k p) ≡ None) → false ≡ list_any (λ c. is_prefix c.path p) cs
 leads-missed cs p none =
@@ -588,7 +574,7 @@ leads-missed cs p none =
     let a = any-at (λ c. is_prefix c.path p) cs e in
     let q = (a.1).path in
     let r = prefix-is q p a.4 in
-    let f = found-there (λ c. same_path c.path (take (length q) p)) cs (any-there (λ c. same_path c.path (take (length q) p)) cs a.0 a.1 a.2 (ap (λ c. same_path c.path (take (length q) p)) (a.3 a.1) ∙ ap (same_path q) (sym r.1) ∙ path-self q)) in
+    let f = found-there (λ c. same_path c.path (take (length q) p)) cs (list_any_at (λ c. same_path c.path (take (length q) p)) cs a.0 a.1 a.2 (ap (λ c. same_path c.path (take (length q) p)) (a.3 a.1) ∙ ap (same_path q) (sym r.1) ∙ path-self q)) in
     none_or f.0 (sym (none (length q) r.0) ∙ f.1)))
 
 pub none-is : {X : Type 0} (o : Option X) → is_some o ≡ false → o ≡ None

@@ -4,8 +4,8 @@ use Rattle.std.specs.Prelude.{filter, flat_map, fold, option_and_then, option_ma
 use Rattle.std.specs.Bool.{then_some}
 use Rattle.std.specs.List.{list_any, list_all}
 use Rattle.std.proofs.lemmas.Bool.{and_parts, and_from, both_ways}
-use Rattle.std.proofs.lemmas.List.{append-nil}
-use Rattle.std.proofs.lemmas.List.Folds.{list_all-append, list_any-append, fold_stays}
+use Rattle.std.proofs.lemmas.List.{append-nil, append_assoc}
+use Rattle.std.proofs.lemmas.List.Folds.{list_all-append, list_any-append, fold_stays, list_any_at}
 use Rattle.std.proofs.lemmas.List.Sums.{fold-append}
 use Rattle.edm_values.specs.Lists.{all_some, distinct}
 use Rattle.edm_values.specs.Names.{Path}
@@ -14,7 +14,7 @@ use Rattle.context_typing.specs.Merging.{add_entry}
 use Rattle.context_typing.specs.Paths.{same_path, at_path, is_none_or}
 use Rattle.context_typing.specs.Shapes.{Shape}
 use Rattle.context_typing.proofs.PathLemmas.{same_paths}
-use Rattle.context_typing.proofs.PathOrders.{find-at, none-there, any-at, any-there}
+use Rattle.context_typing.proofs.PathOrders.{find-at, none-there, any-at}
 
 -- ---- lists
 
@@ -39,10 +39,6 @@ filter-twice p q r (x ∷ xs) h = go (q x) (h x) (filter-twice p q r xs h)
 filter-true : {X : Type 0} (xs : List X) → filter (λ x. true) xs ≡ xs
 filter-true [] = refl
 filter-true (x ∷ xs) = ap (λ l. x ∷ l) (filter-true xs)
-
-append-assoc : {X : Type 0} (xs ys zs : List X) → (xs ++ ys) ++ zs ≡ xs ++ (ys ++ zs)
-append-assoc [] ys zs = refl
-append-assoc (x ∷ xs) ys zs = ap (λ l. x ∷ l) (append-assoc xs ys zs)
 
 -- a fold over lists one after another
 pub fold-flat : {X Y Z : Type 0} (f : Z → Y → Z) (g : X → List Y) (z : Z) (xs : List X) → fold (λ z x. fold f z (g x)) z xs ≡ fold f z (flat_map g xs)
@@ -81,7 +77,7 @@ module _ {X : Type 0} (path : X → Path) where
   extend t (x ∷ xs) = extend (elim (at_path path t (path x)) [ Some d ↦ t | None ↦ t ++ x ∷ [] ]) xs
 
   is-there : (t : List X) (x d : X) → at_path path t (path x) ≡ Some d → there t x ≡ true
-  is-there t x d e = let f = find-at (λ y. same_path (path y) (path x)) t d e in any-there (λ y. same_path (path y) (path x)) t f.0 d f.1 (ap (λ y. same_path (path y) (path x)) (f.2 d) ∙ f.3)
+  is-there t x d e = let f = find-at (λ y. same_path (path y) (path x)) t d e in list_any_at (λ y. same_path (path y) (path x)) t f.0 d f.1 (ap (λ y. same_path (path y) (path x)) (f.2 d) ∙ f.3)
 
   old : (t : List X) (x : X) → there t x ≡ true → (y : X) → (not (eq x y) && not (there t y)) ≡ not (there t y)
   old t x e y = go (eq x y) refl
@@ -114,7 +110,7 @@ module _ {X : Type 0} (path : X → Path) where
           (sym (ap (λ b. cond (not b) (x ∷ filter (λ y. not (there t y)) (filter (λ y. not (eq x y)) (distinct eq xs))) (filter (λ y. not (there t y)) (filter (λ y. not (eq x y)) (distinct eq xs)))) (is-there t x d e)
           ∙ filter-twice (λ y. not (there t y)) (λ y. not (eq x y)) (λ y. not (there t y)) (distinct eq xs) (old t x (is-there t x d e))))
       go None e same more =
-          more ∙ append-assoc t (x ∷ []) (filter (λ y. not (there (t ++ x ∷ []) y)) (distinct eq xs))
+          more ∙ append_assoc t (x ∷ []) (filter (λ y. not (there (t ++ x ∷ []) y)) (distinct eq xs))
           ∙ ap (λ l. t ++ l)
           (sym (ap (λ b. cond (not b) (x ∷ filter (λ y. not (there t y)) (filter (λ y. not (eq x y)) (distinct eq xs))) (filter (λ y. not (there t y)) (filter (λ y. not (eq x y)) (distinct eq xs)))) (none-there (λ y. same_path (path y) (path x)) t e)
           ∙ ap (λ l. x ∷ l) (filter-twice (λ y. not (there t y)) (λ y. not (eq x y)) (λ y. not (there (t ++ x ∷ []) y)) (distinct eq xs) (new t x))))
@@ -219,7 +215,7 @@ module _ {X K : Type 0} (path : X → Path) (alike : X → X → Bool) (fits : X
       go (Some y) e h k = met d x y h k
 
   all-owned : list_all owned (flat_map entries Ss) ≡ true
-  all-owned = all-flat owned entries Ss (λ j S l. all-places owned (entries (get_or Ss j S)) (λ i d k. any-there (λ S'. is_some (look S' (path (get_or (entries (get_or Ss j S)) i d)))) Ss j S l (own (get_or Ss j S) i d k)))
+  all-owned = all-flat owned entries Ss (λ j S l. all-places owned (entries (get_or Ss j S)) (λ i d k. list_any_at (λ S'. is_some (look S' (path (get_or (entries (get_or Ss j S)) i d)))) Ss j S l (own (get_or Ss j S) i d k)))
 
   -- the entries of the branches, each path once, where the branches agree
   pub branches-joined : {Y : Type 0} (f : X → Y) → option_and_then (λ t. all_some (map (λ d. then_some (agrees d) (f d)) t)) (fold (λ o S. fold (add_entry path alike) o (entries S)) (Some []) Ss)

@@ -1,7 +1,8 @@
 -- The steps of a pipeline, one after another.
-use Rattle.std.proofs.Common.{◌≡◌, refl, sym, ◌∙◌, ap, ℕ, zero, suc, ◌+◌, ◌-◌, ◌<◌, ◌≤◌, Bool, true, false, ◌&&◌, List, [], ◌∷◌, ◌++◌, Option, Some, None, map, take, drop, length, get_or, arith, add-one}
+use Rattle.std.proofs.Common.{◌≡◌, refl, sym, ◌∙◌, ap, ℕ, ◌+◌, ◌-◌, ◌<◌, ◌≤◌, Bool, true, false, ◌&&◌, List, [], ◌∷◌, ◌++◌, Option, Some, None, map, take, drop, length, get_or, arith}
 use Rattle.std.specs.Prelude.{option_and_then, is_some, is_none, unwrap_or}
-use Rattle.std.proofs.lemmas.List.{map-append, take-append-drop, take-map, take_all}
+use Rattle.std.proofs.lemmas.List.{map-append, take-append-drop, take-map, take_all, take_more}
+use Rattle.std.proofs.Math.Bool.{and-true}
 use Rattle.edm_values.proofs.OptionFacts.{chained, some_value, none_or}
 use Rattle.edm_model.specs.Models.{Model}
 use Rattle.apply_ast.specs.Trees.{Pipe, Step, steps, pipe, is_long}
@@ -30,10 +31,6 @@ and-assoc : (a b d : Bool) → (a && (b && d)) ≡ ((a && b) && d)
 and-assoc true b d = refl
 and-assoc false b d = refl
 
-and-true : (a : Bool) → (a && true) ≡ a
-and-true true = refl
-and-true false = refl
-
 quiet-append : (m : Model) (c : Customs) (S T : Shape) (ss ts : List Step) → steps_shape m c S (pipe ss) ≡ Some T → is_quiet m c S (pipe (ss ++ ts)) ≡ (is_quiet m c S (pipe ss) && is_quiet m c T (pipe ts))
 unfolding steps_shape is_quiet
 quiet-append m c S T [] ts e = ap (λ S. is_quiet m c S (pipe ts)) (some_value e)
@@ -57,16 +54,8 @@ shape-one m c T s = go (step_shape m c T s)
     go None = refl
     go (Some T) = refl
 
-take-more : {X : Type 0} (xs : List X) (i : ℕ) (d : X) → i < length xs → take (i + 1) xs ≡ take i xs ++ get_or xs i d ∷ []
-take-more xs i d h = ap (λ k. take k xs) (add-one i) ∙ go xs i h
-  where
-    go : (xs : List _) (i : ℕ) → i < length xs → take (suc i) xs ≡ take i xs ++ get_or xs i d ∷ []
-    go [] i h = absurd (omega arith)
-    go (x ∷ xs) zero h = refl
-    go (x ∷ xs) (suc i) h = ap (λ l. x ∷ l) (go xs i (omega arith))
-
 mapped-more : {X : Type 0} (f : X → Step) (xs : List X) (i : ℕ) (d : X) → i < length xs → d ≡ get_or xs i d → map f (take (i + 1) xs) ≡ map f (take i xs) ++ f d ∷ []
-mapped-more f xs i d h is = ap (map f) (take-more xs i d h) ∙ map-append f (take i xs) (get_or xs i d ∷ []) ∙ ap (λ x. map f (take i xs) ++ f x ∷ []) (sym is)
+mapped-more f xs i d h is = ap (map f) (take_more xs i d h) ∙ map-append f (take i xs) (get_or xs i d ∷ []) ∙ ap (λ x. map f (take i xs) ++ f x ∷ []) (sym is)
 
 -- the parts of an outcome
 pub outcome-parts : (o : Option Shape) (q : Bool) (x : Outcome) → outcome o q ≡ Some x → (o ≡ Some x.shape) × (q ≡ x.quiet)

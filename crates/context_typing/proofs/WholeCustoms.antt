@@ -11,7 +11,7 @@ use Rattle.edm_values.specs.Lists.{is_some_and, places, same_text}
 use Rattle.edm_values.specs.Names.{Name}
 use Rattle.edm_values.proofs.OptionFacts.{chained, mapped, none_or, some_value}
 use Rattle.edm_values.proofs.SameTexts.{same_texts, text-self}
-use Rattle.edm_values.proofs.SearchFacts.{chosen, found-passes}
+use Rattle.edm_values.proofs.SearchFacts.{found-passes, found-numbered}
 use Rattle.edm_model.specs.Models.{Custom, EntityType, Model, Part}
 use Rattle.edm_model.specs.LookUps.{custom_named, customs_of_type, item_named, type_at}
 use Rattle.edm_model.specs.IdLists.{custom_entry, custom_list, customs_in}
@@ -57,14 +57,6 @@ all_counted q n [] h = refl
 all_counted q n (x ∷ xs) h =
     and_from _ _ (ap (λ j. q (j, x)) (sym (add-zero n)) ∙ h 0 x refl)
     (all_counted q (n + 1) xs (λ k y e. let same : n + 1 + k ≡ n + suc k = omega arith in ap (λ j. q (j, y)) same ∙ h (suc k) y e))
-
--- what a search of counted elements finds stands at its place
-found_counted : {X : Type 0} (q : ℕ × X → Bool) (n : ℕ) (xs : List X) (y : ℕ × X) → find q (enumerate_from n xs) ≡ Some y → (k : ℕ) × (y.0 ≡ n + k) × (slice_get xs k ≡ Some y.1)
-found_counted q n [] y e = none_or y e
-found_counted q n (x ∷ xs) y e = elim (chosen (q (n, x)) (n, x) y (find q (enumerate_from (n + 1) xs)) e) [
-  | inl h ↦ (0, ap (λ (z : ℕ × _). z.0) (sym h.1) ∙ sym (add-zero n), ap (λ (z : ℕ × _). Some z.1) h.1)
-  | inr h ↦ (let t = found_counted q (n + 1) xs y h.1 in (suc t.0, omega (arith, t.1), t.2))
-]
 
 -- a search finds something where the element passes its test
 abbrev IsFound : {X : Type 0} → List X → X → Type 0
@@ -117,7 +109,7 @@ module _ (m : Model) (c : List TypedCustom) where
       let v = mapped f (custom_named m x.owner x.name) (x.read.id.at, Some x.kind, x.risky) typed.1 in
       let y = chained (λ (e : EntityType). item_named (λ (u : Custom). u.name) x.name e.customs) (type_at m x.owner) v.0 v.1 in
       let test : ℕ × Custom → Bool = λ y. same_text (y.1).name x.name in
-      let place = found_counted test 0 (y.0).customs v.0 y.2 in
+      let place = found-numbered test 0 (y.0).customs v.0 y.2 in
       let owner : x.owner ≡ t = sym typed.0 ∙ ap (λ (p : Part). p.of) is in
       let at : place.0 ≡ k = omega (arith, place.1, ap (λ (z : ℕ × Option EdmType × Bool). z.0) v.2, ap (λ (p : Part). p.at) is) in
       let found : slice_get (customs_of_type m x.owner) place.0 ≡ Some (v.0).1 =

@@ -292,7 +292,7 @@ fn may_stand(keys: &[KeyItem], columns: &ColumnList, inner: &Shape) -> bool
 }
 
 /// The shape after a grouping: that of what each group becomes, with the key columns.
-pub(crate) fn grouped_shape(
+pub fn grouped_shape(
     alloc: Global,
     m: &Model,
     shape: &Shape,
@@ -300,7 +300,7 @@ pub(crate) fn grouped_shape(
     inner: Shape,
 ) -> Result<Option<Shape>, AllocError>
     requires { IsTrue (has_types m.now shape.now) }
-    ensures { IfOk result (λ o. o ≡ spec.grouped_shape m.now shape.now (spec.group_keys (keys_from (map key_of keys.now))) inner) }
+    ensures value { IfOk result (λ o. o ≡ spec.grouped_shape m.now shape.now (spec.group_keys (keys_from (map key_of keys.now))) inner) }
 {
     match key_columns(alloc, m, shape, keys)? {
         Some(columns) => {

@@ -77,9 +77,9 @@ pub(crate) fn is_count(n: u64) -> bool
 }
 
 /// Whether an expression is a Boolean.
-pub(crate) fn is_test(m: &Model, shape: &Shape, e: &Expr) -> bool
+pub fn is_test(m: &Model, shape: &Shape, e: &Expr) -> bool
     requires { IsTrue (has_types m.now shape.now) }
-    ensures { result ≡ spec.has_kind is_boolean_kind m.now shape.now (expr_of e.now) }
+    ensures value { result ≡ spec.has_kind is_boolean_kind m.now shape.now (expr_of e.now) }
 {
     match expr_kind(m, shape, e) {
         Some(kind) => is_boolean(kind),

@@ -176,14 +176,14 @@ fn joined_columns(
 }
 
 /// The shape after a join: the input's, and under the alias what the related entities become.
-pub(crate) fn joined_shape(
+pub fn joined_shape(
     alloc: Global,
     outer: bool,
     alias: &Name,
     shape: Shape,
     related: &Shape,
 ) -> Result<Shape, AllocError>
-    ensures { IfOk result (λ S. S ≡ spec.joined_shape outer alias.now shape related.now) }
+    ensures value { IfOk result (λ S. S ≡ spec.joined_shape outer alias.now shape related.now) }
 {
     let Shape {
         root,

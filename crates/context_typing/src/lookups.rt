@@ -172,8 +172,8 @@ pub(crate) fn is_declared(m: &Model, shape: &Shape, path: &Path) -> bool
 }
 
 /// Whether a path is that of a column that may be past its range.
-pub(crate) fn is_risky(shape: &Shape, path: &Path) -> bool
-    ensures { result ≡ spec.is_risky shape.now path.now }
+pub fn is_risky(shape: &Shape, path: &Path) -> bool
+    ensures value { result ≡ spec.is_risky shape.now path.now }
 {
     match column_at(shape, path.names()) {
         Some(column) => column.risky,

@@ -451,13 +451,13 @@ fn joined_branches(
 }
 
 /// The shape after a concatenation, where the branches agree.
-pub(crate) fn concat_shape(
+pub fn concat_shape(
     alloc: Global,
     m: &EdmModel,
     shapes: &[Shape],
 ) -> Result<Option<Shape>, AllocError>
     requires { IsTrue (list_all (has_types m.now) shapes.now) }
-    ensures { IfOk result (λ o. o ≡ spec.concat_shape m.now shapes.now) }
+    ensures value { IfOk result (λ o. o ≡ spec.concat_shape m.now shapes.now) }
 {
     if may_join(shapes) {
         joined_branches(alloc, m, shapes)

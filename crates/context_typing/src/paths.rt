@@ -42,8 +42,8 @@ pub(crate) fn is_prefix(a: &[Name], b: &[Name]) -> bool
 }
 
 /// Whether the path begins with the name.
-pub(crate) fn begins(name: &Name, path: &Path) -> bool
-    ensures { result ≡ spec.begins name.now path.now }
+pub fn begins(name: &Name, path: &Path) -> bool
+    ensures value { result ≡ spec.begins name.now path.now }
 {
     match path.names().first() {
         None => false,

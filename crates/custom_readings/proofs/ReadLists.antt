@@ -6,6 +6,7 @@ use Rattle.std.proofs.lemmas.List.{take_more, take-map}
 use Rattle.std.proofs.lemmas.Option.{slice_get-get_or, slice_get_past}
 use Rattle.edm_values.specs.Names.{Path}
 use Rattle.edm_values.proofs.OptionFacts.{none_or, some_value}
+use Rattle.edm_values.proofs.ListFacts.{AllZip-both}
 use Rattle.edm_model.specs.declared.parts.Custom.{Custom}
 use Rattle.apply_grammar.specs.Limits.{PathText}
 use Rattle.context_typing.specs.declared.customs.ReadCustom.{ReadCustom}
@@ -19,12 +20,6 @@ zipped P n [] ys x a e = none_or x e
 zipped P n (x ∷ xs) [] z a e = absurd a
 zipped P zero (x ∷ xs) (y ∷ ys) z a e = let Q : _ → Type 0 = λ v. P v y in (y, subst Q (some_value e) a.0)
 zipped P (suc n) (x ∷ xs) (y ∷ ys) z a e = zipped P n xs ys z a.1 e
-
-pushed : {A B : Type 0} (P : A → B → Type 0) (xs : List A) (ys : List B) (x : A) (y : B) → AllZip P xs ys → P x y → AllZip P (xs ++ x ∷ []) (ys ++ y ∷ [])
-pushed P [] [] x y h p = (p, tt)
-pushed P [] (b ∷ ys) x y h p = absurd h
-pushed P (a ∷ xs) [] x y h p = absurd h
-pushed P (a ∷ xs) (b ∷ ys) x y h p = (h.0, pushed P xs ys x y h.1 p)
 
 parted : {A B : Type 0} (P : A → B → Type 0) (xs : List A) (x : A) (zs : List B) → AllZip P (xs ++ x ∷ []) zs → (ys : List B) × (y : B) × (zs ≡ ys ++ y ∷ []) × AllZip P xs ys × P x y
 parted P [] x [] h = absurd h
@@ -45,7 +40,7 @@ item_get xs i x within is = slice_get-get_or xs i x within ∙ ap Some (sym is)
 pub zip-more : {A B : Type 0} (P : A → B → Type 0) (xs : List A) (ys : List B) (i : ℕ) (x : A) (y : B) → i < length xs → x ≡ get_or xs i x → AllZip P (take i xs) ys → P x y → AllZip P (take (i + 1) xs) (ys ++ y ∷ [])
 zip-more P xs ys i x y within is h p =
     let Q : List _ → Type 0 = λ l. AllZip P l (ys ++ y ∷ []) in
-    subst Q (sym (item_more xs i x within is)) (pushed P (take i xs) ys x y h p)
+    subst Q (sym (item_more xs i x within is)) (AllZip-both P (take i xs) ys x y h p)
 
 -- ---- paths
 
@@ -53,7 +48,7 @@ pub paths-more : (texts : List (List ℕ)) (ps : List Path) (i : ℕ) (t : List 
 paths-more texts ps i t p within is h text only =
     let P : List (List ℕ) → Type 0 = λ l. ArePathsOf l (ps ++ p ∷ []) in
     subst P (sym (item_more texts i t within is)) (record {
-      are = pushed PathText (take i texts) ps t p h.are text;
+      are = AllZip-both PathText (take i texts) ps t p h.are text;
       only = λ qs z.
           let r = parted PathText (take i texts) t qs z in
           r.2 ∙ (λ j. h.only r.0 r.3 j ++ some_value (only r.1 r.4) j ∷ []);

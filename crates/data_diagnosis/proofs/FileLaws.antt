@@ -1,64 +1,33 @@
 -- The definitions of what is at fault are those by which a data file is refused: its keys and references are those of the world of its entities.
-use Rattle.std.proofs.Common.{◌≡◌, ℕ, zero, suc, ◌+◌, ◌<◌, ◌≤◌, Bool, true, false, List, [], ◌∷◌, ◌++◌, length, take, map, get_or, refl, sym, ◌∙◌, ap, subst, arith, cond, ⊎_elim, add-one, Some, None}
+use Rattle.std.proofs.Common.{◌≡◌, ℕ, zero, suc, ◌<◌, ◌≤◌, Bool, true, false, List, [], ◌∷◌, length, take, map, get_or, refl, sym, ◌∙◌, ap, subst, arith, add-one, Some, None}
 use Rattle.std.specs.Prelude.{◌&&◌, ◌||◌, not, if◌then◌else◌}
 use Rattle.std.specs.declared.option.Option.{Option}
 use Rattle.std.specs.Option.{option_map, option_and_then, unwrap_or, is_some, is_none}
-use Rattle.std.specs.List.{slice_get, find, list_any, list_all, position, flat_map, enumerate_from}
-use Rattle.std.proofs.lemmas.Bool.{cases_lt, false≢true}
-use Rattle.std.proofs.lemmas.List.{map-append, take-map, take_all}
+use Rattle.std.specs.List.{slice_get, find, list_any, list_all, position}
+use Rattle.std.proofs.lemmas.Bool.{false≢true}
+use Rattle.std.proofs.lemmas.List.{take-map, take_all}
 use Rattle.std.proofs.lemmas.List.Folds.{list_any-append, list_any_more}
-use Rattle.std.proofs.lemmas.Option.{slice_get-map, slice_get-get_or, none-some}
+use Rattle.std.proofs.lemmas.Option.{slice_get-map, slice_get-get_or}
 use Rattle.serde_json.specs.Data.{Data}
 use Rattle.edm_values.specs.Lists.{places, all_some, is_some_and}
 use Rattle.edm_values.specs.declared.Value.{Value}
 use Rattle.edm_values.specs.Values.{is_null, same_value, value_in}
 use Rattle.edm_values.proofs.OptionFacts.{all_some-parts, if_else-parts}
-use Rattle.edm_values.proofs.SearchFacts.{cons-head, cons-tail}
+use Rattle.edm_values.proofs.SearchFacts.{cons-head, cons-tail, is_some-position}
 use Rattle.edm_model.specs.JsonTrees.{is_object, members_in}
 use Rattle.edm_model.specs.Models.{Property, Navigation, EntitySet, Model, Part}
-use Rattle.edm_model.specs.LookUps.{IsSet, IsProperty, properties_of, property_at, navigation_on, dependent_of, key_of, key_at, set_type, set_of_type, navigations_of}
+use Rattle.edm_model.specs.LookUps.{IsSet, IsProperty, properties_of, property_at, navigation_on, dependent_of, key_of, set_type, set_of_type, navigations_of}
 use Rattle.edm_model.specs.Soundness.{IsSound}
 use Rattle.edm_data.specs.Worlds.{World, Entity, entity_at, all_places}
 use Rattle.edm_data.specs.References.{entities_of, property, key, keys_of, by_key, referred}
 use Rattle.edm_data.specs.DataFile.{DataReading, World', NoJson, Set, Shape, unless_found, is_set_member, is_known_member, entity_of, property_value, array_in, items_of_set, items_of_sets, is_no_entity, world_of, rows_reading, entities_in_tree, has_earlier_key, dangles, is_dangling}
-use Rattle.edm_data.proofs.FirstPlaces.{size_at}
-use Rattle.edm_data.proofs.KeyOrderLemmas.{is_some-position}
-use Rattle.edm_data.proofs.ReferenceLemmas.{type_same, navs_same}
+use Rattle.edm_data.proofs.FirstPlaces.{none-in_all_places}
+use Rattle.edm_data.proofs.ReferenceLemmas.{navs_same}
 use Rattle.edm_data.proofs.RelationLemmas.{or_none}
 use Rattle.edm_data.proofs.SeenKeys.{list_any-map}
+use Rattle.edm_data.proofs.TableLemmas.{key_place}
 use Rattle.data_diagnosis.specs.EntityFaults.{key_in, same_key, earlier_place, items_in_set, has_key, reference_in, misses, misses_one}
 use Rattle.data_diagnosis.specs.FileLaws.{KeysAreOfEntities, EarlierKeysAreOfEntities, NavigationsDangle, MissingReferencesDangle}
-
--- ---- places of which none passes
-
-none-append : {X : Type 0} (P : X → Bool) (xs ys : List X) → find P (xs ++ ys) ≡ None → (find P xs ≡ None) × (find P ys ≡ None)
-none-append P [] ys h = (refl, h)
-none-append P (x ∷ xs) ys h = (elim (P x) as (λ b. cond b (Some x) (find P (xs ++ ys)) ≡ None → (cond b (Some x) (find P xs) ≡ None) × (find P ys ≡ None)) [ true ↦ λ e. absurd (none-some x (sym e)) | false ↦ λ e. none-append P xs ys e ]) h
-
-none-one : {X : Type 0} (P : X → Bool) (x : X) → find P (x ∷ []) ≡ None → P x ≡ false
-none-one P x h = (elim (P x) as (λ b. ◌≡◌ {A = Option _} (cond b (Some x) None) None → b ≡ false) [ true ↦ λ e. absurd (none-some x (sym e)) | false ↦ λ e. refl ]) h
-
-none-places : {X : Type 0} (P : X → Bool) (e : ℕ → X) (n : ℕ) → find P (map e (places n)) ≡ None → (q : ℕ) → q < n → P (e q) ≡ false
-none-places P e zero h q less = absurd (omega arith)
-none-places P e (suc n) h q less =
-    let parts = none-append P (map e (places n)) (e n ∷ []) (rw (map-append e (places n) (n ∷ [])) at h) in
-    ⊎_elim (λ before. none-places P e n parts.0 q before) (λ after. let same : q ≡ n = omega arith in rw same (none-one P (e n) parts.1)) (cases_lt q n)
-
--- the places in lists that are numbered from i on
-abbrev places_from : {X : Type 0} → ℕ → List (List X) → List Entity
-places_from i xss = flat_map (λ p. map (entity_at p.0) (places (length p.1))) (enumerate_from i xss)
-
-none-from : {X : Type 0} (P : Entity → Bool) (i : ℕ) (xss : List (List X)) → find P (places_from i xss) ≡ None → (s q : ℕ) → q < size_at xss s → P (entity_at (i + s) q) ≡ false
-none-from P i [] h s q less = absurd (omega arith)
-none-from P i (xs ∷ xss) h zero q less =
-    let e : i + 0 ≡ i = omega arith in
-    rw e (none-places P (entity_at i) (length xs) (none-append P (map (entity_at i) (places (length xs))) (places_from (i + 1) xss) h).0 q less)
-none-from P i (xs ∷ xss) h (suc s) q less =
-    let e : i + suc s ≡ (i + 1) + s = omega arith in
-    rw e (none-from P (i + 1) xss (none-append P (map (entity_at i) (places (length xs))) (places_from (i + 1) xss) h).1 s q less)
-
-none-all : {X : Type 0} (P : Entity → Bool) (xss : List (List X)) → find P (all_places xss) ≡ None → (s q : ℕ) → q < size_at xss s → P (entity_at s q) ≡ false
-none-all P xss h s q less = let e : 0 + s ≡ s = omega arith in rw e at (none-from P 0 xss h s q less)
 
 -- ---- a list by its places
 
@@ -113,7 +82,7 @@ rows-at m d s es at entities =
     let rows = items_of_sets m d in
     let row = items_of_set m d es in
     let here : slice_get rows s ≡ Some row = slice_get-map (items_of_set m d) m.sets s ∙ ap (option_map (items_of_set m d)) at in
-    let each : (q : ℕ) → q < length row → is_none (unwrap_or (slice_get row q) None) ≡ false = λ q less. sym (ap (λ o. is_none (unwrap_or (option_and_then (λ r. slice_get r q) o) None)) here) ∙ none-all (is_no_entity rows) rows entities s q (rw here less) in
+    let each : (q : ℕ) → q < length row → is_none (unwrap_or (slice_get row q) None) ≡ false = λ q less. sym (ap (λ o. is_none (unwrap_or (option_and_then (λ r. slice_get r q) o) None)) here) ∙ none-in_all_places (is_no_entity rows) rows entities s q (rw here less) in
     let read : entities_of (world m d) s ≡ map (λ o. unwrap_or o []) row = ap (λ o. unwrap_or o []) (slice_get-map (map (λ o. unwrap_or o [])) rows s ∙ ap (option_map (map (λ o. unwrap_or o []))) here) in
     let items : items_in_set m d s ≡ array_in d es = ap (λ o. unwrap_or (option_map (array_in d) o) []) at in
     let type : set_type m s ≡ es.of = ap (λ o. unwrap_or (option_map (λ e. e.of) o) 0) at in
@@ -159,19 +128,16 @@ module _ (m : Model) (d : Data) (sound : IsSound m) (entities : AreEntities m d)
       let row = row-at (entity_of (properties_of m t)) (items_in_set m d s) (entities_of (world m d) s) k x [] (rows-are m d s there entities) at in
       ap (λ t. option_and_then (property_value x) (slice_get (properties_of m t) p.at)) of ∙ property-in (properties_of m t) x _ p.at row (subst (λ t. p.at < length (properties_of m t)) of has.1)
 
-  key-place : (s : ℕ) → IsSet m s → (key_of m (set_type m s)).at ≡ key_at m s
-  key-place s there = ap (λ o. unwrap_or (option_map (λ e. e.key) o) 0) (type_same m s there)
-
   key-is : (s k : ℕ) (x : Data) → IsSet m s → slice_get (items_in_set m d s) k ≡ Some x → key_in m s x ≡ Some (key (world m d) (entity_at s k))
   key-is s k x there at =
       let t = set_type m s in
-      property-is s k x (key_of m t) there at refl (sound.keys t (sound.set_types s there)) ∙ ap (λ q. Some (property (world m d) (entity_at s k) q)) (key-place s there)
+      property-is s k x (key_of m t) there at refl (sound.keys t (sound.set_types s there)) ∙ ap (λ q. Some (property (world m d) (entity_at s k) q)) (key_place m s there)
 
   keys-are : (s : ℕ) → IsSet m s → map (key_in m s) (items_in_set m d s) ≡ map Some (keys_of (world m d) s)
   keys-are s there =
       let t = set_type m s in
       let has = sound.keys t (sound.set_types s there) in
-      column (properties_of m t) (key_of m t).at has.1 (items_in_set m d s) (entities_of (world m d) s) (rows-are m d s there entities) ∙ ap (λ q. map Some (map (λ vs. value_in vs q) (entities_of (world m d) s))) (key-place s there)
+      column (properties_of m t) (key_of m t).at has.1 (items_in_set m d s) (entities_of (world m d) s) (rows-are m d s there entities) ∙ ap (λ q. map Some (map (λ vs. value_in vs q) (entities_of (world m d) s))) (key_place m s there)
 
   has_key-here : (s : ℕ) (v : Value) → IsSet m s → has_key m d s (Some v) ≡ list_any (same_value v) (keys_of (world m d) s)
   has_key-here s v there = sym (list_any-map (key_in m s) (same_key (Some v)) (items_in_set m d s)) ∙ ap (list_any (same_key (Some v))) (keys-are s there) ∙ list_any-map Some (same_key (Some v)) (keys_of (world m d) s)

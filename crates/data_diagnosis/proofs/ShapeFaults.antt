@@ -9,6 +9,7 @@ use Rattle.serde_json.specs.Data.{Data, Members}
 use Rattle.serde_json.specs.Find.{as_object}
 use Rattle.edm_values.specs.Lists.{all_some, same_text}
 use Rattle.edm_values.proofs.SameTexts.{text-self}
+use Rattle.edm_values.proofs.OptionFacts.{is_some-option_map}
 use Rattle.edm_model.specs.Models.{Model}
 use Rattle.edm_model.specs.LookUps.{properties_of}
 use Rattle.edm_model.specs.JsonTrees.{Member, is_object, member_list, members_in}
@@ -24,10 +25,6 @@ valueless-is f (Some q) v h = let same : f q ≡ v = cc in rw same refl
 pub none-mapped : {A B : Type 0} (f : A → B) (o : Option A) → is_none o ≡ true → option_map f o ≡ None
 none-mapped f None h = refl
 none-mapped f (Some x) h = cc
-
-pub unmapped : {A B : Type 0} (f : A → B) (o : Option A) → option_map f o ≡ None → o ≡ None
-unmapped f None h = refl
-unmapped f (Some x) h = cc
 
 pub is_none-option_map : {A B : Type 0} (f : A → B) (o : Option A) → is_none (option_map f o) ≡ is_none o
 is_none-option_map f None = refl
@@ -51,10 +48,6 @@ values-more f ps i here before = rw add-one (front f ps i here before) where
 pub values-all : {P V : Type 0} (f : P → Option V) (ps : List P) → is_some (all_some (map f ps)) ≡ list_all (λ q. is_some (f q)) ps
 values-all f [] = refl
 values-all f (p ∷ ps) = front (f p) (map f ps) ∙ ap (λ b. is_some (f p) && b) (values-all f ps) where
-  is_some-option_map : {A B : Type 0} (f : A → B) (o : Option A) → is_some (option_map f o) ≡ is_some o
-  is_some-option_map f None = refl
-  is_some-option_map f (Some x) = refl
-
   front : {V : Type 0} (o : Option V) (os : List (Option V)) → is_some (all_some (o ∷ os)) ≡ (is_some o && is_some (all_some os))
   front None os = refl
   front (Some v) os = is_some-option_map (λ ys. v ∷ ys) (all_some os)

@@ -1,7 +1,7 @@
 -- An item has a fault of shape exactly where it is no entity.
 use Rattle.std.proofs.Common.{◌≡◌, ℕ, zero, suc, Bool, true, false, List, [], ◌∷◌, map, refl, sym, ◌∙◌, ap, subst, Some, None, eqb-true, eq-eqb}
 use Rattle.std.specs.Prelude.{◌&&◌, ◌||◌, ◌==◌, if◌then◌else◌, not, find}
-use Rattle.std.proofs.lemmas.Bool.{and_parts, and_right}
+use Rattle.std.proofs.lemmas.Bool.{and_parts, and_right, not-true}
 use Rattle.std.specs.declared.option.Option.{Option}
 use Rattle.std.specs.Option.{option_map, unwrap_or, is_none}
 use Rattle.std.specs.List.{list_any, list_all, slice_get}
@@ -50,10 +50,7 @@ property-refuses m t d p test h =
 
 -- what has a fault of shape is no entity
 fault-refuses : (m : Model) (t : ℕ) (d : Data) (f : ShapeFault) → is_shape_fault m t d f ≡ true → entity_of (properties_of m t) d ≡ None
-fault-refuses m t d ShapeFault.Object h = let not-one : is_object d ≡ false = no (is_object d) h in rw not-one refl where
-  no : (b : Bool) → not b ≡ true → b ≡ false
-  no true h = cc
-  no false h = refl
+fault-refuses m t d ShapeFault.Object h = let not-one : is_object d ≡ false = not-true (is_object d) h in rw not-one refl
 fault-refuses m t d (ShapeFault.Member name) h =
     let unknown = named-unknown (is_known_member (properties_of m t)) (λ e. same_text e.0 name.now) (members_in d) (and_parts _ _ h).1 in
     rw (unknown, and_right (is_object d) false refl) refl

@@ -1,5 +1,5 @@
 -- Lists of which only the elements that are something are kept.
-use Rattle.std.proofs.Common.{◌≡◌, ℕ, zero, suc, ◌+◌, ◌<◌, ◌≤◌, Bool, true, false, List, [], ◌∷◌, ◌++◌, length, get_or, map, nat_eq, refl, sym, ◌∙◌, ap, arith, ⊎_elim, Some, None, Ok, Err, add-one, length-append}
+use Rattle.std.proofs.Common.{◌≡◌, ℕ, ◌+◌, ◌<◌, ◌≤◌, Bool, true, false, List, [], ◌∷◌, ◌++◌, length, get_or, map, nat_eq, refl, sym, ◌∙◌, ap, arith, ⊎_elim, Some, None, Ok, Err, add-one, length-append}
 use Rattle.std.specs.declared.option.Option.{Option}
 use Rattle.std.specs.Prelude.{Result, MatchResult}
 use Rattle.std.specs.Ordering.{nat_cmp}
@@ -12,15 +12,19 @@ use Rattle.std.proofs.lemmas.List.Quantifiers.{position-Some}
 use Rattle.std.proofs.lemmas.List.{map-append, get_or_append_left, length-map}
 use Rattle.std.proofs.Math.Seq.{get_or-append_seam}
 use Rattle.std.proofs.lemmas.Option.{slice_get_read, get_or_from_slice_get, slice_get-map, slice_get-get_or, slice_get_past}
-use Rattle.std.proofs.lemmas.Bool.{cases_lt, lt-ltb, le-ltb}
+use Rattle.std.proofs.lemmas.Bool.{cases_lt, lt-ltb}
 use Rattle.std.proofs.lemmas.Bool.Decides.{nat_tests}
 use Rattle.edm_values.specs.Lists.{places}
 use Rattle.edm_values.specs.Values.{value_in}
 use Rattle.edm_values.specs.declared.Value.{Value}
-use Rattle.edm_data.proofs.KeyOrderLemmas.{position-push, first_some-None}
+use Rattle.edm_data.proofs.KeyOrderLemmas.{position-push}
 use Rattle.edm_data.specs.Columns.{AreBelow, AreRising, kept_at, kept, value_or_null, column_values}
 use Rattle.edm_values.proofs.TopPlaces.{length-places}
-use Rattle.edm_data.proofs.PlaceLemmas.{get_or-places, slice_get-push_before, slice_get-push_at}
+use Rattle.edm_values.proofs.OptionFacts.{first_some-None}
+use Rattle.edm_values.proofs.ListFacts.{slice_get-last}
+use Rattle.edm_values.proofs.SearchFacts.{position-absent}
+use Rattle.edm_values.proofs.PlaceFacts.{map-agree_places}
+use Rattle.edm_data.proofs.PlaceLemmas.{get_or-places, slice_get-push_before}
 
 -- ---- the first place at which a test passes
 
@@ -28,11 +32,6 @@ pub position-here : {X : Type 0} (p : X → Bool) (xs : List X) (i : ℕ) (d : X
 position-here p xs i d within before here =
     let at : position_or_len p xs ≡ i = position_or_len_is p xs i d (omega arith) before (λ _. here) in
     rw (at, lt-ltb i (length xs) within) refl
-
-pub position-absent : {X : Type 0} (p : X → Bool) (xs : List X) (d : X) → ((k : ℕ) → k < length xs → p (get_or xs k d) ≡ false) → position p xs ≡ None
-position-absent p xs d none =
-    let at : position_or_len p xs ≡ length xs = position_or_len_is p xs (length xs) d (omega arith) none (λ less. absurd (omega arith)) in
-    rw (at, le-ltb (length xs) (length xs) (omega arith)) refl
 
 other : (a b : ℕ) → b < a → nat_eq a b ≡ false
 other a b h = grind (arith, nat_tests)
@@ -75,7 +74,7 @@ module _ {X : Type 0} (at : List ℕ) (xs : List X) (n : ℕ) (x : X) (below : A
   at_new : kept_at (at ++ n ∷ []) (xs ++ x ∷ []) n ≡ Some x
   at_new =
       let found : position (nat_eq n) (at ++ n ∷ []) ≡ Some (length at) = position-push (nat_eq n) at n ∙ rw (absent at n n below (omega arith), same n n refl) refl in
-      ap (option_and_then (slice_get (xs ++ x ∷ []))) found ∙ ap (slice_get (xs ++ x ∷ [])) size ∙ slice_get-push_at xs x
+      ap (option_and_then (slice_get (xs ++ x ∷ []))) found ∙ ap (slice_get (xs ++ x ∷ [])) size ∙ slice_get-last xs x
 
   inside : (k : ℕ) (o : Option ℕ) → position (nat_eq k) at ≡ o → option_and_then (slice_get (xs ++ x ∷ [])) o ≡ option_and_then (slice_get xs) o
   inside k None is = refl
@@ -86,16 +85,12 @@ module _ {X : Type 0} (at : List ℕ) (xs : List X) (n : ℕ) (x : X) (below : A
       let found : position (nat_eq k) (at ++ n ∷ []) ≡ position (nat_eq k) at = position-push (nat_eq k) at n ∙ rw (above k n less) (first_some-None (position (nat_eq k) at)) in
       ap (option_and_then (slice_get (xs ++ x ∷ []))) found ∙ inside k (position (nat_eq k) at) refl
 
-pub map_places : {X : Type 0} (f g : ℕ → X) (n : ℕ) → ((k : ℕ) → k < n → f k ≡ g k) → map f (places n) ≡ map g (places n)
-map_places f g zero e = refl
-map_places f g (suc n) e = map-append f (places n) (n ∷ []) ∙ rw (map_places f g n (λ k h. e k (omega (arith, h))), e n (omega arith)) refl ∙ sym (map-append g (places n) (n ∷ []))
-
 pub map_places_more : {X : Type 0} (f : ℕ → X) (n : ℕ) → map f (places (n + 1)) ≡ map f (places n) ++ f n ∷ []
 map_places_more f n = rw add-one (map-append f (places n) (n ∷ []))
 
 -- what is kept of one element more, which is something
 pub kept-more : {X : Type 0} (at : List ℕ) (xs : List X) (n : ℕ) (x : X) → AreBelow n at → length at ≡ length xs → kept (at ++ n ∷ []) (xs ++ x ∷ []) (n + 1) ≡ kept at xs n ++ Some x ∷ []
-kept-more at xs n x below size = map_places_more (kept_at (at ++ n ∷ []) (xs ++ x ∷ [])) n ∙ rw (map_places (kept_at (at ++ n ∷ []) (xs ++ x ∷ [])) (kept_at at xs) n (at_old at xs n x below size), at_new at xs n x below size) refl
+kept-more at xs n x below size = map_places_more (kept_at (at ++ n ∷ []) (xs ++ x ∷ [])) n ∙ rw (map-agree_places (kept_at (at ++ n ∷ []) (xs ++ x ∷ [])) (kept_at at xs) n (at_old at xs n x below size), at_new at xs n x below size) refl
 
 -- and of one which is nothing
 pub kept-none : {X : Type 0} (at : List ℕ) (xs : List X) (n : ℕ) → AreBelow n at → kept at xs (n + 1) ≡ kept at xs n ++ None ∷ []

@@ -11,8 +11,9 @@ use Rattle.edm_model.specs.Models.{Property, Model, Part}
 use Rattle.edm_model.specs.LookUps.{property_at, property_named, found_part, properties_of, type_at, parts, IsType, IsProperty}
 use Rattle.edm_model.specs.Soundness.{IsSound, is_declared_kind}
 use Rattle.edm_model.proofs.FoundByName.{found_place}
-use Rattle.edm_data.proofs.KeyOrderLemmas.{is_some-position}
 use Rattle.edm_data.proofs.ReferenceLemmas.{part_is, part_number}
+use Rattle.edm_values.proofs.OptionFacts.{is_some-option_map}
+use Rattle.edm_values.proofs.SearchFacts.{is_some-position}
 
 -- a property of a sound model has a declared type
 pub kind_declared : (m : Model) (p : Part) (k : EdmType) → IsSound m → option_map (λ q. q.kind) (property_at m p) ≡ Some k → IsTrue (is_declared_kind k)
@@ -20,10 +21,6 @@ kind_declared m p k sound is = inside (property_at m p) refl is where
   inside : (o : Option Property) → property_at m p ≡ o → option_map (λ q. q.kind) o ≡ Some k → IsTrue (is_declared_kind k)
   inside None at h = cc
   inside (Some q) at h = let same : q.kind ≡ k = cc in rw same at (sound.kinds p q at)
-
-is_some-option_map : {A B : Type 0} (f : A → B) (o : Option A) → is_some (option_map f o) ≡ is_some o
-is_some-option_map f None = refl
-is_some-option_map f (Some x) = refl
 
 -- there is a property of this name
 pub prop_is_named : (m : Model) (t : ℕ) (n : List ℕ) → is_some (found_part t (property_named m t n)) ≡ list_any (λ p. same_text p.name n) (properties_of m t)

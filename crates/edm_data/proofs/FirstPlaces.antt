@@ -1,10 +1,11 @@
 -- The first place, set by set, at which a test passes.
-use Rattle.std.proofs.Common.{◌≡◌, ℕ, zero, suc, ◌+◌, ◌<◌, Bool, true, false, List, [], ◌∷◌, length, map, refl, sym, ap, arith, Some, None, ⊎_elim}
+use Rattle.std.proofs.Common.{◌≡◌, ℕ, zero, suc, ◌+◌, ◌<◌, Bool, true, false, List, [], ◌∷◌, ◌++◌, length, map, cond, refl, sym, ap, arith, Option, Some, None, ⊎_elim}
 use Rattle.std.specs.Option.{unwrap_or, option_or}
 use Rattle.std.specs.List.{find, slice_get, flat_map, enumerate_from}
 use Rattle.std.proofs.lemmas.List.{map-append}
 use Rattle.std.proofs.lemmas.List.Folds.{find-append}
 use Rattle.std.proofs.lemmas.Bool.{cases_lt}
+use Rattle.std.proofs.lemmas.Option.{none-some}
 use Rattle.edm_values.specs.Lists.{places}
 use Rattle.edm_data.specs.Worlds.{Entity, entity_at, all_places}
 
@@ -61,3 +62,31 @@ pub find-all_places_first : {X : Type 0} (P : Entity → Bool) (xss : List (List
 find-all_places_first P xss s k h here sets before =
     let e : (j : ℕ) → 0 + j ≡ j = λ j. omega arith in
     rw (e s) at (find-places_from_first P 0 xss s k h (rw (e s) here) (λ j q less below. rw (e j) (sets j q less below)) (λ q below. rw (e s) (before q below)))
+
+-- ---- where no place is found
+
+none-in_append : {X : Type 0} (P : X → Bool) (xs ys : List X) → find P (xs ++ ys) ≡ None → (find P xs ≡ None) × (find P ys ≡ None)
+none-in_append P [] ys h = (refl, h)
+none-in_append P (x ∷ xs) ys h = (elim (P x) as (λ b. cond b (Some x) (find P (xs ++ ys)) ≡ None → (cond b (Some x) (find P xs) ≡ None) × (find P ys ≡ None)) [ true ↦ λ e. absurd (none-some x (sym e)) | false ↦ λ e. none-in_append P xs ys e ]) h
+
+none-in_one : {X : Type 0} (P : X → Bool) (x : X) → find P (x ∷ []) ≡ None → P x ≡ false
+none-in_one P x h = (elim (P x) as (λ b. ◌≡◌ {A = Option _} (cond b (Some x) None) None → b ≡ false) [ true ↦ λ e. absurd (none-some x (sym e)) | false ↦ λ e. refl ]) h
+
+none-in_places : {X : Type 0} (P : X → Bool) (e : ℕ → X) (n : ℕ) → find P (map e (places n)) ≡ None → (q : ℕ) → q < n → P (e q) ≡ false
+none-in_places P e zero h q less = absurd (omega arith)
+none-in_places P e (suc n) h q less =
+    let parts = none-in_append P (map e (places n)) (e n ∷ []) (rw (map-append e (places n) (n ∷ [])) at h) in
+    ⊎_elim (λ before. none-in_places P e n parts.0 q before) (λ after. let same : q ≡ n = omega arith in rw same (none-in_one P (e n) parts.1)) (cases_lt q n)
+
+none-in_places_from : {X : Type 0} (P : Entity → Bool) (i : ℕ) (xss : List (List X)) → find P (places_from i xss) ≡ None → (s q : ℕ) → q < size_at xss s → P (entity_at (i + s) q) ≡ false
+none-in_places_from P i [] h s q less = absurd (omega arith)
+none-in_places_from P i (xs ∷ xss) h zero q less =
+    let e : i + 0 ≡ i = omega arith in
+    rw e (none-in_places P (entity_at i) (length xs) (none-in_append P (map (entity_at i) (places (length xs))) (places_from (i + 1) xss) h).0 q less)
+none-in_places_from P i (xs ∷ xss) h (suc s) q less =
+    let e : i + suc s ≡ (i + 1) + s = omega arith in
+    rw e (none-in_places_from P (i + 1) xss (none-in_append P (map (entity_at i) (places (length xs))) (places_from (i + 1) xss) h).1 s q less)
+
+-- none of the places passes where a search finds none
+pub none-in_all_places : {X : Type 0} (P : Entity → Bool) (xss : List (List X)) → find P (all_places xss) ≡ None → (s q : ℕ) → q < size_at xss s → P (entity_at s q) ≡ false
+none-in_all_places P xss h s q less = let e : 0 + s ≡ s = omega arith in rw e at (none-in_places_from P 0 xss h s q less)

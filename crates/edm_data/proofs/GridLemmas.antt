@@ -10,8 +10,10 @@ use Rattle.edm_values.specs.Values.{value_in}
 use Rattle.edm_values.specs.declared.Value.{Value}
 use Rattle.edm_data.specs.Columns.{ValueList, grid_of, row_at, AreColumns}
 use Rattle.edm_values.proofs.TopPlaces.{length-places}
-use Rattle.edm_data.proofs.PlaceLemmas.{get_or-places, slice_get-push_before, slice_get-push_at}
-use Rattle.edm_data.proofs.ColumnLemmas.{map_places, map_places_more}
+use Rattle.edm_values.proofs.ListFacts.{slice_get-last}
+use Rattle.edm_values.proofs.PlaceFacts.{map-agree_places}
+use Rattle.edm_data.proofs.PlaceLemmas.{get_or-places, slice_get-push_before}
+use Rattle.edm_data.proofs.ColumnLemmas.{map_places_more}
 
 pub grid_count : (cs : List ValueList) (n : ℕ) → length ((grid_of cs n).rows) ≡ n
 grid_count cs n = length-map (places n) (row_at cs) ∙ length-places n
@@ -103,11 +105,11 @@ new_row n (suc k) [] (v ∷ vs) past size all = absurd (omega arith)
 new_row n zero (c ∷ cs) vs past size all = absurd (omega arith)
 new_row n (suc k) (c ∷ cs) [] past size all = absurd (omega arith)
 new_row n (suc k) (c ∷ cs) (v ∷ vs) past size all =
-    let first : value_in (c ++ v ∷ []) n ≡ v = rw (← all.0) (ap (λ o. unwrap_or o Value.Null) (slice_get-push_at c v)) in
+    let first : value_in (c ++ v ∷ []) n ≡ v = rw (← all.0) (ap (λ o. unwrap_or o Value.Null) (slice_get-last c v)) in
     rw (first, new_row n k cs vs (omega arith) (omega arith) all.1) refl
 
 pub grown-rows : (n k : ℕ) (cs : List ValueList) (vs : List Value) → length cs ≤ k → length vs ≡ length cs → AreColumns cs n → (grid_of (grown k cs vs) (n + 1)).rows ≡ (grid_of cs n).rows ++ vs ∷ []
-grown-rows n k cs vs past size all = map_places_more (row_at (grown k cs vs)) n ∙ rw (map_places (row_at (grown k cs vs)) (row_at cs) n (λ j less. old_row n k j cs vs less all), new_row n k cs vs past size all) refl
+grown-rows n k cs vs past size all = map_places_more (row_at (grown k cs vs)) n ∙ rw (map-agree_places (row_at (grown k cs vs)) (row_at cs) n (λ j less. old_row n k j cs vs less all), new_row n k cs vs past size all) refl
 
 -- the length of a column
 pub column_length : (n p : ℕ) (cs : List ValueList) (c : ValueList) → AreColumns cs n → p < length cs → c ≡ get_or cs p c → length c ≡ n

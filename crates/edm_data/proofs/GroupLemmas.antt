@@ -6,6 +6,7 @@ use Rattle.std.specs.Prelude.{◌==◌, ◌&&◌, if◌then◌else◌}
 use Rattle.std.specs.List.{slice_get}
 use Rattle.std.proofs.lemmas.Bool.{cases_lt}
 use Rattle.std.proofs.lemmas.Option.{slice_get_past}
+use Rattle.std.proofs.lemmas.List.Elements.{filter_agree}
 use Rattle.edm_values.specs.Lists.{places, is_some_and}
 use Rattle.edm_model.specs.Models.{Navigation, Part}
 use Rattle.edm_model.specs.LookUps.{navigation_at, navigation_on, partner_of, set_of_type, set_type, IsSet}
@@ -14,18 +15,15 @@ use Rattle.edm_data.specs.References.{count, follow, refers_to, related_by}
 use Rattle.edm_data.specs.LinkLists.{LinkList, link_in, linking_before, linking_to}
 use Rattle.edm_data.specs.Links.{IsGroup, is_link_to, linking, KeptRelation, NavRelations, HasReferences, followed, kept_relation}
 use Rattle.edm_data.proofs.RelationLemmas.{follow_is}
-use Rattle.edm_data.proofs.PlaceLemmas.{slice_get-push_before, slice_get-push_at}
+use Rattle.edm_data.proofs.PlaceLemmas.{slice_get-push_before}
 use Rattle.edm_data.proofs.ReferenceLemmas.{nav_same}
+use Rattle.edm_values.proofs.ListFacts.{slice_get-last}
 
 -- ---- filters
 
 filter-map : {X Y : Type 0} (f : X → Y) (p : Y → Bool) (xs : List X) → filter p (map f xs) ≡ map f (filter (λ x. p (f x)) xs)
 filter-map f p [] = refl
 filter-map f p (x ∷ xs) = elim (p (f x)) as (λ b. cond b (f x ∷ filter p (map f xs)) (filter p (map f xs)) ≡ map f (cond b (x ∷ filter (λ y. p (f y)) xs) (filter (λ y. p (f y)) xs))) [ true ↦ ap (λ l. f x ∷ l) (filter-map f p xs) | false ↦ filter-map f p xs ]
-
-filter-same : {X : Type 0} (p q : X → Bool) → ((x : X) → p x ≡ q x) → (xs : List X) → filter p xs ≡ filter q xs
-filter-same p q e [] = refl
-filter-same p q e (x ∷ xs) = rw (e x, filter-same p q e xs) refl
 
 filter-none : {X : Type 0} (p : X → Bool) → ((x : X) → p x ≡ false) → (xs : List X) → filter p xs ≡ []
 filter-none p e [] = refl
@@ -45,7 +43,7 @@ many_related w e t p (Some v) many target partner =
     rw (m, to, at) (sym (filter-map (entity_at (set_of_type w.model v.target)) (λ x. refers_to w v.partner x e) (places (count w (set_of_type w.model v.target)))))
 
 pub linking-same : (a b : ℕ → Option Entity) (e : Entity) (m : ℕ) → ((k : ℕ) → a k ≡ b k) → linking a e m ≡ linking b e m
-linking-same a b e m same = filter-same (λ k. is_link_to e (a k)) (λ k. is_link_to e (b k)) (λ k. ap (is_link_to e) (same k)) (places m)
+linking-same a b e m same = filter_agree (λ k. is_link_to e (a k)) (λ k. is_link_to e (b k)) (λ k. ap (is_link_to e) (same k)) (places m)
 
 -- ---- the places of a relation
 
@@ -55,7 +53,7 @@ link_is e t (Some x) = refl
 
 linking_by : (e : Entity) (t : ℕ) (links : LinkList) (n : ℕ) → linking (λ k. option_map (entity_at t) (link_in links k)) e n ≡ (if e.set == t then linking_before e.at links n else [])
 linking_by e t links n =
-    filter-same (λ k. is_link_to e (option_map (entity_at t) (link_in links k))) (λ k. e.set == t && is_some_and (nat_eq e.at) (link_in links k)) (λ k. link_is e t (link_in links k)) (places n)
+    filter_agree (λ k. is_link_to e (option_map (entity_at t) (link_in links k))) (λ k. e.set == t && is_some_and (nat_eq e.at) (link_in links k)) (λ k. link_is e t (link_in links k)) (places n)
     ∙ (elim (e.set == t) as (λ b. filter (λ k. b && is_some_and (nat_eq e.at) (link_in links k)) (places n) ≡ (if b then linking_before e.at links n else [])) [ true ↦ refl | false ↦ filter-none (λ k. false) (λ k. refl) (places n) ])
 
 -- the places of the entities that refer to one by a relation
@@ -86,7 +84,7 @@ IsGroup-relation w s t from k n p sets there of many target partner set has =
 pub each-more : {X : Type 0} (P : ℕ → Option X → Type 0) (old new : List X) (x : X) (i : ℕ) → new ≡ old ++ x ∷ [] → length old ≡ i → P i (Some x) → ((n : ℕ) → n < i → P n (slice_get old n)) → (n : ℕ) → n < i + 1 → P n (slice_get new n)
 each-more P old new x i grown size here before n h = ⊎_elim
     (λ less. subst (P n) (sym (ap (λ l. slice_get l n) grown ∙ slice_get-push_before old x n (omega (arith, less)))) (before n less))
-    (λ more. let same : n ≡ length old = omega (arith, more) in subst (P n) (sym (ap (λ l. slice_get l n) grown ∙ ap (slice_get (old ++ x ∷ [])) same ∙ slice_get-push_at old x)) (subst (λ j. P j (Some x)) (sym (same ∙ size)) here))
+    (λ more. let same : n ≡ length old = omega (arith, more) in subst (P n) (sym (ap (λ l. slice_get l n) grown ∙ ap (slice_get (old ++ x ∷ [])) same ∙ slice_get-last old x)) (subst (λ j. P j (Some x)) (sym (same ∙ size)) here))
     (cases_lt n i)
 
 -- what holds of each element and past the end holds everywhere

@@ -1,10 +1,9 @@
 -- Keys that are put into a map one after another, with their places.
-use Rattle.std.proofs.Common.{◌≡◌, ℕ, suc, ◌+◌, ◌<◌, Bool, true, false, cond, ◌||◌, List, [], ◌∷◌, ◌++◌, length, take, map, get_or, ◌≤◌, length-take, ⊎_elim, ◌≤◌, length-take, ⊎_elim, refl, sym, ◌∙◌, ap, arith, Some, None, below_more}
-use Rattle.std.specs.declared.option.Option.{Option}
+use Rattle.std.proofs.Common.{◌≡◌, ℕ, suc, ◌+◌, ◌<◌, Bool, true, false, cond, List, [], ◌∷◌, ◌++◌, length, take, map, get_or, ◌≤◌, length-take, ⊎_elim, refl, sym, ◌∙◌, ap, arith, Some, None, below_more}
 use Rattle.std.specs.Option.{is_some}
 use Rattle.std.specs.declared.cmp.Ordering.{Ordering}
 use Rattle.std.specs.declared.cmp.Ordering.TheVariants.{Less, Equal, Greater}
-use Rattle.std.specs.List.{list_any, position, position_from, slice_get, AllByRecursion}
+use Rattle.std.specs.List.{position, position_from, slice_get, AllByRecursion}
 use Rattle.std.specs.Map.{lookup, keys_of, values_of}
 use Rattle.std.specs.Cmp.{IsTotalOrder}
 use Rattle.std.specs.Ordering.{is_eq, ordering_reverse, match_ordering}
@@ -13,9 +12,10 @@ use Rattle.std.proofs.lemmas.Iterator.Adapters.{position_from-zero}
 use Rattle.std.proofs.lemmas.List.{take_more, take_all}
 use Rattle.std.proofs.lemmas.Option.{slice_get_read, slice_get_past, get_or_from_slice_get, none-some}
 use Rattle.std.proofs.lemmas.Bool.{cases_lt}
-use Rattle.std.proofs.lemmas.Bool.{cases_lt}
 use Rattle.edm_values.specs.Lists.{first_some}
 use Rattle.edm_data.specs.KeyOrders.{is_twice, IsFirstTwice, AreDistinct, IsKeyOrder, keyed}
+use Rattle.edm_values.proofs.OptionFacts.{first_some-None}
+use Rattle.edm_values.proofs.SearchFacts.{is_some-position}
 
 -- ---- the first place at which a test passes
 
@@ -29,23 +29,12 @@ position-push p xs x =
     let e : 0 + length xs ≡ length xs = omega arith in
     position_from-zero p (xs ++ x ∷ []) ∙ position_from-push p 0 xs x ∙ ap (λ n. first_some (position_from p 0 xs) (cond (p x) (Some n) None)) e ∙ ap (λ o. first_some o (cond (p x) (Some (length xs)) None)) (sym (position_from-zero p xs))
 
-is_some-position_from : {X : Type 0} (p : X → Bool) (i : ℕ) (xs : List X) → is_some (position_from p i xs) ≡ list_any p xs
-is_some-position_from p i [] = refl
-is_some-position_from p i (x ∷ xs) = elim (p x) as (λ b. is_some (cond b (Some i) (position_from p (i + 1) xs)) ≡ (b || list_any p xs)) [ true ↦ refl | false ↦ is_some-position_from p (i + 1) xs ]
-
-pub is_some-position : {X : Type 0} (p : X → Bool) (xs : List X) → is_some (position p xs) ≡ list_any p xs
-is_some-position p xs = ap is_some (position_from-zero p xs) ∙ is_some-position_from p 0 xs
-
 position_from-cong : {X : Type 0} (p q : X → Bool) → ((x : X) → p x ≡ q x) → (i : ℕ) (xs : List X) → position_from p i xs ≡ position_from q i xs
 position_from-cong p q same i [] = refl
 position_from-cong p q same i (x ∷ xs) = rw (same x) (ap (cond (q x) (Some i)) (position_from-cong p q same (i + 1) xs))
 
 pub position-cong : {X : Type 0} (p q : X → Bool) → ((x : X) → p x ≡ q x) → (xs : List X) → position p xs ≡ position q xs
 position-cong p q same xs = position_from-zero p xs ∙ position_from-cong p q same 0 xs ∙ sym (position_from-zero q xs)
-
-pub first_some-None : {X : Type 0} (o : Option X) → first_some o None ≡ o
-first_some-None None = refl
-first_some-None (Some x) = refl
 
 -- ---- a key more
 
@@ -123,13 +112,13 @@ keys_are : {K : Type 0} (d : K) (keys : List K) (es : List (K × ℕ)) → AllBy
 keys_are d keys [] all = refl
 keys_are d keys (e ∷ es) all = ap (λ x. x ∷ map (λ p. get_or keys p d) (values_of es)) (get_or_from_slice_get keys e.1 e.0 d all.0) ∙ ap (λ l. e.0 ∷ l) (keys_are d keys es all.1)
 
-past : {K : Type 0} (R : K → K → Ordering) (keys : List K) (k : ℕ) → length keys ≤ k → is_twice R keys k ≡ false
-past R keys k h = rw (slice_get_past keys k h) refl
+pub not_twice-past : {K : Type 0} (R : K → K → Ordering) (keys : List K) (k : ℕ) → length keys ≤ k → is_twice R keys k ≡ false
+not_twice-past R keys k h = rw (slice_get_past keys k h) refl
 
 -- every key is in the map
 module _ {K : Type 0} (R : K → K → Ordering) (keys : List K) (n : ℕ) (m : BTreeMap K ℕ) (whole : IsMapOf R keys n m) (all : length keys ≤ n) where
   pub AreDistinct-from_map : AreDistinct R keys
-  AreDistinct-from_map k = ⊎_elim (λ h. whole.distinct k h) (λ h. past R keys k (omega arith)) (cases_lt k n)
+  AreDistinct-from_map k = ⊎_elim (λ h. whole.distinct k h) (λ h. not_twice-past R keys k (omega arith)) (cases_lt k n)
 
   pub IsKeyOrder-from_map : (order : List ℕ) → order ≡ values m → IsOrdered R m → IsKeyOrder R keys order
   IsKeyOrder-from_map order is ordered = record {

@@ -1,5 +1,5 @@
 -- The order of the keys of every set, and what it says of the world.
-use Rattle.std.proofs.Common.{◌≡◌, ℕ, ◌+◌, ◌<◌, ◌≤◌, false, List, [], ◌∷◌, ◌++◌, length, take, map, refl, sym, ◌∙◌, ap, subst, arith, ⊎_elim, Some, None, Result, Ok, Err, IfOk, Vec}
+use Rattle.std.proofs.Common.{◌≡◌, ℕ, ◌+◌, ◌<◌, ◌≤◌, List, [], ◌∷◌, ◌++◌, length, take, map, refl, sym, ◌∙◌, ap, subst, arith, ⊎_elim, Some, None, Result, Ok, Err, IfOk, Vec}
 use Rattle.std.specs.declared.alloc.Global.{Global}
 use Rattle.std.specs.declared.cmp.Ordering.{Ordering}
 use Rattle.std.specs.Option.{option_map, unwrap_or}
@@ -22,15 +22,14 @@ use Rattle.edm_data.specs.DataFile.{World', TwiceKey, unless_found, has_earlier_
 use Rattle.edm_data.specs.Refusals.{Tells}
 use Rattle.edm_data.specs.declared.DataRefused.{DataRefused}
 use Rattle.edm_data.specs.declared.key_order.KeysRefused.{KeysRefused}
-use Rattle.edm_data.proofs.PlaceLemmas.{slice_get-push_before, slice_get-push_at}
+use Rattle.edm_data.proofs.PlaceLemmas.{slice_get-push_before}
 use Rattle.edm_data.proofs.FirstPlaces.{find-all_places_none, find-all_places_first}
+use Rattle.edm_data.proofs.KeyOrderLemmas.{not_twice-past}
+use Rattle.edm_values.proofs.ListFacts.{slice_get-last}
 
 pub IfOk-then : {T E : Type 0} (r : Result T E) (P Q : T → Type 0) → ((x : T) → P x → Q x) → IfOk r P → IfOk r Q
 IfOk-then (Ok x) P Q f h = f x h
 IfOk-then (Err e) P Q f h = tt
-
-no_key : {K : Type 0} (R : K → K → Ordering) (keys : List K) (k : ℕ) → length keys ≤ k → is_twice R keys k ≡ false
-no_key R keys k h = rw (slice_get_past keys k h) refl
 
 pub key_number : (w : World) (s : ℕ) → length (keys_of w s) ≡ count w s
 key_number w s = length-map (entities_of w s) (λ vs. value_in vs (key_at w.model s))
@@ -55,7 +54,7 @@ keys_distinct w fits n all apart =
 -- the first key that stands earlier
 pub keys_twice : (w : World) → FitsModel w → (s k : ℕ) → ((j : ℕ) → j < s → AreDistinct value_cmp (keys_of w j)) → IsFirstTwice value_cmp (keys_of w s) k → keys_reading w ≡ TwiceKey (entity_at s k)
 keys_twice w fits s k apart first =
-    let within : k < count w s = ⊎_elim (λ less. less) (λ more. absurd (false≢true (sym (no_key value_cmp (keys_of w s) k (rw (key_number w s) more)) ∙ first.here))) (cases_lt k (count w s)) in
+    let within : k < count w s = ⊎_elim (λ less. less) (λ more. absurd (false≢true (sym (not_twice-past value_cmp (keys_of w s) k (rw (key_number w s) more)) ∙ first.here))) (cases_lt k (count w s)) in
     let found : find (has_earlier_key w) (all_places w.entities) ≡ Some (entity_at s k) = find-all_places_first (has_earlier_key w) w.entities s k within (sym (earlier_is w s k within) ∙ first.here) (λ j q less h. sym (earlier_is w j q h) ∙ apart j less q) (λ q h. sym (earlier_is w s q (omega arith)) ∙ first.before q h) in
     ap (λ o. unless_found o TwiceKey (World' w)) found
 
@@ -74,7 +73,7 @@ pub list_at-push : {X : Type 0} (old new : Vec (Vec X Global) Global) (xs : Vec 
 list_at-push old new xs s grown h = ap (λ o. unwrap_or (option_map (λ l. l.items) o) []) (ap (λ l. slice_get l s) grown ∙ slice_get-push_before old.items xs s h)
 
 pub list_at-last : {X : Type 0} (old new : Vec (Vec X Global) Global) (xs : Vec X Global) (s : ℕ) → new.items ≡ old.items ++ xs ∷ [] → s ≡ length old.items → list_at new s ≡ xs.items
-list_at-last old new xs s grown h = ap (λ o. unwrap_or (option_map (λ l. l.items) o) []) (ap (λ l. slice_get l s) grown ∙ ap (slice_get (old.items ++ xs ∷ [])) h ∙ slice_get-push_at old.items xs)
+list_at-last old new xs s grown h = ap (λ o. unwrap_or (option_map (λ l. l.items) o) []) (ap (λ l. slice_get l s) grown ∙ ap (slice_get (old.items ++ xs ∷ [])) h ∙ slice_get-last old.items xs)
 
 -- each set has its order
 pub HasKeyOrders-all : (w : World) → FitsModel w → (orders : Vec (Vec ℕ Global) Global) (n : ℕ) → length w.model.sets ≤ n → length orders.items ≡ n → ((s : ℕ) → s < n → IsKeyOrder value_cmp (keys_of w s) (list_at orders s)) → HasKeyOrders w orders

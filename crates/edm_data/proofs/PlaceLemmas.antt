@@ -1,5 +1,5 @@
 -- Lists by their places.
-use Rattle.std.proofs.Common.{◌≡◌, ℕ, zero, suc, ◌<◌, List, [], ◌∷◌, ◌++◌, length, get_or, refl, sym, ◌∙◌, ap, arith, ⊎_elim, Some}
+use Rattle.std.proofs.Common.{◌≡◌, ℕ, zero, suc, ◌<◌, List, [], ◌∷◌, ◌++◌, length, get_or, refl, sym, ◌∙◌, ap, arith, ⊎_elim}
 use Rattle.std.specs.List.{slice_get}
 use Rattle.std.proofs.lemmas.List.{get_or_append_left}
 use Rattle.std.proofs.lemmas.Bool.{cases_lt}
@@ -18,10 +18,6 @@ pub slice_get-push_before : {X : Type 0} (xs : List X) (y : X) (k : ℕ) → k <
 slice_get-push_before [] y k h = absurd (omega arith)
 slice_get-push_before (x ∷ xs) y zero h = refl
 slice_get-push_before (x ∷ xs) y (suc k) h = slice_get-push_before xs y k (omega arith)
-
-pub slice_get-push_at : {X : Type 0} (xs : List X) (y : X) → slice_get (xs ++ y ∷ []) (length xs) ≡ Some y
-slice_get-push_at [] y = refl
-slice_get-push_at (x ∷ xs) y = slice_get-push_at xs y
 
 -- the element of a list of places
 pub place_is : (sets : List ℕ) (n i x : ℕ) → sets ≡ places n → i < length sets → x ≡ get_or sets i x → x ≡ i

@@ -4,7 +4,7 @@ use Rattle.std.specs.Prelude.{IfNone, if◌then◌else◌, min}
 use Rattle.std.specs.declared.option.Option.{Option}
 use Rattle.std.specs.Option.{option_map, option_and_then, unwrap_or}
 use Rattle.std.specs.List.{slice_get, list_any}
-use Rattle.std.proofs.lemmas.Bool.{cases_lt, or_left, or_right}
+use Rattle.std.proofs.lemmas.Bool.{cases_lt, or_left, or_right, or_from}
 use Rattle.std.proofs.lemmas.List.{take_all, length_push}
 use Rattle.std.proofs.lemmas.Option.{slice_get_past, none-some}
 use Rattle.edm_values.specs.Lists.{is_some_and}
@@ -15,8 +15,9 @@ use Rattle.edm_data.specs.References.{count, entities_of, referred, follow, navi
 use Rattle.edm_data.specs.DataFile.{dangles, is_dangling}
 use Rattle.edm_data.specs.LinkLists.{LinkList, link_in}
 use Rattle.edm_data.specs.Links.{reached, misses, KeptRelation, IsRelation, IsFirstOf, IsLeast, earlier, nav_dangles, NavRelations, relation_in, pair_in, pair_of, AreRelations, IsOfNav, HasRelations, followed}
-use Rattle.edm_data.proofs.PlaceLemmas.{slice_get-push_before, slice_get-push_at}
+use Rattle.edm_data.proofs.PlaceLemmas.{slice_get-push_before}
 use Rattle.edm_data.proofs.ReferenceLemmas.{nav_at, nav_same}
+use Rattle.edm_values.proofs.ListFacts.{slice_get-last}
 
 -- ---- one element more
 
@@ -24,7 +25,7 @@ pub option-before : {X : Type 0} (old new : List (Option X)) (o : Option X) → 
 option-before old new o grown k h = ap (λ x. unwrap_or x None) (ap (λ l. slice_get l k) grown ∙ slice_get-push_before old o k h)
 
 pub option-last : {X : Type 0} (old new : List (Option X)) (o : Option X) → new ≡ old ++ o ∷ [] → unwrap_or (slice_get new (length old)) None ≡ o
-option-last old new o grown = ap (λ x. unwrap_or x None) (ap (λ l. slice_get l (length old)) grown ∙ slice_get-push_at old o)
+option-last old new o grown = ap (λ x. unwrap_or x None) (ap (λ l. slice_get l (length old)) grown ∙ slice_get-last old o)
 
 pub links-more : (f : ℕ → Option Entity) (t i : ℕ) (old new : LinkList) (o : Option ℕ) → new ≡ old ++ o ∷ [] → length old ≡ i → option_map (entity_at t) o ≡ f i → ((k : ℕ) → k < i → option_map (entity_at t) (link_in old k) ≡ f k) → (k : ℕ) → k < i + 1 → option_map (entity_at t) (link_in new k) ≡ f k
 links-more f t i old new o grown size here before k h = ⊎_elim
@@ -107,18 +108,15 @@ least-same p q n o same least = record {
   some = λ k h. let first = least.some k h in record { within = first.within; here = sym (same k) ∙ first.here; before = λ j less. sym (same j) ∙ first.before j less };
 }
 
-or_both : (a b : Bool) → a ≡ false → b ≡ false → (a || b) ≡ false
-or_both a b h k = rw (h, k) refl
-
 pub or_none : (a b : Bool) → b ≡ false → (a || b) ≡ a
 or_none true b h = refl
 or_none false b h = h
 
 first_left : (p q : ℕ → Bool) (n a : ℕ) → IsFirstOf p n a → ((k : ℕ) → k < a → q k ≡ false) → IsFirstOf (λ k. p k || q k) n a
-first_left p q n a first none = record { within = first.within; here = or_left (p a) (q a) first.here; before = λ k less. or_both (p k) (q k) (first.before k less) (none k less) }
+first_left p q n a first none = record { within = first.within; here = or_left (p a) (q a) first.here; before = λ k less. or_from (p k) (q k) (first.before k less) (none k less) }
 
 first_right : (p q : ℕ → Bool) (n b : ℕ) → IsFirstOf q n b → ((k : ℕ) → k < b → p k ≡ false) → IsFirstOf (λ k. p k || q k) n b
-first_right p q n b first none = record { within = first.within; here = or_right (p b) (q b) first.here; before = λ k less. or_both (p k) (q k) (none k less) (first.before k less) }
+first_right p q n b first none = record { within = first.within; here = or_right (p b) (q b) first.here; before = λ k less. or_from (p k) (q k) (none k less) (first.before k less) }
 
 first_of_two : (p q : ℕ → Bool) (n a b : ℕ) → IsFirstOf p n a → IsFirstOf q n b → IsFirstOf (λ k. p k || q k) n (min a b)
 first_of_two p q n a b x y = ⊎_elim
@@ -128,7 +126,7 @@ first_of_two p q n a b x y = ⊎_elim
 
 -- the first place of one test or another
 pub least-or : (p q : ℕ → Bool) (n : ℕ) (a b : Option ℕ) → IsLeast p n a → IsLeast q n b → IsLeast (λ k. p k || q k) n (earlier a b)
-least-or p q n None None x y = least-none (λ k. p k || q k) n (λ k less. or_both (p k) (q k) (x.none refl k less) (y.none refl k less))
+least-or p q n None None x y = least-none (λ k. p k || q k) n (λ k less. or_from (p k) (q k) (x.none refl k less) (y.none refl k less))
 least-or p q n (Some a) None x y = let first = x.some a refl in least-some (λ k. p k || q k) n a (first_left p q n a first (λ k less. y.none refl k (let e = first.within in omega (arith, e))))
 least-or p q n None (Some b) x y = let first = y.some b refl in least-some (λ k. p k || q k) n b (first_right p q n b first (λ k less. x.none refl k (let e = first.within in omega (arith, e))))
 least-or p q n (Some a) (Some b) x y = least-some (λ k. p k || q k) n (min a b) (first_of_two p q n a b (x.some a refl) (y.some b refl))

@@ -35,7 +35,7 @@ is_array-is (string t) = refl
 is_array-is (array ds) = refl
 is_array-is (object ms) = refl
 
-item_list-of : (ds : List Data) → item_list (items_of ds) ≡ ds
+pub item_list-of : (ds : List Data) → item_list (items_of ds) ≡ ds
 item_list-of [] = refl
 item_list-of (d ∷ ds) = ap (λ l. d ∷ l) (item_list-of ds)
 

@@ -8,8 +8,9 @@ use Rattle.std.proofs.lemmas.List.{map-append}
 use Rattle.std.proofs.lemmas.Option.{slice_get-map, slice_get_read}
 use Rattle.edm_data.specs.Links.{KeptRelation, relation_in}
 use Rattle.edm_data.specs.SharedRelations.{relations_of, AreWithin}
-use Rattle.edm_data.proofs.PlaceLemmas.{slice_get-push_before, slice_get-push_at}
+use Rattle.edm_data.proofs.PlaceLemmas.{slice_get-push_before}
 use Rattle.edm_data.proofs.TextLemmas.{all_push}
+use Rattle.edm_values.proofs.ListFacts.{slice_get-last}
 
 within_grown : (kept : List KeptRelation) (r : KeptRelation) (o : Option ℕ) → IfSome o (λ k. k < length kept) → IfSome o (λ k. k < length (kept ++ r ∷ []))
 within_grown kept r None h = tt
@@ -33,7 +34,7 @@ relations_grown kept r (o ∷ navs) all = rw (same_relation kept r o all.0, rela
 
 pub relations_of-push : (kept : List KeptRelation) (r : KeptRelation) (navs : List (Option ℕ)) (k : ℕ) → k ≡ length kept → AreWithin kept navs → relations_of (kept ++ r ∷ []) (navs ++ Some k ∷ []) ≡ relations_of kept navs ++ Some r ∷ []
 relations_of-push kept r navs k is all =
-    let here : slice_get (kept ++ r ∷ []) k ≡ Some r = ap (slice_get (kept ++ r ∷ [])) is ∙ slice_get-push_at kept r in
+    let here : slice_get (kept ++ r ∷ []) k ≡ Some r = ap (slice_get (kept ++ r ∷ [])) is ∙ slice_get-last kept r in
     map-append (option_and_then (slice_get (kept ++ r ∷ []))) navs (Some k ∷ []) ∙ rw (relations_grown kept r navs all, here) refl
 
 -- a navigation by the relation of another

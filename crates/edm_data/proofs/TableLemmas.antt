@@ -1,5 +1,5 @@
 -- Entities that are kept in vectors, and the lists of their world.
-use Rattle.std.proofs.Common.{◌≡◌, ℕ, zero, suc, ◌<◌, Bool, true, false, ◌&&◌, List, [], ◌∷◌, map, length, get_or, refl, ap, sym, ◌∙◌, arith, Some, None}
+use Rattle.std.proofs.Common.{◌≡◌, ℕ, zero, suc, ◌<◌, true, List, [], ◌∷◌, map, length, get_or, refl, ap, sym, ◌∙◌, arith, Some, None}
 use Rattle.std.specs.declared.option.Option.{Option}
 use Rattle.std.specs.Option.{option_map, option_and_then, unwrap_or}
 use Rattle.std.specs.List.{slice_get}
@@ -10,16 +10,13 @@ use Rattle.edm_model.specs.Models.{Property, EntitySet, Model}
 use Rattle.edm_model.specs.LookUps.{set_type, key_of, key_at, type_at, IsSet}
 use Rattle.edm_data.specs.Fitting.{are_values_of, is_value_of}
 use Rattle.std.proofs.lemmas.Bool.{false≢true}
-
-and_second : (a b : Bool) → (a && b) ≡ true → b ≡ true
-and_second true b h = h
-and_second false b h = absurd (false≢true h)
+use Rattle.edm_values.proofs.EachLemmas.{and-right}
 
 pub length-are_values_of : (ps : List Property) (vs : List Value) → are_values_of ps vs ≡ true → length vs ≡ length ps
 length-are_values_of [] [] h = refl
 length-are_values_of [] (v ∷ vs) h = absurd (false≢true h)
 length-are_values_of (p ∷ ps) [] h = absurd (false≢true h)
-length-are_values_of (p ∷ ps) (v ∷ vs) h = ap suc (length-are_values_of ps vs (and_second (is_value_of p v) (are_values_of ps vs) h))
+length-are_values_of (p ∷ ps) (v ∷ vs) h = ap suc (length-are_values_of ps vs (and-right (is_value_of p v) (are_values_of ps vs) h))
 
 -- the place of the key, by the set and by its type
 pub key_place : (m : Model) (s : ℕ) → IsSet m s → (key_of m (set_type m s)).at ≡ key_at m s

@@ -28,6 +28,7 @@ use Rattle.edm_data.specs.declared.DataRefused.{DataRefused}
 use Rattle.edm_data.specs.declared.entities.RowsRefused.{RowsRefused}
 use Rattle.edm_data.proofs.FirstPlaces.{size_at, find-all_places_none, find-all_places_first}
 use Rattle.edm_data.proofs.EntityLemmas.{row_read}
+use Rattle.edm_values.proofs.OptionFacts.{some_value}
 
 -- a set of the model, by its place
 set_there : (m : Model) (s : ℕ) → IsSet m s → slice_get m.sets s ≡ Some (get_or m.sets s (record { name = []; of = 0 }))
@@ -44,11 +45,9 @@ array_of_set m s d v items there found is = array_found m.sets s (get_or m.sets 
 
 table_found : (m : Model) (d : Data) (s t : ℕ) (es : EntitySet) (items : List Data) → slice_get m.sets s ≡ Some es → option_map (array_in d) (slice_get m.sets s) ≡ Some items → t ≡ set_type m s → option_map (items_of_set m d) (slice_get m.sets s) ≡ Some (map (entity_of (properties_of m t)) items)
 table_found m d s t es items at found of =
-    let array : array_in d es ≡ items = Some-one (rw at at found) in
+    let array : array_in d es ≡ items = some_value (rw at at found) in
     let type : t ≡ es.of = of ∙ ap (λ o. unwrap_or (option_map (λ e. e.of) o) 0) at in
-    rw (at, array, type) refl where
-      Some-one : {X : Type 0} {x y : X} → Some x ≡ Some y → x ≡ y
-      Some-one h = cc
+    rw (at, array, type) refl
 
 -- what the items of a set are
 pub table_of_set : (m : Model) (d : Data) (s t : ℕ) (items : List Data) → IsSet m s → option_map (array_in d) (slice_get m.sets s) ≡ Some items → t ≡ set_type m s → option_map (items_of_set m d) (slice_get m.sets s) ≡ Some (map (entity_of (properties_of m t)) items)
@@ -123,7 +122,7 @@ few_all read rows i is all each s = rw is (⊎_elim (each s)
 
 -- ---- the world of the tables
 
-values_of_rows : (rows : List (List Value)) → map (λ o. unwrap_or o []) (map Some rows) ≡ rows
+pub values_of_rows : (rows : List (List Value)) → map (λ o. unwrap_or o []) (map Some rows) ≡ rows
 values_of_rows [] = refl
 values_of_rows (r ∷ rows) = ap (λ l. r ∷ l) (values_of_rows rows)
 

@@ -19,6 +19,7 @@ use Rattle.edm_values.specs.declared.Value.{Value}
 use Rattle.edm_model.specs.Models.{Property}
 use Rattle.edm_data.specs.DataFile.{written, whole_value, json_value, null_value, given_value, property_value}
 use Rattle.edm_data.specs.Fitting.{is_value_of, are_values_of}
+use Rattle.edm_values.proofs.EachLemmas.{and-left}
 
 -- a value of the type that is neither null nor Beyond
 IsFull : EdmType → Value → Type 0
@@ -53,15 +54,11 @@ written-full z v e = full EdmType.Int (Value.Int z) v (refl, refl) e
 integer-full : (z : ℤ) → IsFullLiteral EdmType.Int (integer_in_range z)
 integer-full z = chosen EdmType.Int (fits_integer z) (Written (Value.Int z)) PastRange (λ _. written-full z) (past_range-full EdmType.Int)
 
-and_first : (a b : Bool) → (a && b) ≡ true → a ≡ true
-and_first true b h = refl
-and_first false b h = cc
-
 decimal-full : (scale precision : ℕ) (m : ℤ) (h : IsTrue (is_decimal m scale)) → IsFull (EdmType.Dec scale precision) (Value.Dec (decimal m scale h))
 unfolding IsFull
 decimal-full scale precision m h =
     let same : (scale == scale) ≡ true = grind (arith, nat_tests) in
-    let within = and_first (nat_le (nat_abs m) mantissa_max) (nat_le scale scale_max) h in
+    let within = and-left (nat_le (nat_abs m) mantissa_max) (nat_le scale scale_max) h in
     (refl, rw (same, within) refl)
 
 decimal_there : (scale precision : ℕ) (m : ℤ) (b : Bool) (f : IsTrue b → Dec) → ((h : IsTrue b) → IsFull (EdmType.Dec scale precision) (Value.Dec (f h))) → IsFullLiteral (EdmType.Dec scale precision) (value_or_past (option_map Value.Dec (where_true b f)))

@@ -1,13 +1,13 @@
 -- The ids that a model lists are there.
 use Rattle.std.proofs.Common.{◌≡◌, ℕ, zero, suc, ◌+◌, ◌<◌, List, [], ◌∷◌, length, arith}
-use Rattle.std.specs.Prelude.{flat_map}
 use Rattle.std.specs.List.{All, enumerate_from}
-use Rattle.std.proofs.lemmas.List.Elements.{All-nil, All-cons, All-append, All-head, All-tail, All-map, All-weaker}
+use Rattle.std.proofs.lemmas.List.Elements.{All-nil, All-cons, All-append, All-map, All-weaker}
 use Rattle.edm_values.specs.Lists.{places}
 use Rattle.edm_model.specs.Models.{Model, Part, Custom as ModelCustom}
 use Rattle.edm_model.specs.LookUps.{parts, hierarchies_of_type, customs_of_type, IsType, IsHierarchy, IsCustom}
 use Rattle.edm_model.specs.IdLists.{hierarchy_parts, custom_list, custom_entry, customs_in}
 use Rattle.edm_model.specs.declared.parts.Custom.{Custom}
+use Rattle.edm_values.proofs.PlaceFacts.{All-flat_map_below}
 
 -- the places of a list are within it
 pub places_within : (n : ℕ) → All (λ k. k < n) (places n)
@@ -20,14 +20,9 @@ pub parts_there : (P : Part → Type 0) (t n : ℕ) → ((k : ℕ) → k < n →
 parts_there P t n h =
     All-map P (λ k. record { of = t; at = k }) (places n) (All-weaker (λ k. k < n) (λ k. P (record { of = t; at = k })) h (places n) (places_within n))
 
--- what holds of each part of a list, where it holds of each of its places
-flat_all : {X : Type 0} (P : X → Type 0) (f : ℕ → List X) (n : ℕ) → ((t : ℕ) → t < n → All P (f t)) → (ts : List ℕ) → All (λ t. t < n) ts → All P (flat_map f ts)
-flat_all P f n h [] below = All-nil P
-flat_all P f n h (t ∷ ts) below = All-append P (f t) (flat_map f ts) (h t (All-head (λ t. t < n) t ts below)) (flat_all P f n h ts (All-tail (λ t. t < n) t ts below))
-
 -- all hierarchies are there
 pub all_parts_there : (m : Model) → All (IsHierarchy m) (hierarchy_parts m)
-all_parts_there m = flat_all (IsHierarchy m) (λ t. parts t (length (hierarchies_of_type m t))) (length m.types) type_parts (places (length m.types)) (places_within (length m.types))
+all_parts_there m = All-flat_map_below (IsHierarchy m) (λ t. parts t (length (hierarchies_of_type m t))) (length m.types) type_parts (places (length m.types)) (places_within (length m.types))
   where
     type_parts : (t : ℕ) → IsType m t → All (IsHierarchy m) (parts t (length (hierarchies_of_type m t)))
     type_parts t is = parts_there (IsHierarchy m) t (length (hierarchies_of_type m t)) (λ k below. (is, below))
@@ -38,7 +33,7 @@ numbered i n (x ∷ xs) h = All-cons (λ x. x.0 < n) (i, x) (enumerate_from (i +
 
 -- all custom aggregates are there
 pub all_customs_there : (m : Model) → All (λ c. IsCustom m c.id) (custom_list m)
-all_customs_there m = flat_all here (customs_in m) (length m.types) of_type (places (length m.types)) (places_within (length m.types))
+all_customs_there m = All-flat_map_below here (customs_in m) (length m.types) of_type (places (length m.types)) (places_within (length m.types))
   where
     here : Custom → Type 0
     here c = IsCustom m c.id

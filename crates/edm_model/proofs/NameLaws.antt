@@ -10,11 +10,15 @@ use Rattle.std.proofs.lemmas.Bool.{false≢true, cases_lt}
 use Rattle.std.proofs.lemmas.Cmp.{nat_list_cmp_total, tied_itself}
 use Rattle.std.proofs.lemmas.Map.Text.{is_eq-slice_cmp}
 use Rattle.std.proofs.lemmas.Option.{none-some, same_Some, slice_get_within, slice_get_past}
+use Rattle.std.proofs.lemmas.Simd.{map-map}
+use Rattle.std.proofs.Math.Bool.{or-true}
 use Rattle.serde_json.specs.Data.{Data, null}
 use Rattle.serde_json.specs.Find.{get, as_str}
 use Rattle.edm_values.specs.Lists.{same_text}
 use Rattle.edm_values.specs.Names.{Name, is_name}
 use Rattle.edm_values.proofs.SameTexts.{same_texts, text-self}
+use Rattle.edm_values.proofs.EachLemmas.{and-left, and-right}
+use Rattle.edm_values.proofs.ListFacts.{all-at}
 use Rattle.edm_model.specs.Models.{Property, Navigation, Hierarchy, Custom, EntityType, EntitySet, Model, Part}
 use Rattle.edm_model.specs.LookUps.{type_at, properties_of, navigations_of, hierarchies_of_type, customs_of_type, property_at, navigation_on, hierarchy_on, custom_on, of_type_at, of_type, item_named}
 use Rattle.edm_schema.specs.JsonTrees.{Member, members_in, is_text}
@@ -23,9 +27,8 @@ use Rattle.edm_model.specs.ModelFile.{model_of, type_of, set_of, property_of, na
 use Rattle.edm_schema.specs.NameOrders.{InOrder, AreOrdered}
 use Rattle.edm_model.proofs.Accepted.{or_second, tree_passes, in_types, type_passes}
 use Rattle.edm_model.proofs.FoundByName.{item_place}
-use Rattle.edm_schema.proofs.Mapped.{map_mapped}
 use Rattle.edm_schema.proofs.Ordered.{none_ordered, made_ordered, qualified_ordered}
-use Rattle.edm_schema.proofs.Passing.{and_left, and_right, all_get, filter_get}
+use Rattle.edm_schema.proofs.Passing.{filter_get}
 use Rattle.edm_model.proofs.Places.{within_types}
 use Rattle.edm_model.proofs.TreeParts.{properties_is, navigations_is, hierarchies_is, customs_is, property_here, navigation_here, hierarchy_here, custom_here, type_here, set_here}
 
@@ -34,17 +37,17 @@ use Rattle.edm_model.proofs.TreeParts.{properties_is, navigations_is, hierarchie
 module _ (d : Data) (h : is_model d ≡ true) where
   -- what the name of a member of a type passes
   simple_parts : (t : ℕ) → t < length (type_members d) → has_simple_parts (type_tree d t) ≡ true
-  simple_parts t below = tree_passes has_simple_parts (type_members d) t (and_right _ _ (and_right _ _ h)) below
+  simple_parts t below = tree_passes has_simple_parts (type_members d) t (and-right _ _ (and-right _ _ h)) below
 
   pub type_names : (t : ℕ) (e : EntityType) → type_at (model_of d) t ≡ Some e → is_name e.name ≡ true
   type_names t e is =
       let here = type_here d t e is in
-      ap (λ x. is_name x.name) (sym here.2) ∙ all_get (λ (m : Member). is_name m.0) (type_members d) t here.0 (and_left _ _ (and_left _ _ (and_right _ _ h))) here.1
+      ap (λ x. is_name x.name) (sym here.2) ∙ all-at (λ (m : Member). is_name m.0) (type_members d) t here.0 (and-left _ _ (and-left _ _ (and-right _ _ h))) here.1
 
   pub set_names : (s : ℕ) (e : EntitySet) → slice_get (model_of d).sets s ≡ Some e → is_name e.name ≡ true
   set_names s e is =
       let here = set_here d s e is in
-      ap (λ x. is_name x.name) (sym here.2) ∙ all_get (λ (m : Member). is_name m.0) (set_members d) s here.0 (and_right _ _ (and_left _ _ (and_right _ _ h))) here.1
+      ap (λ x. is_name x.name) (sym here.2) ∙ all-at (λ (m : Member). is_name m.0) (set_members d) s here.0 (and-right _ _ (and-left _ _ (and-right _ _ h))) here.1
 
   pub property_names : (p : Part) (q : Property) → property_at (model_of d) p ≡ Some q → is_name q.name ≡ true
   property_names p q is =
@@ -52,7 +55,7 @@ module _ (d : Data) (h : is_model d ≡ true) where
       let inside = slice_get_within (properties_of (model_of d) p.of) p.at q is in
       let below = in_types d p.of (within_types (λ e. e.properties) (model_of d).types p.of p.at inside) in
       let both = filter_get _ (λ (m : Member). is_own m.0 && is_property m.1) (members_in (type_tree d p.of)) p.at here.0 (simple_parts p.of below) here.1 in
-      ap (λ x. is_name x.name) (sym here.2) ∙ or_second (is_own here.0.0) (is_name here.0.0) (and_left _ _ (and_left _ _ (and_left _ _ both.0))) (and_left _ _ both.1)
+      ap (λ x. is_name x.name) (sym here.2) ∙ or_second (is_own here.0.0) (is_name here.0.0) (and-left _ _ (and-left _ _ (and-left _ _ both.0))) (and-left _ _ both.1)
 
   pub navigation_names : (n : Part) (v : Navigation) → navigation_on (model_of d) n ≡ Some v → is_name v.name ≡ true
   navigation_names n v is =
@@ -60,7 +63,7 @@ module _ (d : Data) (h : is_model d ≡ true) where
       let inside = slice_get_within (navigations_of (model_of d) n.of) n.at v is in
       let below = in_types d n.of (within_types (λ e. e.navigations) (model_of d).types n.of n.at inside) in
       let both = filter_get _ (λ (m : Member). is_own m.0 && is_navigation m.1) (members_in (type_tree d n.of)) n.at here.0 (simple_parts n.of below) here.1 in
-      ap (λ x. is_name x.name) (sym here.2) ∙ or_second (is_own here.0.0) (is_name here.0.0) (and_left _ _ (and_left _ _ (and_left _ _ both.0))) (and_left _ _ both.1)
+      ap (λ x. is_name x.name) (sym here.2) ∙ or_second (is_own here.0.0) (is_name here.0.0) (and-left _ _ (and-left _ _ (and-left _ _ both.0))) (and-left _ _ both.1)
 
   pub qualifiers : (p : Part) (q : Hierarchy) → hierarchy_on (model_of d) p ≡ Some q → is_name q.qualifier ≡ true
   qualifiers p q is =
@@ -68,7 +71,7 @@ module _ (d : Data) (h : is_model d ≡ true) where
       let inside = slice_get_within (hierarchies_of_type (model_of d) p.of) p.at q is in
       let below = in_types d p.of (within_types (λ e. e.hierarchies) (model_of d).types p.of p.at inside) in
       let both = filter_get _ (λ (m : Member). is_of_term hierarchy_term m.0) (members_in (type_tree d p.of)) p.at here.0 (simple_parts p.of below) here.1 in
-      ap (λ x. is_name x.qualifier) (sym here.2) ∙ or_second (is_of_term hierarchy_term here.0.0) (is_name (qualifier hierarchy_term here.0.0)) (and_right _ _ (and_left _ _ (and_left _ _ both.0))) both.1
+      ap (λ x. is_name x.qualifier) (sym here.2) ∙ or_second (is_of_term hierarchy_term here.0.0) (is_name (qualifier hierarchy_term here.0.0)) (and-right _ _ (and-left _ _ (and-left _ _ both.0))) both.1
 
   pub custom_names : (p : Part) (u : Custom) → custom_on (model_of d) p ≡ Some u → is_name u.name ≡ true
   custom_names p u is =
@@ -76,7 +79,7 @@ module _ (d : Data) (h : is_model d ≡ true) where
       let inside = slice_get_within (customs_of_type (model_of d) p.of) p.at u is in
       let below = in_types d p.of (within_types (λ e. e.customs) (model_of d).types p.of p.at inside) in
       let both = filter_get _ (λ (m : Member). is_of_term definition_term m.0) (members_in (type_tree d p.of)) p.at here.0 (simple_parts p.of below) here.1 in
-      ap (λ x. is_name x.name) (sym here.2) ∙ or_second (is_of_term definition_term here.0.0) (is_name (qualifier definition_term here.0.0)) (and_right _ _ both.0) both.1
+      ap (λ x. is_name x.name) (sym here.2) ∙ or_second (is_of_term definition_term here.0.0) (is_name (qualifier definition_term here.0.0)) (and-right _ _ both.0) both.1
 
 -- ---- names that differ
 
@@ -131,16 +134,12 @@ kind_of_both (Some x) p n = two_kinds (codes "Property") (codes "NavigationPrope
 
 -- a property is no navigation
 pub property_or_navigation : (x : Data) → is_property x ≡ true → is_navigation x ≡ true → ⊥
-property_or_navigation x p n = kind_of_both (get (codes "$Kind") x) (and_right _ _ p) (and_right _ _ n)
-
-or_true : (b : Bool) → (b || true) ≡ true
-or_true true = refl
-or_true false = refl
+property_or_navigation x p n = kind_of_both (get (codes "$Kind") x) (and-right _ _ p) (and-right _ _ n)
 
 any_at : {X : Type 0} (test : X → Bool) (xs : List X) (k : ℕ) (x : X) → slice_get xs k ≡ Some x → test x ≡ true → list_any test xs ≡ true
 any_at test [] k x is passes = absurd (none-some x is)
 any_at test (y ∷ xs) zero x is passes = rw (ap test (same_Some y x is) ∙ passes) refl
-any_at test (y ∷ xs) (suc k) x is passes = ap (λ b. test y || b) (any_at test xs k x is passes) ∙ or_true (test y)
+any_at test (y ∷ xs) (suc k) x is passes = ap (λ b. test y || b) (any_at test xs k x is passes) ∙ or-true (test y)
 
 -- the members of each entity type are in order, also where there is none
 pub tree_ordered : (d : Data) → InOrder d → (t : ℕ) → AreOrdered (map (λ m. m.0) (members_in (type_tree d t)))
@@ -158,7 +157,7 @@ properties_are_no_navigations d o t j k q v a b same =
     let to = filter_place (λ (m : Member). is_own m.0 && is_navigation m.1) ms k n.0 n.1 in
     let name : p.0.0 ≡ n.0.0 = ap (λ x. x.name) p.2 ∙ (same ∙ ap (λ x. x.name) (sym n.2)) in
     let one = one_member ms at.0 to.0 p.0 n.0 (tree_ordered d o t) at.1 to.1 name in
-    property_or_navigation p.0.1 (and_right _ _ at.2) (subst (λ (m : Member). is_navigation m.1 ≡ true) (sym one) (and_right _ _ to.2))
+    property_or_navigation p.0.1 (and-right _ _ at.2) (subst (λ (m : Member). is_navigation m.1 ≡ true) (sym one) (and-right _ _ to.2))
 
 module _ (d : Data) (h : is_model d ≡ true) where
   -- no member of a type has the name of a custom aggregate
@@ -168,8 +167,8 @@ module _ (d : Data) (h : is_model d ≡ true) where
       let inside = slice_get_within (customs_of_type (model_of d) t) k u is in
       let below = in_types d t (within_types (λ e. e.customs) (model_of d).types t k inside) in
       let name = qualifier definition_term here.0.0 in
-      let passes = all_get (λ (x : Member). is_definition x.1 && is_custom_name (type_tree d t) (qualifier definition_term x.0)) (term_members definition_term (type_tree d t)) k here.0 (and_right _ _ (type_passes d h t below)) here.1 in
-      let none : not (list_any (λ (x : Member). is_own x.0 && same_text x.0 name) (members_in (type_tree d t))) ≡ true = and_right _ _ (and_right _ _ passes) in
+      let passes = all-at (λ (x : Member). is_definition x.1 && is_custom_name (type_tree d t) (qualifier definition_term x.0)) (term_members definition_term (type_tree d t)) k here.0 (and-right _ _ (type_passes d h t below)) here.1 in
+      let none : not (list_any (λ (x : Member). is_own x.0 && same_text x.0 name) (members_in (type_tree d t))) ≡ true = and-right _ _ (and-right _ _ passes) in
       let text : m.0 ≡ name = sym same ∙ ap (λ x. x.name) (sym here.2) in
       let both : (is_own m.0 && same_text m.0 name) ≡ true = rw (own, ap (λ n. same_text n name) text ∙ text-self name) refl in
       false≢true (sym (ap not (any_at (λ (x : Member). is_own x.0 && same_text x.0 name) (members_in (type_tree d t)) j m at both)) ∙ none)
@@ -178,13 +177,13 @@ module _ (d : Data) (h : is_model d ≡ true) where
   customs_are_no_properties t j k u q a b same =
       let p = property_here d (record { of = t; at = k }) q b in
       let at = filter_place (λ (m : Member). is_own m.0 && is_property m.1) (members_in (type_tree d t)) k p.0 p.1 in
-      not_own t j at.0 u p.0 a at.1 (and_left _ _ at.2) (same ∙ ap (λ x. x.name) (sym p.2))
+      not_own t j at.0 u p.0 a at.1 (and-left _ _ at.2) (same ∙ ap (λ x. x.name) (sym p.2))
 
   pub customs_are_no_navigations : (t j k : ℕ) (u : Custom) (v : Navigation) → slice_get (customs_of_type (model_of d) t) j ≡ Some u → slice_get (navigations_of (model_of d) t) k ≡ Some v → u.name ≡ v.name → ⊥
   customs_are_no_navigations t j k u v a b same =
       let n = navigation_here d (record { of = t; at = k }) v b in
       let at = filter_place (λ (m : Member). is_own m.0 && is_navigation m.1) (members_in (type_tree d t)) k n.0 n.1 in
-      not_own t j at.0 u n.0 a at.1 (and_left _ _ at.2) (same ∙ ap (λ x. x.name) (sym n.2))
+      not_own t j at.0 u n.0 a at.1 (and-left _ _ at.2) (same ∙ ap (λ x. x.name) (sym n.2))
 
 -- ---- names in order
 
@@ -202,10 +201,10 @@ module _ (d : Data) (o : InOrder d) where
   navigations_in_order t = subst (λ (xs : List Navigation). AreOrdered (map (λ n. n.name) xs)) (sym (navigations_is d t)) (made_ordered (λ (n : Navigation). n.name) (navigation_of d (type_tree d t)) (λ m. is_own m.0 && is_navigation m.1) (members_in (type_tree d t)) (λ m. refl) (tree_ordered d o t))
 
   pub hierarchies_in_order : (t : ℕ) → AreOrdered (map (λ q. q.qualifier) (hierarchies_of_type (model_of d) t))
-  hierarchies_in_order t = subst (λ (xs : List Hierarchy). AreOrdered (map (λ q. q.qualifier) xs)) (sym (hierarchies_is d t)) (subst AreOrdered (sym (map_mapped (λ (q : Hierarchy). q.qualifier) (hierarchy_of (type_tree d t)) (term_members hierarchy_term (type_tree d t)))) (qualified_ordered hierarchy_term (members_in (type_tree d t)) (tree_ordered d o t)))
+  hierarchies_in_order t = subst (λ (xs : List Hierarchy). AreOrdered (map (λ q. q.qualifier) xs)) (sym (hierarchies_is d t)) (subst AreOrdered (sym (map-map (λ (q : Hierarchy). q.qualifier) (hierarchy_of (type_tree d t)) (term_members hierarchy_term (type_tree d t)))) (qualified_ordered hierarchy_term (members_in (type_tree d t)) (tree_ordered d o t)))
 
   pub customs_in_order : (t : ℕ) → AreOrdered (map (λ c. c.name) (customs_of_type (model_of d) t))
-  customs_in_order t = subst (λ (xs : List Custom). AreOrdered (map (λ c. c.name) xs)) (sym (customs_is d t)) (subst AreOrdered (sym (map_mapped (λ (c : Custom). c.name) custom_of (term_members definition_term (type_tree d t)))) (qualified_ordered definition_term (members_in (type_tree d t)) (tree_ordered d o t)))
+  customs_in_order t = subst (λ (xs : List Custom). AreOrdered (map (λ c. c.name) xs)) (sym (customs_is d t)) (subst AreOrdered (sym (map-map (λ (c : Custom). c.name) custom_of (term_members definition_term (type_tree d t)))) (qualified_ordered definition_term (members_in (type_tree d t)) (tree_ordered d o t)))
 
 -- ---- what has a name is found by it
 

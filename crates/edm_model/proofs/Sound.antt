@@ -2,7 +2,7 @@
 use Rattle.std.proofs.Common.{◌≡◌, ℕ, ◌<◌, ◌==◌, Bool, true, false, not, List, [], ◌∷◌, ◌++◌, get_or, map, length, Some, None, refl, sym, ◌∙◌, ap, subst, arith, nat_eq, codes}
 use Rattle.std.specs.Prelude.{◌&&◌, if◌then◌else◌, Option, option_map, option_and_then, unwrap_or, is_none, slice_get, nat_le}
 use Rattle.std.specs.List.{list_all}
-use Rattle.std.proofs.lemmas.Bool.{false≢true}
+use Rattle.std.proofs.lemmas.Bool.{false≢true, not-true}
 use Rattle.std.proofs.lemmas.Bool.Decides.{nat_tests}
 use Rattle.std.proofs.lemmas.List.Quantifiers.{position-Some}
 use Rattle.std.proofs.lemmas.Option.{none-some, same_Some, slice_get-map, slice_get_within, slice_get-get_or}
@@ -21,24 +21,24 @@ use Rattle.edm_model.specs.ModelFile.{model_of, property_of, navigation_of, set_
 use Rattle.edm_model.specs.Soundness.{IsSound, IsReference, AreOfOneKind, is_declared_kind}
 use Rattle.edm_schema.specs.NameOrders.{InOrder}
 use Rattle.edm_schema.proofs.Mapped.{length-mapped}
-use Rattle.edm_model.proofs.Accepted.{places_pass, in_types, of_types, type_passes}
+use Rattle.edm_model.proofs.Accepted.{in_types, of_types, type_passes}
 use Rattle.edm_model.proofs.IdLaws.{places_within, parts_there, all_parts_there, all_customs_there}
 use Rattle.edm_model.proofs.NameLaws.{set_names, type_names, property_names, navigation_names, qualifiers, custom_names, properties_are_no_navigations, customs_are_no_properties, customs_are_no_navigations, sets_in_order, types_in_order, properties_in_order, navigations_in_order, hierarchies_in_order, customs_in_order, found_place_of, found_named}
-use Rattle.edm_schema.proofs.Passing.{and_left, and_right, some_map, some_bind, some_passes, some_there, all_get, find_place, one_place, only_place}
+use Rattle.edm_schema.proofs.Passing.{find_place, one_place, only_place}
 use Rattle.edm_model.proofs.Places.{within_types}
 use Rattle.edm_model.proofs.SetEach.{set_each_same}
 use Rattle.edm_model.proofs.TreeParts.{key_is, property_here, property_there, is_property_at, navigation_here, navigation_there, hierarchy_here}
+use Rattle.edm_values.proofs.OptionFacts.{some_there, chained, some_and, mapped}
+use Rattle.edm_values.proofs.EachLemmas.{and-left, and-right}
+use Rattle.edm_values.proofs.ListFacts.{all-at}
+use Rattle.edm_values.proofs.PlaceFacts.{all-place}
 
 -- the member of a name, with its place
 pub named_at : (ms : List Member) (name : List ℕ) (x : Data) → named ms name ≡ Some x → (k : ℕ) × (m : Member) × (member_place ms name ≡ Some k) × (slice_get ms k ≡ Some m) × (m.1 ≡ x)
 named_at ms name x h =
-    let f = some_map (λ (m : Member). m.1) _ x h in
+    let f = mapped (λ (m : Member). m.1) _ x h in
     let r = find_place (λ (m : Member). same_text m.0 name) ms f.0 f.1 in
     (r.0, f.0, r.1, r.2, f.2)
-
-not_true : (b : Bool) → not b ≡ true → b ≡ false
-not_true true h = sym h
-not_true false h = refl
 
 nat_same : (k p : ℕ) → nat_eq k p ≡ true → p ≡ k
 nat_same k p h = grind (arith, nat_tests)
@@ -75,7 +75,7 @@ decimal_declared (Some s) (Some p) f g =
     let low = f s refl in
     let high = g p refl in
     elim (nat_le s p) as (λ b. nat_le s p ≡ b → is_declared_kind (unwrap_or (if b then Some (EdmType.Dec s p) else None) EdmType.Text) ≡ true) [
-      | true ↦ λ e. and_all (nat_le s scale_max) (nat_le 1 p) (nat_le p precision_max) (nat_le s p) (and_right (nat_le 0 s) (nat_le s scale_max) low) (and_left (nat_le 1 p) (nat_le p precision_max) high) (and_right (nat_le 1 p) (nat_le p precision_max) high) e
+      | true ↦ λ e. and_all (nat_le s scale_max) (nat_le 1 p) (nat_le p precision_max) (nat_le s p) (and-right (nat_le 0 s) (nat_le s scale_max) low) (and-left (nat_le 1 p) (nat_le p precision_max) high) (and-right (nat_le 1 p) (nat_le p precision_max) high) e
       | false ↦ λ e. refl
     ] refl
   where
@@ -106,7 +106,7 @@ module _ (d : Data) (h : is_model d ≡ true) where
   key_there : (t : ℕ) → t < length (type_members d) → (k : ℕ) × (m : Member) × (member_place (property_members (type_tree d t)) (key_name (type_tree d t)) ≡ Some k) × (slice_get (property_members (type_tree d t)) k ≡ Some m) × ((not (is_nullable m.1) && is_some_and is_key_kind (kind_of m.1)) ≡ true)
   key_there t below =
       let test = λ (p : Data). not (is_nullable p) && is_some_and is_key_kind (kind_of p) in
-      let one = some_passes test (named (property_members (type_tree d t)) (key_name (type_tree d t))) (and_right _ _ (and_left _ _ (and_left _ _ (and_left _ _ (and_left _ _ (and_left _ _ (and_left _ _ (and_left _ _ (type_passes d h t below))))))))) in
+      let one = some_and test (named (property_members (type_tree d t)) (key_name (type_tree d t))) (and-right _ _ (and-left _ _ (and-left _ _ (and-left _ _ (and-left _ _ (and-left _ _ (and-left _ _ (and-left _ _ (type_passes d h t below))))))))) in
       let place = named_at (property_members (type_tree d t)) (key_name (type_tree d t)) one.0 one.1 in
       (place.0, place.1, place.2, place.3, subst (λ p. test p ≡ true) (sym place.4) one.2)
 
@@ -131,13 +131,13 @@ module _ (d : Data) (h : is_model d ≡ true) where
   key_kinds : (t : ℕ) (p : Property) → property_at (model_of d) (key_of (model_of d) t) ≡ Some p → is_key_kind p.kind ≡ true
   key_kinds t p is =
       let key = key_property t p is in
-      let one = some_passes is_key_kind (kind_of key.0.1) (and_right _ _ key.2) in
+      let one = some_and is_key_kind (kind_of key.0.1) (and-right _ _ key.2) in
       ap (λ q. is_key_kind q.kind) (sym key.1) ∙ (ap (λ o. is_key_kind (unwrap_or o EdmType.Text)) one.1 ∙ one.2)
 
   keys_not_null : (t : ℕ) (p : Property) → property_at (model_of d) (key_of (model_of d) t) ≡ Some p → p.nullable ≡ false
   keys_not_null t p is =
       let key = key_property t p is in
-      ap (λ q. q.nullable) (sym key.1) ∙ not_true (is_nullable key.0.1) (and_left _ _ key.2)
+      ap (λ q. q.nullable) (sym key.1) ∙ not-true (is_nullable key.0.1) (and-left _ _ key.2)
 
   -- ---- navigations
 
@@ -149,8 +149,8 @@ module _ (d : Data) (h : is_model d ≡ true) where
       let inside = slice_get_within (navigations_of (model_of d) n.of) n.at v is in
       let below = in_types d n.of (within_types (λ e. e.navigations) (model_of d).types n.of n.at inside) in
       let here = navigation_here d n v is in
-      let passes = all_get (λ (m : Member). is_navigable d n.of (type_tree d n.of) m.1) (navigation_members (type_tree d n.of)) n.at here.0 (and_right _ _ (and_left _ _ (and_left _ _ (and_left _ _ (type_passes d h n.of below))))) here.1 in
-      let place = some_passes (λ p. if lacks (codes "$Collection") here.0.1 then is_constrained (type_tree d n.of) (type_tree d p) here.0.1 else has_partner d n.of (type_tree d p) here.0.1) (type_place d here.0.1) passes in
+      let passes = all-at (λ (m : Member). is_navigable d n.of (type_tree d n.of) m.1) (navigation_members (type_tree d n.of)) n.at here.0 (and-right _ _ (and-left _ _ (and-left _ _ (and-left _ _ (type_passes d h n.of below))))) here.1 in
+      let place = some_and (λ p. if lacks (codes "$Collection") here.0.1 then is_constrained (type_tree d n.of) (type_tree d p) here.0.1 else has_partner d n.of (type_tree d p) here.0.1) (type_place d here.0.1) passes in
       (here.0, place.0, here.2, place.1, place.2)
 
   targets : (n : Part) (v : Navigation) → navigation_on (model_of d) n ≡ Some v → IsType (model_of d) v.target
@@ -162,7 +162,7 @@ module _ (d : Data) (h : is_model d ≡ true) where
   -- the property of a name has its kind in the model
   kind_at : (t : ℕ) (name : List ℕ) (x : EdmType) → property_kind (type_tree d t) name ≡ Some x → (k : ℕ) × (q : Property) × (member_place (property_members (type_tree d t)) name ≡ Some k) × (slice_get (properties_of (model_of d) t) k ≡ Some q) × (q.kind ≡ x)
   kind_at t name x is =
-      let one = some_bind kind_of (named (property_members (type_tree d t)) name) x is in
+      let one = chained kind_of (named (property_members (type_tree d t)) name) x is in
       let place = named_at (property_members (type_tree d t)) name one.0 one.1 in
       let kind : kind_of place.1.1 ≡ Some x = ap kind_of place.4 ∙ one.2 in
       (place.0, property_of place.1, place.2, property_there d t place.0 place.1 place.3, ap (λ o. unwrap_or o EdmType.Text) kind)
@@ -175,10 +175,10 @@ module _ (d : Data) (h : is_model d ≡ true) where
       let p = nav.1 in
       let target : v.target ≡ p = ap (λ w. w.target) (sym nav.2) ∙ ap (λ o. unwrap_or o 0) nav.3 in
       let many : is_many m.1 ≡ false = ap (λ w. w.many) nav.2 ∙ one in
-      let ok = if_single (is_constrained (type_tree d n.of) (type_tree d p) m.1) (has_partner d n.of (type_tree d p) m.1) (get (codes "$Collection") m.1) nav.4 (λ partner. and_right _ _ (and_left _ _ (and_left _ _ partner))) many in
-      let by = some_passes _ (constraint m.1) (and_right _ _ ok) in
-      let kinds = some_passes _ (property_kind (type_tree d n.of) by.0.0) (and_right _ _ by.2) in
-      let to = some_passes _ (property_kind (type_tree d p) (key_name (type_tree d p))) kinds.2 in
+      let ok = if_single (is_constrained (type_tree d n.of) (type_tree d p) m.1) (has_partner d n.of (type_tree d p) m.1) (get (codes "$Collection") m.1) nav.4 (λ partner. and-right _ _ (and-left _ _ (and-left _ _ partner))) many in
+      let by = some_and _ (constraint m.1) (and-right _ _ ok) in
+      let kinds = some_and _ (property_kind (type_tree d n.of) by.0.0) (and-right _ _ by.2) in
+      let to = some_and _ (property_kind (type_tree d p) (key_name (type_tree d p))) kinds.2 in
       let from = kind_at n.of by.0.0 kinds.0 kinds.1 in
       let key = kind_at p (key_name (type_tree d p)) to.0 to.1 in
       let dependent : v.dependent ≡ from.0 = ap (λ w. w.dependent) (sym nav.2) ∙ (ap (λ o. unwrap_or (option_and_then (λ (c : Member). member_place (property_members (type_tree d n.of)) c.0) o) 0) by.1 ∙ ap (λ o. unwrap_or o 0) from.2) in
@@ -196,13 +196,13 @@ module _ (d : Data) (h : is_model d ≡ true) where
   -- a single-valued navigation of a name that leads to the type at a place
   reference_there : (t k : ℕ) (name : List ℕ) → is_reference_to d k (type_tree d t) name ≡ true → (j : ℕ) × (member_place (navigation_members (type_tree d t)) name ≡ Some j) × IsReference (model_of d) (record { of = t; at = j }) k
   reference_there t k name is =
-      let one = some_passes (λ (n : Data). lacks (codes "$Collection") n && leads_to d k n) (named (navigation_members (type_tree d t)) name) is in
+      let one = some_and (λ (n : Data). lacks (codes "$Collection") n && leads_to d k n) (named (navigation_members (type_tree d t)) name) is in
       let place = named_at (navigation_members (type_tree d t)) name one.0 one.1 in
       let there = navigation_there d t place.0 place.1 place.3 in
       let ok : (lacks (codes "$Collection") place.1.1 && leads_to d k place.1.1) ≡ true = subst (λ n. (lacks (codes "$Collection") n && leads_to d k n) ≡ true) (sym place.4) one.2 in
-      let to = some_passes (nat_eq k) (type_place d place.1.1) (and_right _ _ ok) in
+      let to = some_and (nat_eq k) (type_place d place.1.1) (and-right _ _ ok) in
       let same : to.0 ≡ k = nat_same k to.0 to.2 in
-      (place.0, place.2, (ap (option_map (λ (v : Navigation). v.many)) there ∙ ap Some (lacks_many (get (codes "$Collection") place.1.1) (and_left _ _ ok)), ap (option_map (λ (v : Navigation). v.target)) there ∙ ap Some (ap (λ o. unwrap_or o 0) to.1 ∙ same)))
+      (place.0, place.2, (ap (option_map (λ (v : Navigation). v.many)) there ∙ ap Some (lacks_many (get (codes "$Collection") place.1.1) (and-left _ _ ok)), ap (option_map (λ (v : Navigation). v.target)) there ∙ ap Some (ap (λ o. unwrap_or o 0) to.1 ∙ same)))
 
   partners : (n : Part) (v : Navigation) → navigation_on (model_of d) n ≡ Some v → v.many ≡ true → IsReference (model_of d) (record { of = v.target; at = v.partner }) n.of
   partners n v is many =
@@ -211,7 +211,7 @@ module _ (d : Data) (h : is_model d ≡ true) where
       let p = nav.1 in
       let target : v.target ≡ p = ap (λ w. w.target) (sym nav.2) ∙ ap (λ o. unwrap_or o 0) nav.3 in
       let ok = if_many (is_constrained (type_tree d n.of) (type_tree d p) m.1) (has_partner d n.of (type_tree d p) m.1) (get (codes "$Collection") m.1) nav.4 (ap (λ w. w.many) nav.2 ∙ many) in
-      let back = reference_there p n.of (text_at (codes "$Partner") m.1) (and_right _ _ ok) in
+      let back = reference_there p n.of (text_at (codes "$Partner") m.1) (and-right _ _ ok) in
       let tree : target_of d m.1 ≡ type_tree d p = ap (λ o. unwrap_or (option_map (type_tree d) o) null) nav.3 in
       let is_many_here : is_many m.1 ≡ true = ap (λ w. w.many) nav.2 ∙ many in
       let read : partner_place d m.1 ≡ unwrap_or (member_place (navigation_members (target_of d m.1)) (text_at (codes "$Partner") m.1)) 0 = ap (λ b. if b then unwrap_or (member_place (navigation_members (target_of d m.1)) (text_at (codes "$Partner") m.1)) 0 else 0) is_many_here in
@@ -223,18 +223,18 @@ module _ (d : Data) (h : is_model d ≡ true) where
       let inside = slice_get_within (hierarchies_of_type (model_of d) q.of) q.at r is in
       let below = in_types d q.of (within_types (λ e. e.hierarchies) (model_of d).types q.of q.at inside) in
       let here = hierarchy_here d q r is in
-      let passes = all_get (λ (m : Member). is_hierarchy d q.of (type_tree d q.of) m.1) (term_members hierarchy_term (type_tree d q.of)) q.at here.0 (and_right _ _ (and_left _ _ (and_left _ _ (type_passes d h q.of below)))) here.1 in
-      let back = reference_there q.of q.of (text_at (codes "ParentNavigationProperty") here.0.1) (and_right _ _ passes) in
+      let passes = all-at (λ (m : Member). is_hierarchy d q.of (type_tree d q.of) m.1) (term_members hierarchy_term (type_tree d q.of)) q.at here.0 (and-right _ _ (and-left _ _ (and-left _ _ (type_passes d h q.of below)))) here.1 in
+      let back = reference_there q.of q.of (text_at (codes "ParentNavigationProperty") here.0.1) (and-right _ _ passes) in
       let parent : r.parent ≡ back.0 = ap (λ w. w.parent) (sym here.2) ∙ ap (λ o. unwrap_or o 0) back.1 in
       subst (λ j. IsReference (model_of d) (record { of = q.of; at = j }) q.of) (sym parent) back.2
 
   -- ---- sets
 
   each_set : list_all (λ m. is_entity_set d m.1) (set_members d) ≡ true
-  each_set = and_left _ _ (and_right _ _ (and_left _ _ h))
+  each_set = and-left _ _ (and-right _ _ (and-left _ _ h))
 
   one_each : (t : ℕ) → t < length (type_members d) → exactly_one (λ s. s.of == t) (map (set_of d) (set_members d)) ≡ true
-  one_each t below = places_pass (λ k. exactly_one (λ s. s.of == k) (map (set_of d) (set_members d))) (length (type_members d)) t (sym (set_each_same d (length (type_members d)) (set_members d) each_set) ∙ and_right _ _ (and_right _ _ (and_left _ _ h))) below
+  one_each t below = all-place (λ k. exactly_one (λ s. s.of == k) (map (set_of d) (set_members d))) (length (type_members d)) t (sym (set_each_same d (length (type_members d)) (set_members d) each_set) ∙ and-right _ _ (and-right _ _ (and-left _ _ h))) below
 
   -- the set at a place and its type
   set_there : (s : ℕ) → IsSet (model_of d) s → (e : EntitySet) × (slice_get (map (set_of d) (set_members d)) s ≡ Some e) × (e.of < length (type_members d))
@@ -242,7 +242,7 @@ module _ (d : Data) (h : is_model d ≡ true) where
       let below : s < length (set_members d) = subst (λ n. s < n) (length-mapped (set_of d) (set_members d)) is in
       let m = get_or (set_members d) s ([], null) in
       let at : slice_get (set_members d) s ≡ Some m = slice_get-get_or (set_members d) s ([], null) below in
-      let place = some_there (type_place d m.1) (and_right _ _ (all_get (λ (x : Member). is_entity_set d x.1) (set_members d) s m each_set at)) in
+      let place = some_there (type_place d m.1) (and-right _ _ (all-at (λ (x : Member). is_entity_set d x.1) (set_members d) s m each_set at)) in
       (set_of d m, slice_get-map (set_of d) (set_members d) s ∙ ap (option_map (set_of d)) at, subst (λ k. k < length (type_members d)) (sym (ap (λ o. unwrap_or o 0) place.1)) (place_below m.1 place.0 place.1))
 
   set_type_is : (s : ℕ) (is : IsSet (model_of d) s) → set_type (model_of d) s ≡ (set_there s is).0.of

@@ -1,5 +1,5 @@
 -- Tests at each place of a list.
-use Rattle.std.proofs.Common.{◌≡◌, ℕ, zero, suc, ◌+◌, ◌<◌, Bool, false, List, [], ◌∷◌, ◌++◌, refl, sym, ◌∙◌, ap, arith, add-one, inl, inr, map, take, length, get_or, Some, append-nil, length-append}
+use Rattle.std.proofs.Common.{◌≡◌, ℕ, zero, suc, ◌+◌, ◌<◌, Bool, false, List, [], ◌∷◌, ◌++◌, refl, sym, ◌∙◌, ap, arith, add-one, inl, inr, map, take, length, get_or, Some, append-nil}
 use Rattle.std.specs.Prelude.{◌&&◌, flat_map, slice_get}
 use Rattle.std.specs.List.{list_all, enumerate_from}
 use Rattle.std.proofs.lemmas.List.Folds.{list_all-append}
@@ -9,6 +9,8 @@ use Rattle.std.proofs.lemmas.Grind.{flat_map-append}
 use Rattle.std.proofs.lemmas.List.{map-append}
 use Rattle.edm_schema.proofs.Mapped.{length-mapped}
 use Rattle.edm_values.specs.Lists.{places}
+use Rattle.edm_values.proofs.ListFacts.{slice_get-last}
+use Rattle.edm_values.proofs.TopPlaces.{length-places}
 
 -- one place more
 pub all_places_more : (p : ℕ → Bool) (k : ℕ) → list_all p (places (k + 1)) ≡ (list_all p (places k) && p k)
@@ -48,21 +50,12 @@ front_get [] ys t x h = cc
 front_get (y ∷ xs) ys zero x h = h
 front_get (y ∷ xs) ys (suc t) x h = front_get xs ys t x h
 
-last_get : {X : Type 0} (xs : List X) (y : X) → slice_get (xs ++ y ∷ []) (length xs) ≡ Some y
-last_get [] y = refl
-last_get (x ∷ xs) y = last_get xs y
-
--- there are as many places as elements
-pub length_places : (n : ℕ) → length (places n) ≡ n
-length_places zero = refl
-length_places (suc n) = omega (arith, length-append (places n) (n ∷ []), length_places n)
-
 -- what stands at a place of the places
 pub mapped_place : {X : Type 0} (f : ℕ → X) (n t : ℕ) → t < n → slice_get (map f (places n)) t ≡ Some (f t)
 mapped_place f zero t h = absurd (omega arith)
 mapped_place f (suc n) t h = rw map-append (elim (cases_lt t n) [
   | inl below ↦ front_get (map f (places n)) (f n ∷ []) t (f t) (mapped_place f n t below)
   | inr above ↦ (let e : t ≡ n = omega arith in
-      let size : n ≡ length (map f (places n)) = sym (length-mapped f (places n) ∙ length_places n) in
-      ap (slice_get (map f (places n) ++ f n ∷ [])) (e ∙ size) ∙ (last_get (map f (places n)) (f n) ∙ ap (λ k. Some (f k)) (sym e)))
+      let size : n ≡ length (map f (places n)) = sym (length-mapped f (places n) ∙ length-places n) in
+      ap (slice_get (map f (places n) ++ f n ∷ [])) (e ∙ size) ∙ (slice_get-last (map f (places n)) (f n) ∙ ap (λ k. Some (f k)) (sym e)))
 ])

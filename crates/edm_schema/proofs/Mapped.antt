@@ -33,20 +33,10 @@ pointwise-append eq t [] b = refl
 pointwise-append eq [] (x ∷ a) b = refl
 pointwise-append eq (y ∷ t) (x ∷ a) b = elim (eq y x) as (λ c. (c && pointwise eq t (a ++ b)) ≡ ((c && pointwise eq (take (length a) t) a) && pointwise eq (drop (length a) t) b)) [ true ↦ pointwise-append eq t a b | false ↦ refl ]
 
--- what two functions made one after the other
-pub map_mapped : {X Y Z : Type 0} (f : Y → Z) (g : X → Y) (xs : List X) → map f (map g xs) ≡ map (λ x. f (g x)) xs
-map_mapped f g [] = refl
-map_mapped f g (x ∷ xs) = ap (λ ys. f (g x) ∷ ys) (map_mapped f g xs)
-
 -- what is left of what was made
 pub filter_mapped : {X Y : Type 0} (p : X → Bool) (f : Y → X) (ys : List Y) → filter p (map f ys) ≡ map f (filter (λ y. p (f y)) ys)
 filter_mapped p f [] = refl
 filter_mapped p f (y ∷ ys) = elim (p (f y)) as (λ b. cond b (f y ∷ filter p (map f ys)) (filter p (map f ys)) ≡ map f (cond b (y ∷ filter (λ y. p (f y)) ys) (filter (λ y. p (f y)) ys))) [ true ↦ ap (λ xs. f y ∷ xs) (filter_mapped p f ys) | false ↦ filter_mapped p f ys ]
-
--- what is left of what is left passes both tests
-pub filter_twice : {X : Type 0} (p q : X → Bool) (xs : List X) → filter q (filter p xs) ≡ filter (λ x. p x && q x) xs
-filter_twice p q [] = refl
-filter_twice p q (x ∷ xs) = elim (p x) as (λ b. filter q (cond b (x ∷ filter p xs) (filter p xs)) ≡ cond (b && q x) (x ∷ filter (λ x. p x && q x) xs) (filter (λ x. p x && q x) xs)) [ true ↦ ap (λ ys. cond (q x) (x ∷ ys) ys) (filter_twice p q xs) | false ↦ filter_twice p q xs ]
 
 -- one element more of what a loop makes of a list
 pub made_more : {X Y : Type 0} (f : X → Y) (xs : List X) (i : ℕ) (x : X) (before now : List Y) (y : Y) → i < length xs → x ≡ get_or xs i x → before ≡ map f (take i xs) → now ≡ before ++ y ∷ [] → y ≡ f x → now ≡ map f (take (i + 1) xs)

@@ -18,6 +18,7 @@ use Rattle.std.proofs.lemmas.Map.Text.{is_eq-slice_cmp}
 use Rattle.edm_values.specs.Lists.{same_text}
 use Rattle.edm_schema.specs.NameOrders.{AreOrdered}
 use Rattle.edm_schema.proofs.Mapped.{position_mapped}
+use Rattle.edm_values.proofs.SearchFacts.{position-absent}
 
 -- a place that passes with none before it is the first
 position_at : {X : Type 0} (p : X → Bool) (xs : List X) (i : ℕ) (d : X) → i < length xs → p (get_or xs i d) ≡ true → ((k : ℕ) → k < i → p (get_or xs k d) ≡ false) → position p xs ≡ Some i
@@ -25,13 +26,6 @@ position_at p xs i d within here before =
     let first : prefix_len (λ x. not (p x)) xs ≡ i = prefix_len_is (λ x. not (p x)) xs i d (omega arith) (λ k h. ap not (before k h)) (λ _. ap not here) in
     let inside : nat_lt i (length xs) ≡ true = grind (arith, nat_tests) in
     ap (λ n. cond (nat_lt n (length xs)) (Some n) None) first ∙ ap (λ b. cond b (Some i) None) inside
-
--- no place passes
-position_nowhere : {X : Type 0} (p : X → Bool) (xs : List X) (d : X) → ((k : ℕ) → k < length xs → p (get_or xs k d) ≡ false) → position p xs ≡ None
-position_nowhere p xs d none =
-    let first : prefix_len (λ x. not (p x)) xs ≡ length xs = prefix_len_is (λ x. not (p x)) xs (length xs) d (omega arith) (λ k h. ap not (none k h)) (λ h. absurd (omega arith)) in
-    let outside : nat_lt (length xs) (length xs) ≡ false = grind (arith, nat_tests) in
-    ap (λ n. cond (nat_lt n (length xs)) (Some n) None) first ∙ ap (λ b. cond b (Some (length xs)) None) outside
 
 -- names that compare to this are one text, or not
 same_by : (x v : List ℕ) (r : Ordering) → slice_cmp nat_cmp x v ≡ r → same_text x v ≡ is_eq r
@@ -100,7 +94,7 @@ module _ {X : Type 0} (name : X → List ℕ) (items : List X) (ordered : AreOrd
   searched (Err i) within found =
       let sides = found rising in
       sym (sym (position_mapped (λ n. same_text n v) name items)
-      ∙ position_nowhere (λ n. same_text n v) (map name items) [] (λ k there.
+      ∙ position-absent (λ n. same_text n v) (map name items) [] (λ k there.
       let here : k < length items = omega (arith, length-map items name) in
       let d = some_item items k here in
       none_named k d here (⊎_elim (λ before. inl (sides.0 k d (omega arith) before)) (λ after. inr (sides.1 k d after here)) (cases_lt k i))))

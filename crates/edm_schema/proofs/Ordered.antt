@@ -14,7 +14,7 @@ use Rattle.std.proofs.lemmas.Bool.{false≢true}
 use Rattle.std.proofs.lemmas.Bool.Decides.{nat_tests}
 use Rattle.edm_schema.specs.ModelTrees.{is_of_term, is_annotation, qualifier}
 use Rattle.edm_schema.specs.NameOrders.{AreOrdered}
-use Rattle.edm_schema.proofs.Passing.{and_left, and_right}
+use Rattle.edm_values.proofs.EachLemmas.{and-left, and-right}
 
 -- no names are in order
 pub none_ordered : AreOrdered []
@@ -61,10 +61,10 @@ cmp_drop : (term a b : List ℕ) → pointwise nat_eq term (take (length term) a
 cmp_drop [] a b ha hb = refl
 cmp_drop (c ∷ term) [] b ha hb = absurd (false≢true ha)
 cmp_drop (c ∷ term) (x ∷ a) [] ha hb = absurd (false≢true hb)
-cmp_drop (c ∷ term) (x ∷ a) (y ∷ b) ha hb = rw (equal_cmp x y c (and_left (nat_eq c x) _ ha) (and_left (nat_eq c y) _ hb)) (cmp_drop term a b (and_right (nat_eq c x) _ ha) (and_right (nat_eq c y) _ hb))
+cmp_drop (c ∷ term) (x ∷ a) (y ∷ b) ha hb = rw (equal_cmp x y c (and-left (nat_eq c x) _ ha) (and-left (nat_eq c y) _ hb)) (cmp_drop term a b (and-right (nat_eq c x) _ ha) (and-right (nat_eq c y) _ hb))
 
 begins : (term n : List ℕ) → is_of_term term n ≡ true → starts_with nat_eq n term ≡ true
-begins term n of = and_left (starts_with nat_eq n term) (not (is_annotation (qualifier term n))) of
+begins term n of = and-left (starts_with nat_eq n term) (not (is_annotation (qualifier term n))) of
 
 all_qualified : (term n : List ℕ) (ms : List Member) → is_of_term term n ≡ true → AllByRecursion (λ y. slice_cmp nat_cmp n y ≡ Ordering.Less) (map (λ m. m.0) ms) → AllByRecursion (λ y. slice_cmp nat_cmp (qualifier term n) y ≡ Ordering.Less) (map (λ m. qualifier term m.0) (filter (λ m. is_of_term term m.0) ms))
 all_qualified term n [] of h = tt

@@ -1,59 +1,26 @@
--- Options and lists whose elements pass a test.
-use Rattle.std.proofs.Common.{◌≡◌, ℕ, zero, suc, ◌+◌, ◌==◌, Bool, true, false, List, [], ◌∷◌, cond, Some, None, refl, sym, ◌∙◌, ap, subst, arith}
-use Rattle.std.specs.Prelude.{◌&&◌, Option, option_map, option_and_then, is_some, slice_get, filter, find, position, count_by}
+-- Lists whose elements pass a test.
+use Rattle.std.proofs.Common.{◌≡◌, ℕ, zero, suc, ◌+◌, ◌==◌, Bool, true, false, List, [], ◌∷◌, cond, Some, refl, sym, ◌∙◌, ap, subst, arith}
+use Rattle.std.specs.Prelude.{slice_get, filter, find, position, count_by}
 use Rattle.std.specs.List.{list_all, position_from}
-use Rattle.std.proofs.lemmas.Bool.{false≢true}
 use Rattle.std.proofs.lemmas.Bool.Decides.{nat_tests}
 use Rattle.std.proofs.lemmas.Iterator.Adapters.{position_from-zero}
 use Rattle.std.proofs.lemmas.List.Sums.{sum_by-cons}
 use Rattle.std.proofs.lemmas.Option.{none-some, same_Some}
-use Rattle.edm_values.specs.Lists.{is_some_and}
-
--- the two parts of a conjunction
-pub and_left : (a b : Bool) → (a && b) ≡ true → a ≡ true
-and_left true b h = refl
-and_left false b h = h
-
-pub and_right : (a b : Bool) → (a && b) ≡ true → b ≡ true
-and_right true b h = h
-and_right false b h = cc
-
--- ---- options
-
-pub some_map : {X Y : Type 0} (f : X → Y) (o : Option X) (y : Y) → option_map f o ≡ Some y → (x : X) × (o ≡ Some x) × (f x ≡ y)
-some_map f None y h = absurd (none-some y h)
-some_map f (Some x) y h = (x, refl, same_Some (f x) y h)
-
-pub some_bind : {X Y : Type 0} (f : X → Option Y) (o : Option X) (y : Y) → option_and_then f o ≡ Some y → (x : X) × (o ≡ Some x) × (f x ≡ Some y)
-some_bind f None y h = absurd (none-some y h)
-some_bind f (Some x) y h = (x, refl, h)
-
-pub some_passes : {X : Type 0} (test : X → Bool) (o : Option X) → is_some_and test o ≡ true → (x : X) × (o ≡ Some x) × (test x ≡ true)
-some_passes test None h = absurd (false≢true h)
-some_passes test (Some x) h = (x, refl, h)
-
-pub some_there : {X : Type 0} (o : Option X) → is_some o ≡ true → (x : X) × (o ≡ Some x)
-some_there None h = absurd (false≢true h)
-some_there (Some x) h = (x, refl)
+use Rattle.edm_values.proofs.EachLemmas.{and-left, and-right}
 
 -- ---- elements of lists that pass
-
-pub all_get : {X : Type 0} (p : X → Bool) (xs : List X) (i : ℕ) (x : X) → list_all p xs ≡ true → slice_get xs i ≡ Some x → p x ≡ true
-all_get p [] i x h g = absurd (none-some x g)
-all_get p (y ∷ xs) zero x h g = subst (λ z. p z ≡ true) (same_Some y x g) (and_left (p y) (list_all p xs) h)
-all_get p (y ∷ xs) (suc i) x h g = all_get p xs i x (and_right (p y) (list_all p xs) h) g
 
 pub filter_get : {X : Type 0} (p q : X → Bool) (xs : List X) (i : ℕ) (x : X) → list_all p xs ≡ true → slice_get (filter q xs) i ≡ Some x → (p x ≡ true) × (q x ≡ true)
 filter_get p q [] i x h g = absurd (none-some x g)
 filter_get p q (y ∷ xs) zero x h g =
     elim (q y) as (λ b. q y ≡ b → slice_get (cond b (y ∷ filter q xs) (filter q xs)) 0 ≡ Some x → (p x ≡ true) × (q x ≡ true)) [
-      | true ↦ λ e f. subst (λ z. (p z ≡ true) × (q z ≡ true)) (same_Some y x f) (and_left (p y) (list_all p xs) h, e)
-      | false ↦ λ e f. filter_get p q xs zero x (and_right (p y) (list_all p xs) h) f
+      | true ↦ λ e f. subst (λ z. (p z ≡ true) × (q z ≡ true)) (same_Some y x f) (and-left (p y) (list_all p xs) h, e)
+      | false ↦ λ e f. filter_get p q xs zero x (and-right (p y) (list_all p xs) h) f
     ] refl g
 filter_get p q (y ∷ xs) (suc i) x h g =
     elim (q y) as (λ b. slice_get (cond b (y ∷ filter q xs) (filter q xs)) (suc i) ≡ Some x → (p x ≡ true) × (q x ≡ true)) [
-      | true ↦ λ f. filter_get p q xs i x (and_right (p y) (list_all p xs) h) f
-      | false ↦ λ f. filter_get p q xs (suc i) x (and_right (p y) (list_all p xs) h) f
+      | true ↦ λ f. filter_get p q xs i x (and-right (p y) (list_all p xs) h) f
+      | false ↦ λ f. filter_get p q xs (suc i) x (and-right (p y) (list_all p xs) h) f
     ] g
 
 find_from : {X : Type 0} (test : X → Bool) (i : ℕ) (xs : List X) (x : X) → find test xs ≡ Some x → (k : ℕ) × (position_from test i xs ≡ Some (i + k)) × (slice_get xs k ≡ Some x)

@@ -1,8 +1,7 @@
 -- Tests of each member of a list, by what the members are.
-use Rattle.std.proofs.Common.{◌≡◌, ℕ, ◌+◌, Bool, true, false, not, cond, List, [], ◌∷◌, map, Some, refl, sym, ◌∙◌, ap}
+use Rattle.std.proofs.Common.{◌≡◌, ℕ, Bool, true, false, not, cond, List, [], ◌∷◌, map, refl, sym, ◌∙◌, ap}
 use Rattle.std.specs.Prelude.{◌&&◌, ◌||◌, filter, is_some, position}
-use Rattle.std.specs.List.{list_all, list_any, position_from}
-use Rattle.std.proofs.lemmas.Iterator.Adapters.{position_from-zero}
+use Rattle.std.specs.List.{list_all, list_any}
 use Rattle.std.proofs.lemmas.List.Folds.{list_all-map}
 use Rattle.serde_json.specs.Data.{Data}
 use Rattle.edm_values.specs.Lists.{same_text}
@@ -13,6 +12,7 @@ use Rattle.edm_schema.specs.MemberLists.{member_seen, type_seen, qualified_membe
 use Rattle.edm_schema.specs.declared.members.Member.{Member}
 use Rattle.edm_schema.specs.declared.schema.TypeTree.{TypeTree}
 use Rattle.edm_schema.proofs.Mapped.{list_any-map}
+use Rattle.edm_values.proofs.SearchFacts.{is_some-position}
 
 -- each of these members passes where each that is seen does
 pub all_seen_pass : (p : tree.Member → Bool) (items : List Member) (ms : List tree.Member) → map member_seen items ≡ ms → list_all (λ m. p (member_seen m)) items ≡ list_all p ms
@@ -21,13 +21,6 @@ all_seen_pass p items ms same = sym (list_all-map p member_seen items) ∙ ap (l
 -- so of the members of a term, by their qualifiers
 pub all_qualified_pass : (p : tree.Member → Bool) (term : List ℕ) (t : Data) (items : List Member) → map member_seen items ≡ qualified_members term t → list_all (λ m. p (member_seen m)) items ≡ list_all (λ m. p (qualifier term m.0, m.1)) (term_members term t)
 all_qualified_pass p term t items same = all_seen_pass p items (qualified_members term t) same ∙ list_all-map p (λ (m : tree.Member). (qualifier term m.0, m.1)) (term_members term t)
-
-is_some-position_from : {X : Type 0} (p : X → Bool) (i : ℕ) (xs : List X) → is_some (position_from p i xs) ≡ list_any p xs
-is_some-position_from p i [] = refl
-is_some-position_from p i (x ∷ xs) = elim (p x) as (λ b. is_some (cond b (Some i) (position_from p (i + 1) xs)) ≡ (b || list_any p xs)) [ true ↦ refl | false ↦ is_some-position_from p (i + 1) xs ]
-
-is_some-position : {X : Type 0} (p : X → Bool) (xs : List X) → is_some (position p xs) ≡ list_any p xs
-is_some-position p xs = ap is_some (position_from-zero p xs) ∙ is_some-position_from p 0 xs
 
 any_filter : {X : Type 0} (p q : X → Bool) (xs : List X) → list_any q (filter p xs) ≡ list_any (λ x. p x && q x) xs
 any_filter p q [] = refl

@@ -5,6 +5,7 @@ use Rattle.std.specs.List.{All}
 use Rattle.std.proofs.lemmas.List.{map-append, take_more}
 use Rattle.std.proofs.lemmas.List.Elements.{All-head, All-tail, filter-append}
 use Rattle.std.proofs.lemmas.Option.{slice_get-map, slice_get-get_or}
+use Rattle.std.proofs.lemmas.Simd.{map-map}
 use Rattle.serde_json.specs.Data.{Data, null}
 use Rattle.serde_json.specs.Find.{get}
 use Rattle.serde_json.specs.View.{view}
@@ -17,16 +18,16 @@ use Rattle.edm_schema.specs.NameOrders.{AreOrdered}
 use Rattle.edm_schema.specs.declared.members.Member.{Member}
 use Rattle.edm_schema.specs.declared.schema.Schema.{Schema}
 use Rattle.edm_schema.specs.declared.schema.TypeTree.{TypeTree}
-use Rattle.edm_schema.proofs.Mapped.{map_mapped, filter_twice}
 use Rattle.edm_schema.proofs.Ordered.{filter_ordered, qualified_ordered}
+use Rattle.edm_values.proofs.ListFacts.{filter-twice}
 
 -- members in order, as the program holds them
 pub seen_in_order : (items : List Member) (ms : List tree.Member) → map member_seen items ≡ ms → AreOrdered (map (λ m. m.0) ms) → AreInOrder items
-seen_in_order items ms same ordered = subst AreOrdered (ap (map (λ (m : tree.Member). m.0)) (sym same) ∙ map_mapped (λ (m : tree.Member). m.0) member_seen items) ordered
+seen_in_order items ms same ordered = subst AreOrdered (ap (map (λ (m : tree.Member). m.0)) (sym same) ∙ map-map (λ (m : tree.Member). m.0) member_seen items) ordered
 
 -- the members of a term in order of their qualifiers
 qualified_in_order : (term : List ℕ) (t : Data) → AreOrdered (map (λ m. m.0) (members_in t)) → AreOrdered (map (λ m. m.0) (qualified_members term t))
-qualified_in_order term t ordered = subst AreOrdered (sym (map_mapped (λ (m : tree.Member). m.0) (λ (m : tree.Member). (qualifier term m.0, m.1)) (term_members term t))) (qualified_ordered term (members_in t) ordered)
+qualified_in_order term t ordered = subst AreOrdered (sym (map-map (λ (m : tree.Member). m.0) (λ (m : tree.Member). (qualifier term m.0, m.1)) (term_members term t))) (qualified_ordered term (members_in t) ordered)
 
 -- the lists of an entity type, made of each other
 pub type_parts : (t : TypeTree)
@@ -44,8 +45,8 @@ type_parts t key members own properties navigations hierarchies aggregates defin
     let T = tree_of t in
     let owned = own ∙ ap (filter (λ (m : tree.Member). is_own m.0)) members in
     let own_order = filter_ordered (λ (m : tree.Member). m.0) (λ m. is_own m.0) (members_in T) ordered in
-    let props = properties ∙ (ap (filter (λ (m : tree.Member). is_property m.1)) owned ∙ filter_twice (λ (m : tree.Member). is_own m.0) (λ m. is_property m.1) (members_in T)) in
-    let navs = navigations ∙ (ap (filter (λ (m : tree.Member). is_navigation m.1)) owned ∙ filter_twice (λ (m : tree.Member). is_own m.0) (λ m. is_navigation m.1) (members_in T)) in
+    let props = properties ∙ (ap (filter (λ (m : tree.Member). is_property m.1)) owned ∙ filter-twice (λ (m : tree.Member). is_own m.0) (λ m. is_property m.1) (members_in T)) in
+    let navs = navigations ∙ (ap (filter (λ (m : tree.Member). is_navigation m.1)) owned ∙ filter-twice (λ (m : tree.Member). is_own m.0) (λ m. is_navigation m.1) (members_in T)) in
     let qualified = λ (term : List ℕ). ap (λ (ms : List tree.Member). map {B = tree.Member} (λ m. (qualifier term m.0, m.1)) (filter (λ m. is_of_term term m.0) ms)) members in
     let aggs = aggregates ∙ qualified aggregate_term in
     record {
@@ -86,7 +87,7 @@ pub schema_parts : (s : Schema) (read typed : List Member)
 schema_parts s read typed name members ordered reads containers types typed_seen each each_ordered sets sets_ordered =
     let d = root_of s in
     let all = members ∙ ap (λ n. members_in (unwrap_or (get n d) null)) name in
-    let kind = λ (k : List ℕ). ap (filter (λ (m : tree.Member). is_object_of_kind k m.1)) (reads ∙ ap (filter (λ (m : tree.Member). not (is_unread m.0))) all) ∙ filter_twice (λ (m : tree.Member). not (is_unread m.0)) (λ m. is_object_of_kind k m.1) (members_in (schema d)) in
+    let kind = λ (k : List ℕ). ap (filter (λ (m : tree.Member). is_object_of_kind k m.1)) (reads ∙ ap (filter (λ (m : tree.Member). not (is_unread m.0))) all) ∙ filter-twice (λ (m : tree.Member). not (is_unread m.0)) (λ m. is_object_of_kind k m.1) (members_in (schema d)) in
     let contained = containers ∙ kind (codes "EntityContainer") in
     let typed_is = types ∙ kind (codes "EntityType") in
     let in_schema : AreOrdered (map (λ m. m.0) (members_in (schema d))) = subst (λ (ms : List tree.Member). AreOrdered (map (λ m. m.0) ms)) all ordered in
@@ -99,7 +100,7 @@ schema_parts s read typed name members ordered reads containers types typed_seen
       types = seen;
       each = each;
       sets = sets ∙ ap (λ (cs : List tree.Member). members_besides_kind (unwrap_or (option_map (λ (m : tree.Member). m.1) (only cs)) null)) contained;
-      types_ordered = subst AreOrdered (ap (map (λ (m : tree.Member). m.0)) (sym seen) ∙ map_mapped (λ (m : tree.Member). m.0) type_seen s.types.items) type_order;
+      types_ordered = subst AreOrdered (ap (map (λ (m : tree.Member). m.0)) (sym seen) ∙ map-map (λ (m : tree.Member). m.0) type_seen s.types.items) type_order;
       in_order = record {
         of_schema = in_schema;
         of_container = subst (λ (cs : List tree.Member). AreOrdered (map (λ m. m.0) (members_in (unwrap_or (option_map (λ (m : tree.Member). m.1) (only cs)) null)))) contained sets_ordered;
@@ -116,7 +117,7 @@ pub set_parts : (o : Option tree.Member) (c : tree.Member) (members read sets : 
     → map member_seen sets ≡ members_besides_kind (unwrap_or (option_map (λ m. m.1) o) null)
 set_parts o c members read sets here all reads kept =
     kept ∙ (ap (filter (λ (m : tree.Member). not (same_text m.0 (codes "$Kind")))) (reads ∙ ap (filter (λ (m : tree.Member). not (is_unread m.0))) all)
-    ∙ (filter_twice (λ (m : tree.Member). not (is_unread m.0)) (λ m. not (same_text m.0 (codes "$Kind"))) (members_in c.1)
+    ∙ (filter-twice (λ (m : tree.Member). not (is_unread m.0)) (λ m. not (same_text m.0 (codes "$Kind"))) (members_in c.1)
     ∙ ap (λ (p : Option tree.Member). members_besides_kind (unwrap_or (option_map (λ (m : tree.Member). m.1) p) null)) here))
 
 abbrev qualified : List ℕ → List Member → List tree.Member

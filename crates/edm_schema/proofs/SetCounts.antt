@@ -8,13 +8,14 @@ use Rattle.std.proofs.lemmas.List.{ext_get_or}
 use Rattle.std.proofs.lemmas.List.Sums.{count_by_more_no, count_by_more_yes, sum_by-cons}
 use Rattle.std.proofs.lemmas.Option.{get_or_from_slice_get}
 use Rattle.edm_values.specs.Lists.{places}
-use Rattle.edm_schema.proofs.Counted.{mapped_place, length_places}
+use Rattle.edm_schema.proofs.Counted.{mapped_place}
 use Rattle.edm_schema.proofs.Mapped.{length-mapped}
+use Rattle.edm_values.proofs.TopPlaces.{length-places}
 
 -- a list that has what a function gives at each place
 pub listed_at : (f : ℕ → ℕ) (n : ℕ) (xs : List ℕ) → length xs ≡ n → ((k : ℕ) → k < n → get_or xs k 0 ≡ f k) → xs ≡ map f (places n)
 listed_at f n xs size at =
-    ext_get_or 0 xs (map f (places n)) (size ∙ sym (length-mapped f (places n) ∙ length_places n)) (λ k below.
+    ext_get_or 0 xs (map f (places n)) (size ∙ sym (length-mapped f (places n) ∙ length-places n)) (λ k below.
     let within : k < n = omega arith in
     at k within ∙ sym (get_or_from_slice_get (map f (places n)) k (f k) 0 (mapped_place f n k within)))
 

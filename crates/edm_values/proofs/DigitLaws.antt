@@ -20,6 +20,7 @@ use Rattle.edm_values.specs.Numerals.{below}
 use Rattle.edm_values.specs.Values.{fits_integer, precision_max}
 use Rattle.edm_values.specs.Parts.{mantissa_max}
 use Rattle.std.proofs.Common.{w64}
+use Rattle.edm_values.proofs.ListFacts.{all-take}
 
 -- digits behind digits
 pub value_append : (n : ℕ) (xs ys : List ℕ) → digits_value_after 10 n (xs ++ ys) ≡ digits_value_after 10 (digits_value_after 10 n xs) ys
@@ -158,11 +159,6 @@ none_place p (x ∷ xs) h =
     let both = or_parts (p x) (list_any p xs) h in
     ap (λ b. cond (not b) (1 + position_or_len p xs) 0) both.0 ∙ ap (λ n. 1 + n) (none_place p xs both.1) ∙ one-add (length xs)
 
-all_take : {X : Type 0} (p : X → Bool) (k : ℕ) (xs : List X) → list_all p xs ≡ true → list_all p (take k xs) ≡ true
-all_take p zero xs h = refl
-all_take p (suc k) [] h = refl
-all_take p (suc k) (x ∷ xs) h = let both = and_parts (p x) (list_all p xs) h in λ i. both.0 i && all_take p k xs both.1 i
-
 no_point_unsigned : (t : List ℕ) → list_any is_point t ≡ false → list_any is_point (without_leading_sign t) ≡ false
 no_point_unsigned t h = chosen (starts_with_minus t) (slice_index t 0 == 43)
   where
@@ -188,7 +184,7 @@ fraction_digits s t h =
     chosen false e g = ap (list_all (λ d. is_digit d 10)) (no_fraction t e)
 
 pub kept_digits : (s : ℕ) (t : List ℕ) → is_decimal_text s t ≡ true → list_all (λ b. is_digit b 10) (take s (fraction_part t)) ≡ true
-kept_digits s t h = all_take (λ b. is_digit b 10) s (fraction_part t) (fraction_digits s t h)
+kept_digits s t h = all-take (λ b. is_digit b 10) s (fraction_part t) (fraction_digits s t h)
 
 -- the mantissa: the digits before the point, those after it up to the scale, and zeros
 pub mantissa_value : (s : ℕ) (t : List ℕ) → digits_value 10 (mantissa_digits s t)

@@ -5,6 +5,7 @@ pub mod ListFacts
 pub mod MadeValues
 pub mod NumberLaws
 pub mod OptionFacts
+pub mod PlaceFacts
 pub mod PrintLaws
 pub mod Reorderings
 pub mod SameTexts

@@ -21,6 +21,7 @@ use Rattle.edm_values.specs.Literals.{Literal, Written, value_or_past, has_liter
 use Rattle.std.specs.Prelude.{nat_le}
 use Rattle.std.proofs.Common.{lit≤}
 use Rattle.std.proofs.lemmas.Bool.{leb-true, and_parts, eqb-true, false≢true}
+use Rattle.std.proofs.Math.Bool.{or-true}
 use Rattle.jiff.specs.Words.{days_in_month, is_leap_year}
 use Rattle.edm_values.specs.Parts.{is_day}
 
@@ -82,11 +83,7 @@ no_point_at (d ∷ ds) p = ap (λ b. cond (not b) (1 + position_or_len is_point 
 
 has_point : (whole fraction : List ℕ) → list_any is_point (whole ++ 46 ∷ fraction) ≡ true
 has_point [] fraction = refl
-has_point (d ∷ ds) fraction = ap (λ b. is_point d || b) (has_point ds fraction) ∙ or_true (is_point d)
-  where
-    or_true : (b : Bool) → (b || true) ≡ true
-    or_true true = refl
-    or_true false = refl
+has_point (d ∷ ds) fraction = ap (λ b. is_point d || b) (has_point ds fraction) ∙ or-true (is_point d)
 
 has_no_point : (whole : List ℕ) → AllDigits 10 whole → list_any is_point whole ≡ false
 has_no_point [] p = refl

@@ -113,7 +113,7 @@ value_cmp_total = then_total (on_total kind_place nat_cmp_total) (then_total (on
 -- ---- values that the order does not tell apart are the same
 
 -- two orders, one after the other, find equal what both do
-both_equal : (r s : Ordering) → ordering_then r s ≡ Equal → (r ≡ Equal) × (s ≡ Equal)
+pub both_equal : (r s : Ordering) → ordering_then r s ≡ Equal → (r ≡ Equal) × (s ≡ Equal)
 both_equal Less s h = (h, absurd (true≢false (ap is_lt h)))
 both_equal Equal s h = (refl, h)
 both_equal Greater s h = (h, absurd (true≢false (ap is_gt h)))
@@ -124,7 +124,7 @@ equal_numbers m n h = eqb-true m n (sym (unsigned_tied m n) ∙ ap is_eq h)
 equal_integers : (x y : ℤ) → int_cmp x y ≡ Equal → x ≡ y
 equal_integers x y h = (signed_Decides x y).0 (ap is_eq h)
 
-equal_lists : (xs ys : List ℕ) → slice_cmp nat_cmp xs ys ≡ Equal → xs ≡ ys
+pub equal_lists : (xs ys : List ℕ) → slice_cmp nat_cmp xs ys ≡ Equal → xs ≡ ys
 equal_lists [] [] h = refl
 equal_lists [] (y ∷ ys) h = absurd (true≢false (ap is_lt h))
 equal_lists (x ∷ xs) [] h = absurd (true≢false (ap is_gt h))

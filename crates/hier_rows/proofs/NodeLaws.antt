@@ -19,7 +19,7 @@ use Rattle.context_typing.specs.Shapes.{set_shape}
 use Rattle.apply_meaning.proofs.LoadedWorlds.{set-here}
 use Rattle.apply_meaning.proofs.NodeLemmas.{rows_fit}
 use Rattle.apply_meaning.proofs.RunLemmas.{all-fit-of}
-use Rattle.apply_meaning.specs.Instances.{Instance, entity_instance, lookup, rows}
+use Rattle.apply_meaning.specs.Instances.{Instance, lookup, rows}
 use Rattle.apply_meaning.specs.Meaning.{node, refused_at_beyond}
 use Rattle.apply_meaning.specs.Running.{all_of}
 use Rattle.hier_rows.specs.HierRows.{AreOptionsBelow, IsNodesOf, node_in, path_values}
@@ -63,10 +63,6 @@ nodes-count w f s parents N =
     ap length N.1
     ∙ length-map (entities_in w f.set) (λ e. option_map (λ p. p.at) (follow w e f.hierarchy.parent)) ∙ length-map (places (count w f.set)) (entity_at f.set) ∙ length-places (count w f.set)
     ∙ ap (count w) (sym N.0)
-
--- the instances of a set are as many as its entities
-pub rows-count : (w : World) (s : ℕ) → length (rows w s) ≡ count w s
-rows-count w s = length-map (entities_in w s) entity_instance ∙ length-map (places (count w s)) (entity_at s) ∙ length-places (count w s)
 
 -- the instances of a set are of the world
 pub rows-of : (w : World) (s : ℕ) → IsSet w.model s → all_of w (rows w s) ≡ true

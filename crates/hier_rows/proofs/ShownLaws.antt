@@ -14,6 +14,7 @@ use Rattle.edm_values.proofs.ListFacts.{none-each}
 use Rattle.edm_values.proofs.OptionFacts.{mapped, some_value, then_some-parts}
 use Rattle.edm_values.proofs.Reorderings.{TestsEquality}
 use Rattle.edm_values.proofs.SearchFacts.{all-distinct}
+use Rattle.edm_values.proofs.PlaceFacts.{places-within}
 use Rattle.edm_values.specs.Lists.{distinct, places}
 use Rattle.edm_model.specs.LookUps.{HierarchyPlace, set_of_type}
 use Rattle.edm_model.specs.Models.{Model}
@@ -32,7 +33,6 @@ use Rattle.apply_meaning.proofs.NodeLemmas.{named-parts}
 use Rattle.apply_meaning.specs.Instances.{Instance, entity_instance, fits, root_of, rows}
 use Rattle.apply_meaning.specs.Meaning.{shown_of}
 use Rattle.apply_meaning.specs.MeaningLaws.{AllFit, IsLoaded}
-use Rattle.hier_rows.proofs.TraversalLaws.{places-within}
 use Rattle.hier_rows.specs.HierRows.{AreNodesBelow, AreRootsBelow}
 
 -- ---- each once

@@ -1,12 +1,13 @@
 -- The places that a traversal lists: they are those of the nodes of the instances by the ranks of the nodes, and the instances there are what the traversal means.
-use Rattle.std.proofs.Common.{◌≡◌, ℕ, zero, suc, ◌≤◌, refl, sym, ◌∙◌, ap, Bool, true, false, not, List, [], ◌∷◌, ◌++◌, length, map, replicate, Option, Some, None, Err, arith}
+use Rattle.std.proofs.Common.{◌≡◌, ℕ, refl, sym, ◌∙◌, ap, Bool, true, false, not, List, [], ◌∷◌, ◌++◌, length, map, replicate, Option, Some, None, Err, arith}
 use Rattle.std.specs.Prelude.{◌==◌, count_by, nat_eq, nat_lt, option_map}
 use Rattle.std.specs.Bool.{then_some}
 use Rattle.std.specs.List.{list_all, list_any}
-use Rattle.std.proofs.lemmas.Bool.{and_from, eqb-true, lt-ltb, not-true, or_right}
+use Rattle.std.proofs.lemmas.Bool.{eqb-true, not-true, or_right}
 use Rattle.std.proofs.lemmas.List.Folds.{list_any-append}
-use Rattle.edm_values.proofs.ListFacts.{all-any, all-append, all-filter, all-flat_map, none-append}
+use Rattle.edm_values.proofs.ListFacts.{all-any, all-filter, all-flat_map, none-append}
 use Rattle.edm_values.proofs.OptionFacts.{none_or, then_some-parts}
+use Rattle.edm_values.proofs.PlaceFacts.{places-within}
 use Rattle.edm_values.specs.declared.Value.{Value}
 use Rattle.edm_values.specs.Lists.{at_places, places}
 use Rattle.edm_values.specs.Values.{is_beyond}
@@ -24,7 +25,8 @@ use Rattle.apply_meaning.specs.declared.refusals.RunRefused.TheVariants.{Range, 
 use Rattle.row_orders.specs.Ranks.{GivesNumbers, ranks}
 use Rattle.hier_rows.specs.HierRows.{IsNodesOf, node_in, path_values, traverse_outcome, traversed_places}
 use Rattle.hier_rows.proofs.ClimbLaws.{refused-mapped}
-use Rattle.hier_rows.proofs.NodeLaws.{nodes-are, not-refused, rows-count}
+use Rattle.hier_rows.proofs.NodeLaws.{nodes-are, not-refused}
+use Rattle.apply_meaning.proofs.SetLemmas.{rows-length}
 
 -- ---- ranks
 
@@ -38,7 +40,7 @@ each-same f y (x ∷ xs) h = λ i. h x i ∷ each-same f y xs h i
 
 -- without items each rank is 0
 pub ranks-none : (w : World) (s : ℕ) → ranks w [] (rows w s) ≡ replicate (count w s) 0
-ranks-none w s = each-same _ 0 (rows w s) (λ i. counts-none (rows w s)) ∙ ap (λ n. replicate n 0) (rows-count w s)
+ranks-none w s = each-same _ 0 (rows w s) (λ i. counts-none (rows w s)) ∙ ap (λ n. replicate n 0) (rows-length w s)
 
 -- a list that is_empty answers of
 nothing-is : {X : Type 0} (xs : List X) → (length xs == 0) ≡ true → xs ≡ []
@@ -53,11 +55,6 @@ ranks-empty w s items zeros e z =
     ∙ ap (λ x. Some x) (ranks-none w s ∙ sym z)
 
 -- ---- places
-
--- each of the first n places is before m
-pub places-within : (m n : ℕ) → n ≤ m → list_all (λ k. nat_lt k m) (places n) ≡ true
-places-within m zero h = refl
-places-within m (suc n) h = all-append (λ k. nat_lt k m) (places n) (n ∷ []) (places-within m n (omega (arith, h))) (and_from _ _ (lt-ltb n m (omega (arith, h))) refl)
 
 -- the rows that are listed are rows
 pub traversed-within : (post : Bool) (parents : List (Option ℕ)) (rank : List ℕ) (nodes : List (Option ℕ)) (n : ℕ) → length nodes ≡ n → list_all (λ k. nat_lt k n) (traversed_rows post parents rank nodes) ≡ true

@@ -1,12 +1,13 @@
 -- The hierarchies that names mean, by their ids and by their places.
-use Rattle.std.proofs.Common.{◌≡◌, refl, sym, ◌∙◌, ap, subst, ℕ, zero, suc, ◌+◌, ◌<◌, Bool, true, false, List, [], ◌∷◌, length, Option, Some, None, cond, arith, inl, inr}
+use Rattle.std.proofs.Common.{◌≡◌, refl, sym, ◌∙◌, ap, subst, ℕ, ◌<◌, [], length, Option, Some, None, inl, inr}
 use Rattle.std.specs.Prelude.{option_map, option_and_then, slice_get, find, unwrap_or}
-use Rattle.std.specs.List.{enumerate_from}
 use Rattle.std.proofs.lemmas.List.Quantifiers.{position-Some}
 use Rattle.std.proofs.lemmas.Option.{slice_get_within}
 use Rattle.edm_values.specs.Lists.{same_text}
 use Rattle.edm_values.specs.Names.{Name}
 use Rattle.edm_values.proofs.OptionFacts.{chained, none_or, option_cases, some_value}
+use Rattle.edm_values.proofs.SearchFacts.{find-numbered}
+use Rattle.edm_values.proofs.TopPlaces.{element-there}
 use Rattle.edm_model.specs.Models.{Model, Part, Property, Hierarchy, EntityType, EntitySet}
 use Rattle.edm_model.specs.LookUps.{item_named, found_part, hierarchy_of_type_named, hierarchy_on, hierarchies_of_type, set_named, set_type, set_of_type, type_of_set, key_of, placed, HierarchyPlace, IsHierarchy, IsSet}
 use Rattle.edm_model.specs.Soundness.{IsSound}
@@ -14,37 +15,18 @@ use Rattle.edm_data.specs.Worlds.{World}
 use Rattle.edm_data.specs.Nodes.{parents_by, parents_of}
 use Rattle.apply_ast.specs.Trees.{HierName}
 use Rattle.context_typing.specs.Typing.{hierarchy_at}
-use Rattle.context_typing.proofs.LookUpFacts.{named_at}
+use Rattle.context_typing.proofs.LookUpFacts.{named_at, type_of_set-there}
 use Rattle.hier_index.specs.Parents.{hierarchy_parents}
 use Rattle.hier_states.specs.States.{hierarchy_id}
 
 -- ---- parts of lists
 
--- there is an element at a place within the list
-held : {X : Type 0} (xs : List X) (k : ℕ) → k < length xs → (x : X) × (slice_get xs k ≡ Some x)
-held [] k h = absurd (omega arith)
-held (x ∷ xs) zero h = (x, refl)
-held (x ∷ xs) (suc k) h = held xs k (omega arith)
-
 set-there : (m : Model) (n : Name) (s : ℕ) → set_named m n ≡ Some s → IsSet m s
 set-there m n s e = let d : EntitySet = record { name = []; of = 0 } in (position-Some (λ x. same_text x.name n) m.sets s d e).0
-
-type-there : (m : Model) (s : ℕ) → IsSet m s → type_of_set m s ≡ slice_get m.types (set_type m s)
-type-there m s h = go m.sets s h
-  where
-    go : (ss : List EntitySet) (k : ℕ) → k < length ss → option_and_then (λ es. slice_get m.types es.of) (slice_get ss k) ≡ slice_get m.types (unwrap_or (option_map (λ es. es.of) (slice_get ss k)) 0)
-    go [] k h = absurd (omega arith)
-    go (x ∷ ss) zero h = refl
-    go (x ∷ ss) (suc k) h = go ss k (omega arith)
 
 part-found : {X : Type 0} (t : ℕ) (o : Option (ℕ × X)) (p : Part) → found_part t o ≡ Some p → (y : ℕ × X) × (o ≡ Some y) × (p.of ≡ t) × (p.at ≡ y.0)
 part-found t None p e = none_or p e
 part-found t (Some y) p e = let s = some_value e in (y, refl, sym (ap (λ q. q.of) s), sym (ap (λ q. q.at) s))
-
--- an item of a name, without its place
-item-found : {X : Type 0} (test : X → Bool) (i : ℕ) (xs : List X) → option_map {U = X} (λ x. x.1) (find (λ x. test x.1) (enumerate_from i xs)) ≡ find test xs
-item-found test i [] = refl
-item-found test i (x ∷ xs) = elim (test x) as (λ b. option_map {U = _} (λ x. x.1) (cond b (Some (i, x)) (find (λ x. test x.1) (enumerate_from (i + 1) xs))) ≡ cond b (Some x) (find test xs)) [ true ↦ refl | false ↦ item-found test (i + 1) xs ]
 
 -- ---- hierarchies of a type
 
@@ -56,20 +38,20 @@ place-from s t q o =
 place-is : (m : Model) (h : HierName) (s : ℕ) → set_named m h.set ≡ Some s → hierarchy_at m h ≡ place-from s (set_type m s) h.qualifier (slice_get m.types (set_type m s))
 place-is m h s e =
     ap (λ o. option_and_then (λ s. option_and_then (λ t. option_and_then (placed m s) (find (λ x. same_text x.qualifier h.qualifier) t.hierarchies)) (type_of_set m s)) o) e
-    ∙ ap (place-from s (set_type m s) h.qualifier) (type-there m s (set-there m h.set s e))
+    ∙ ap (place-from s (set_type m s) h.qualifier) (type_of_set-there m s (set-there m h.set s e))
 
 placed-there : (s t : ℕ) (q : Name) (o : Option EntityType) (y : ℕ × Hierarchy) (p : Property) → option_and_then (λ e. item_named (λ h. h.qualifier) q e.hierarchies) o ≡ Some y
     → slice_get (unwrap_or (option_map (λ e. e.properties) o) []) (unwrap_or (option_map (λ e. e.key) o) 0) ≡ Some p → place-from s t q o ≡ Some (record { set = s; type = t; key = p; hierarchy = y.1 })
 placed-there s t q None y p e key = none_or y e
 placed-there s t q (Some e) y p found key =
-    let here : find (λ h. same_text h.qualifier q) e.hierarchies ≡ Some y.1 = sym (item-found (λ h. same_text h.qualifier q) 0 e.hierarchies) ∙ ap (option_map {U = Hierarchy} (λ x. x.1)) found in
+    let here : find (λ h. same_text h.qualifier q) e.hierarchies ≡ Some y.1 = sym (find-numbered (λ h. same_text h.qualifier q) 0 e.hierarchies) ∙ ap (option_map {U = Hierarchy} (λ x. x.1)) found in
     ap (option_and_then (λ h. option_map {U = HierarchyPlace} (λ k. record { set = s; type = t; key = k; hierarchy = h }) (slice_get e.properties e.key))) here
     ∙ ap (option_map {U = HierarchyPlace} (λ k. record { set = s; type = t; key = k; hierarchy = y.1 })) key
 
 none-placed : (s t : ℕ) (q : Name) (o : Option EntityType) → found_part t (option_and_then (λ e. item_named (λ h. h.qualifier) q e.hierarchies) o) ≡ None → place-from s t q o ≡ None
 none-placed s t q None e = refl
 none-placed s t q (Some e) none =
-    let here : find (λ h. same_text h.qualifier q) e.hierarchies ≡ None = sym (item-found (λ h. same_text h.qualifier q) 0 e.hierarchies) ∙ lost (item_named (λ h. h.qualifier) q e.hierarchies) none in
+    let here : find (λ h. same_text h.qualifier q) e.hierarchies ≡ None = sym (find-numbered (λ h. same_text h.qualifier q) 0 e.hierarchies) ∙ lost (item_named (λ h. h.qualifier) q e.hierarchies) none in
     ap (option_and_then (λ h. option_map {U = HierarchyPlace} (λ k. record { set = s; type = t; key = k; hierarchy = h }) (slice_get e.properties e.key))) here
   where
     lost : (o : Option (ℕ × Hierarchy)) → found_part t o ≡ None → option_map {U = Hierarchy} (λ x. x.1) o ≡ None
@@ -98,7 +80,7 @@ named m h id sound e =
     let y = part-found t (hierarchy_of_type_named m t h.qualifier) id a.2 in
     let listed = named_at (λ e. e.hierarchies) (λ x. x.qualifier) h.qualifier (slice_get m.types t) y.0 y.1 in
     let on : hierarchy_on m id ≡ Some (y.0).1 = (λ i. slice_get (hierarchies_of_type m (y.2 i)) (y.3 i)) ∙ listed in
-    let key = held _ (key_of m t).at (sound.keys t type).1 in
+    let key = element-there _ (key_of m t).at (sound.keys t type).1 in
     let Below : ℕ → Type 0 = λ k. k < length m.types in
     record {
       place = record { set = s; type = t; key = key.0; hierarchy = (y.0).1 };

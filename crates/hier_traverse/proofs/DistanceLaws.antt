@@ -1,23 +1,23 @@
 -- Least distances to marked nodes, found node by node.
 use Rattle.std.proofs.Common.{◌≡◌, ℕ, zero, suc, ◌+◌, ◌<◌, ◌≤◌, ◌≢◌, Bool, true, false, List, [], ◌∷◌, length, set, min, refl, sym, ◌∙◌, ap, subst, arith, Option, Some, None, inl, inr, ⊎_elim, get_or-set_same, get_or-set_other}
-use Rattle.std.specs.Prelude.{◌⊎◌, ◌&&◌, ◌||◌, ◌==◌, if◌then◌else◌, nat_eq, nat_le, nat_lt, slice_index, slice_index_or}
+use Rattle.std.specs.Prelude.{◌⊎◌, ◌&&◌, ◌||◌, ◌==◌, if◌then◌else◌, nat_eq, nat_le, nat_lt, slice_index}
 use Rattle.std.specs.Option.{option_and_then, option_map, unwrap_or}
 use Rattle.std.specs.List.{list_any}
 use Rattle.std.proofs.lemmas.Bool.{true≢false, cases_eq, cases_lt, eqb-true, eq-eqb, or_cases, or_left, or_right, and_parts, and_from, leb-true, le-leb, lt-ltb, ltb-true}
 use Rattle.std.proofs.lemmas.List.{get_or_past, length-set}
-use Rattle.edm_data.specs.Hierarchies.{parent_of, is_descendant, is_within, is_under}
-use Rattle.hier_index.specs.Chains.{above, held, AreNodes, Ends}
+use Rattle.edm_data.specs.Hierarchies.{parent_of, is_descendant, is_within}
+use Rattle.hier_index.specs.Chains.{above, held, Ends}
 use Rattle.hier_index.specs.Indexes.{AreIntervals, IsIndexed}
 use Rattle.hier_index.proofs.ChainLaws.{depth_above, depth_is_one, descends, descended}
 use Rattle.hier_index.proofs.DescentLaws.{depth_bounds}
 use Rattle.hier_index.proofs.WalkLaws.{desc_yes}
-use Rattle.hier_index.proofs.IndexLaws.{same_bool}
 use Rattle.hier_index.proofs.DepthLaws.{held_is, held_set_same, held_set_other, above_more}
 use Rattle.hier_traverse.specs.declared.relatives.Relation.{Relation}
 use Rattle.hier_traverse.specs.declared.relatives.Relation.TheVariants.{Ancestor, Descendant}
 use Rattle.hier_traverse.specs.Relatives.{is_related, is_taken}
 use Rattle.hier_traverse.specs.Rows.{AreNodesOf}
 use Rattle.hier_traverse.specs.Distances.{AreInOrder, IsFoundAbove, IsFoundBelow, AreMarksOf, AreLeastAbove, AreLeastBelow, AreNearest, AreReached, IsNear, StandsAt, further, handed_up, is_marked, is_near, lesser}
+use Rattle.edm_values.proofs.OptionFacts.{same_bool}
 
 -- ---- ways up a chain
 

@@ -13,7 +13,7 @@ use Rattle.edm_values.specs.Names.{Name, Path}
 use Rattle.edm_data.specs.References.{entity_type}
 use Rattle.edm_data.specs.Worlds.{Entity, World}
 use Rattle.context_typing.proofs.PathLemmas.{entry-path}
-use Rattle.context_typing.proofs.ShapeLemmas.{law-from, split-behind}
+use Rattle.context_typing.proofs.ShapeLemmas.{law-from, begins-behind}
 use Rattle.context_typing.proofs.ShapeSteps.{free-column, free-prefix}
 use Rattle.context_typing.specs.Paths.{begins, is_none_or, is_proper_prefix, same_path}
 use Rattle.context_typing.specs.Shapes.{PrefixShape, Shape}
@@ -26,11 +26,6 @@ use Rattle.apply_meaning.specs.MeaningLaws.{AllFit}
 use Rattle.join_concat.specs.Joins.{bound_rows, has_root_of, is_free_of}
 
 -- ---- a name that is free in a shape begins no place of an instance that fits it
-
--- a path behind one that begins with a name begins with it
-begins-behind : (a : Name) (p q : Path) → begins a p ≡ true → is_proper_prefix p q ≡ true → begins a q ≡ true
-begins-behind a [] q h k = cc
-begins-behind a (n ∷ p) q h k = let t = split-behind (n ∷ p) q k in ap (begins a) t.2 ∙ h
 
 -- no path behind one that begins with a name is among those that do not
 none-behind : {X : Type 0} (path : X → Path) (a : Name) (p : Path) (xs : List X) → begins a p ≡ true → list_all (λ x. not (begins a (path x))) xs ≡ true → list_any (λ x. is_proper_prefix p (path x)) xs ≡ false

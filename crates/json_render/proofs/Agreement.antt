@@ -1,12 +1,6 @@
 -- Rows that agree place by place have one pattern.
-use Rattle.std.proofs.Common.{◌≡◌, ℕ, zero, suc, ◌+◌, ◌<◌, List, [], ◌∷◌, length, map, take, get_or, refl, sym, ◌∙◌, ap, arith, add-one}
+use Rattle.std.proofs.Common.{◌≡◌, ℕ, zero, suc, ◌+◌, ◌<◌, List, [], ◌∷◌, length, map, take, get_or, sym, ◌∙◌, ap, arith, add-one}
 use Rattle.edm_values.specs.Lists.{first_or}
-
--- an element is the same whatever stands for one that is not there
-pub same_element : {X : Type 0} (xs : List X) (k : ℕ) (d e : X) → k < length xs → get_or xs k d ≡ get_or xs k e
-same_element [] k d e h = absurd (omega arith)
-same_element (x ∷ xs) zero d e h = refl
-same_element (x ∷ xs) (suc k) d e h = same_element xs k d e (omega arith)
 
 -- a list without its first element
 abbrev behind : {X : Type 0} → List X → List X

@@ -1,5 +1,5 @@
 -- The members and items at a place do not depend on how many segments are allowed, where the paths have no more.
-use Rattle.std.proofs.Common.{◌≡◌, ℕ, zero, suc, ◌<◌, ◌≤◌, Bool, true, false, cond, not, ◌&&◌, List, [], ◌∷◌, ◌++◌, Option, Some, None, length, max, flat_map, refl, sym, ◌∙◌, ap, arith, inl, inr}
+use Rattle.std.proofs.Common.{◌≡◌, ℕ, zero, suc, ◌<◌, ◌≤◌, Bool, true, false, cond, not, ◌&&◌, List, [], ◌∷◌, ◌++◌, Option, Some, None, length, max, flat_map, sym, ◌∙◌, ap, arith, inl, inr}
 use Rattle.std.specs.Prelude.{◌⊎◌, fold, option_map, unwrap_or, if◌then◌else◌}
 use Rattle.std.specs.List.{cons_option}
 use Rattle.std.proofs.lemmas.Bool.{and_cases, cases_Bool, true≢false}
@@ -7,6 +7,7 @@ use Rattle.serde_json.specs.Data.{null}
 use Rattle.edm_values.specs.Lists.{in_byte_order, same_text}
 use Rattle.edm_values.specs.Names.{Name, Path}
 use Rattle.edm_values.proofs.EachLemmas.{Each, each-filter}
+use Rattle.edm_values.proofs.ListFacts.{flat_map-agree}
 use Rattle.edm_model.specs.JsonTrees.{Member, object_of}
 use Rattle.edm_data.specs.Worlds.{World, Entity}
 use Rattle.json_render.specs.Bodies.{Shown, depth_of, further, here, is_bound_to_none, is_empty, is_here, members_at, names_of, properties_here, under, value_members}
@@ -45,10 +46,6 @@ positive : {X : Type 0} (d : ℕ) (xs : List (Path × X)) → Within d xs → is
 positive d [] a h = absurd (true≢false h)
 positive d (x ∷ xs) a h = let l : length x.0 < d = a.0 in omega arith
 
-pub flat-same : {A M : Type 0} (f g : A → List M) → ((a : A) → f a ≡ g a) → (xs : List A) → flat_map f xs ≡ flat_map g xs
-flat-same f g h [] = refl
-flat-same f g h (x ∷ xs) = λ i. h x i ++ flat-same f g h xs i
-
 -- the members of one name
 abbrev pub name_members : World → List (Path × Option Entity) → List (Path × Shown) → (List (Path × Option Entity) → List (Path × Shown) → List Member) → Name → List Member
 name_members w ps cs inner n =
@@ -78,7 +75,7 @@ same-depth : (d e : ℕ) (w : World) (ps : List (Path × Option Entity)) (cs : L
 same-depth zero e w ps cs p q a b f g = absurd (omega arith)
 same-depth (suc d) zero w ps cs p q a b f g = absurd (omega arith)
 same-depth (suc d) (suc e) w ps cs p q a b f g =
-    flat-same (name_members w ps cs (members_at d w)) (name_members w ps cs (members_at e w)) (λ n.
+    flat_map-agree (name_members w ps cs (members_at d w)) (name_members w ps cs (members_at e w)) (λ n.
     let us = under n ps in
     let vs = further (under n cs) in
     let a' = under-within d n ps a in
@@ -96,7 +93,7 @@ one-level w ps cs = go (max (depth_of ps) (depth_of cs)) (depth-within _ ps (ome
     go : (d : ℕ) → (1 ≤ d) × Within d ps → (1 ≤ d) × Within d cs → members_at d w ps cs ≡ flat_map (name_members w ps cs (members_here w)) (place_names w ps cs)
     go zero a b = absurd (omega arith)
     go (suc d) a b =
-        flat-same (name_members w ps cs (members_at d w)) (name_members w ps cs (members_here w)) (λ n.
+        flat_map-agree (name_members w ps cs (members_at d w)) (name_members w ps cs (members_here w)) (λ n.
         let us = under n ps in
         let vs = further (under n cs) in
         let m = max (depth_of us) (depth_of vs) in

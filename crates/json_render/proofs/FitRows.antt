@@ -1,11 +1,12 @@
 -- Rows that fit a shape have entities of the world, and a lawful shape has columns of different paths.
-use Rattle.std.proofs.Common.{◌≡◌, ℕ, ◌<◌, Bool, true, ◌==◌, ◌&&◌, List, Option, Some, None, length, map, refl, ◌∙◌, ap, get_or}
+use Rattle.std.proofs.Common.{◌≡◌, ℕ, ◌<◌, true, ◌==◌, ◌&&◌, List, Option, Some, None, length, map, refl, ◌∙◌, ap, get_or}
 use Rattle.std.specs.Prelude.{IsTrue, nat_lt, slice_index_or, is_some}
 use Rattle.std.specs.List.{list_all}
 use Rattle.std.proofs.lemmas.Bool.{and_parts, false≢true}
 use Rattle.std.proofs.lemmas.Option.{slice_get-get_or}
+use Rattle.std.proofs.lemmas.List.{get_or_default}
 use Rattle.edm_values.specs.Lists.{are_distinct, is_some_and}
-use Rattle.edm_values.proofs.OptionFacts.{and_5, and_7}
+use Rattle.edm_values.proofs.OptionFacts.{and_5, and_7, some_and-there}
 use Rattle.edm_values.specs.Names.{Path}
 use Rattle.edm_values.proofs.ListFacts.{all-at, all-each}
 use Rattle.edm_data.specs.Worlds.{World, Entity}
@@ -16,16 +17,11 @@ use Rattle.context_typing.specs.Typing.{all_prefixes, are_apart, column_at, colu
 use Rattle.apply_meaning.specs.Instances.{Instance, column_fits, fits, has_columns, has_prefixes, no_instance, prefix_fits, prefix_fits_at}
 use Rattle.apply_meaning.specs.MeaningLaws.{AllFit}
 use Rattle.apply_meaning.specs.RowViews.{is_of}
-use Rattle.json_render.proofs.Agreement.{same_element}
-
-some-told : {X : Type 0} (t : X → Bool) (o : Option X) → is_some_and t o ≡ true → is_some o ≡ true
-some-told t None h = absurd (false≢true h)
-some-told t (Some x) h = refl
 
 bound-of : (w : World) (S : Shape) (i : Instance) (p : Path) (x : Option Entity) (o : Option PrefixShape) → prefix_fits_at w S i (p, x) o ≡ true → is_none_or (λ e. is_some (entity_type w e)) x ≡ true
 bound-of w S i p None o h = refl
 bound-of w S i p (Some e) None h = absurd (false≢true h)
-bound-of w S i p (Some e) (Some y) h = some-told (λ t'. t' == y.of) (entity_type w e) (and_parts (is_some_and (λ t'. t' == y.of) (entity_type w e)) (nat_lt e.at (count w e.set)) h).0
+bound-of w S i p (Some e) (Some y) h = some_and-there (λ t'. t' == y.of) (entity_type w e) (and_parts (is_some_and (λ t'. t' == y.of) (entity_type w e)) (nat_lt e.at (count w e.set)) h).0
 
 fit-parts : (w : World) (S : Shape) (i : Instance) → fits w S i ≡ true → (is_lawful w.model S ≡ true) × (list_all (prefix_fits w S i) i.prefixes ≡ true)
 fit-parts w S i h =
@@ -46,7 +42,7 @@ row-fits w S rows k h l = all-at (fits w S) rows k (slice_index_or rows k no_ins
 
 -- a row that was read
 pub read-row : (rows : List Instance) (k : ℕ) (i : Instance) → k < length rows → i ≡ get_or rows k i → i ≡ slice_index_or rows k no_instance
-read-row rows k i l h = h ∙ same_element rows k i no_instance l
+read-row rows k i l h = h ∙ get_or_default rows k i no_instance l
 
 pub read-fits : (w : World) (S : Shape) (rows : List Instance) (k : ℕ) (i : Instance) → AllFit w S rows → k < length rows → i ≡ get_or rows k i → fits w S i ≡ true
 read-fits w S rows k i h l g = ap (fits w S) (read-row rows k i l g) ∙ row-fits w S rows k h l

@@ -1,24 +1,26 @@
 -- Parts in byte order of names, group by group.
 use Rattle.std.proofs.Common.{◌≡◌, ℕ, zero, suc, Bool, true, false, cond, not, ◌&&◌, List, [], ◌∷◌, ◌++◌, map, filter, flat_map, take, drop, refl, sym, ◌∙◌, ap, inl, inr}
 use Rattle.std.specs.Prelude.{◌⊎◌}
-use Rattle.std.specs.Cmp.{IsStrictWeakOrder, unsigned_tied}
+use Rattle.std.specs.Cmp.{IsStrictWeakOrder}
 use Rattle.std.specs.Cmp.Lexicographic.{slice_cmp}
 use Rattle.std.specs.List.Sorted.{ties}
-use Rattle.std.specs.Ordering.{is_lt, is_eq, is_gt, nat_cmp, ordering_reverse, ordering_then}
+use Rattle.std.specs.Ordering.{is_lt, nat_cmp, ordering_reverse}
 use Rattle.std.specs.declared.cmp.Ordering.{Ordering}
 use Rattle.std.specs.declared.cmp.Ordering.TheVariants.{Less, Equal, Greater}
-use Rattle.std.proofs.lemmas.Bool.{cases_Bool, eqb-true, true≢false}
+use Rattle.std.proofs.lemmas.Bool.{cases_Bool, true≢false}
 use Rattle.std.proofs.lemmas.Cmp.{nat_list_cmp_total}
 use Rattle.std.proofs.lemmas.List.Sorted.{ranks_by}
 use Rattle.edm_values.specs.Names.{Name}
 use Rattle.edm_values.specs.Lists.{distinct, in_byte_order, same_text, text_before}
-use Rattle.edm_values.proofs.EachLemmas.{Each, each-filter, each-map}
+use Rattle.edm_values.specs.OrderLaws.{equal_lists}
+use Rattle.edm_values.proofs.EachLemmas.{Each, each-filter, each-map, each-weaker}
 use Rattle.edm_values.proofs.Reorderings.{Reorders, TestsEquality, distinct-reorders, reorders-map}
 use Rattle.edm_values.proofs.SameTexts.{same_texts, text-self}
 use Rattle.edm_values.proofs.SortedLists.{Ascends, filter-sorted, reorders-sorted, sorted-ascends, sorted-reorders, sorted-unique}
+use Rattle.edm_values.proofs.ListFacts.{flat_map-agree}
+use Rattle.edm_values.proofs.TopPlaces.{filter-none, filter-each}
 use Rattle.json_render.specs.Places.{NamedPart, name_before, run_of, first_run, sorted_parts}
 use Rattle.json_render.proofs.SortedEntries.{names_ranked}
-use Rattle.json_render.proofs.Depths.{flat-same}
 
 -- ---- names
 
@@ -27,21 +29,6 @@ texts_ranked = ranks_by nat_list_cmp_total (λ t. t)
 
 text_equality : TestsEquality same_text
 text_equality = record { same = same_texts; itself = text-self }
-
--- two orders, one after the other, find equal what both do
-both_equal : (r s : Ordering) → ordering_then r s ≡ Equal → (r ≡ Equal) × (s ≡ Equal)
-both_equal Less s h = (h, absurd (true≢false (ap is_lt h)))
-both_equal Equal s h = (refl, h)
-both_equal Greater s h = (h, absurd (true≢false (ap is_gt h)))
-
-equal_lists : (xs ys : List ℕ) → slice_cmp nat_cmp xs ys ≡ Equal → xs ≡ ys
-equal_lists [] [] h = refl
-equal_lists [] (y ∷ ys) h = absurd (true≢false (ap is_lt h))
-equal_lists (x ∷ xs) [] h = absurd (true≢false (ap is_gt h))
-equal_lists (x ∷ xs) (y ∷ ys) h =
-    let both = both_equal (nat_cmp x y) (slice_cmp nat_cmp xs ys) h in
-    let here : x ≡ y = eqb-true x y (sym (unsigned_tied x y) ∙ ap is_eq both.0) in
-    λ i. here i ∷ equal_lists xs ys both.1 i
 
 neither_less : (r : Ordering) → (not (is_lt (ordering_reverse r)) && not (is_lt r)) ≡ true → ordering_reverse r ≡ Equal
 neither_less Less h = absurd (true≢false (sym h))
@@ -76,18 +63,6 @@ differ_back a b h = go (cases_Bool (same_text b a))
     go : (same_text b a ≡ true) ⊎ (same_text b a ≡ false) → same_text b a ≡ false
     go (inl g) = absurd (true≢false (sym (text-self a) ∙ ap (same_text a) (sym (same_texts b a g)) ∙ h))
     go (inr g) = g
-
-each-impl : {X : Type 0} (P Q : X → Type 0) → ((x : X) → P x → Q x) → (xs : List X) → Each P xs → Each Q xs
-each-impl P Q h [] a = tt
-each-impl P Q h (x ∷ xs) a = (h x a.0, each-impl P Q h xs a.1)
-
-filter-each : {X : Type 0} (t : X → Bool) (xs : List X) → Each (λ x. t x ≡ true) xs → filter t xs ≡ xs
-filter-each t [] a = refl
-filter-each t (x ∷ xs) a = ap (λ b. cond b (x ∷ filter t xs) (filter t xs)) a.0 ∙ ap (λ ys. x ∷ ys) (filter-each t xs a.1)
-
-filter-none : {X : Type 0} (t : X → Bool) (xs : List X) → Each (λ x. t x ≡ false) xs → filter t xs ≡ []
-filter-none t [] a = refl
-filter-none t (x ∷ xs) a = ap (λ b. cond b (x ∷ filter t xs) (filter t xs)) a.0 ∙ filter-none t xs a.1
 
 filter-passes : {X : Type 0} (t : X → Bool) (xs : List X) → Each (λ x. t x ≡ true) (filter t xs)
 filter-passes t [] = tt
@@ -126,7 +101,7 @@ cut-run n [] a u = (refl, tt)
 cut-run n (e ∷ es) a u = go (same_text e.name n) refl (cut-run n es a.1 u.1)
   where
     past : same_text e.name n ≡ false → Each (λ x. same_text x.name n ≡ false) es
-    past s = each-impl (λ x. name_before x e ≡ false) (λ x. same_text x.name n ≡ false) (λ x h. other x h (cases_Bool (same_text x.name n))) es u.0
+    past s = each-weaker (λ x. name_before x e ≡ false) (λ x. same_text x.name n ≡ false) es (λ x h. other x h (cases_Bool (same_text x.name n))) u.0
       where
         other : (x : NamedPart) → name_before x e ≡ false → (same_text x.name n ≡ true) ⊎ (same_text x.name n ≡ false) → same_text x.name n ≡ false
         other x h (inl g) = absurd (true≢false (sym (comes_before n e.name a.0 s) ∙ ap (λ m. text_before m e.name) (sym (same_texts x.name n g)) ∙ h))
@@ -188,8 +163,8 @@ groups-step F e es u =
     each-distinct (λ m. same_text n m ≡ false) (names_in (drop k es)) (each-map (λ m. same_text n m ≡ false) (λ x. same_text x.name n ≡ false) (λ x. x.name) (λ x h. differ_back x.name n h) (drop k es) cut.1) in
     (λ i. F n (first i) ++ flat_map (λ m. F m (named m (e ∷ es))) (rest i))
     ∙ ap (λ xs. F n (e ∷ take k es) ++ xs) (flat-on (λ m. F m (named m (e ∷ es))) (λ m. F m (named m (drop k es))) (distinct same_text (names_in (drop k es)))
-    (each-impl (λ m. same_text n m ≡ false) (λ m. F m (named m (e ∷ es)) ≡ F m (named m (drop k es)))
-    (λ m s. ap (F m) (ap (λ b. cond b (e ∷ named m es) (named m es)) s ∙ named-behind n m k es s all)) (distinct same_text (names_in (drop k es))) apart))
+    (each-weaker (λ m. same_text n m ≡ false) (λ m. F m (named m (e ∷ es)) ≡ F m (named m (drop k es))) (distinct same_text (names_in (drop k es)))
+    (λ m s. ap (F m) (ap (λ b. cond b (e ∷ named m es) (named m es)) s ∙ named-behind n m k es s all)) apart))
 
 pub ascends-drop : (k : ℕ) (es : List NamedPart) → Ascends name_before es → Ascends name_before (drop k es)
 ascends-drop zero es u = u
@@ -223,8 +198,8 @@ ascends-named n [] = tt
 ascends-named n (e ∷ es) = go (same_text e.name n) refl (ascends-named n es)
   where
     level : same_text e.name n ≡ true → Each (λ x. name_before x e ≡ false) (named n es)
-    level s = each-impl (λ x. same_text x.name n ≡ true) (λ x. name_before x e ≡ false)
-        (λ x h. ap (λ m. text_before m e.name) (same_texts x.name n h ∙ sym (same_texts e.name n s)) ∙ not_before_itself e.name) (named n es) (filter-passes (λ x. same_text x.name n) es)
+    level s = each-weaker (λ x. same_text x.name n ≡ true) (λ x. name_before x e ≡ false) (named n es)
+        (λ x h. ap (λ m. text_before m e.name) (same_texts x.name n h ∙ sym (same_texts e.name n s)) ∙ not_before_itself e.name) (filter-passes (λ x. same_text x.name n) es)
 
     go : (b : Bool) → same_text e.name n ≡ b → Ascends name_before (named n es) → Ascends name_before (cond b (e ∷ named n es) (named n es))
     go true s r = (level s, r)
@@ -245,4 +220,4 @@ order-sorted es =
 pub groups-sorted : {M : Type 0} (F : Name → List NamedPart → List M) (es : List NamedPart) → flat_map (λ n. F n (named n es)) (in_byte_order (names_in es)) ≡ groups F (sorted_parts es)
 groups-sorted F es =
     ap (flat_map (λ n. F n (named n es))) (order-sorted es)
-    ∙ flat-same (λ n. F n (named n es)) (λ n. F n (named n (sorted_parts es))) (λ n. ap (F n) (sym (named-sorted n es))) (distinct same_text (names_in (sorted_parts es)))
+    ∙ flat_map-agree (λ n. F n (named n es)) (λ n. F n (named n (sorted_parts es))) (λ n. ap (F n) (sym (named-sorted n es))) (distinct same_text (names_in (sorted_parts es)))

@@ -6,9 +6,9 @@ use Rattle.std.proofs.lemmas.Bool.{and_cases, cases_Bool, true≢false}
 use Rattle.edm_values.specs.Lists.{in_byte_order, same_text}
 use Rattle.edm_values.specs.Names.{Name, Path}
 use Rattle.edm_values.proofs.EachLemmas.{Each, each-filter}
+use Rattle.edm_values.proofs.ListFacts.{flat_map-agree}
 use Rattle.json_render.specs.Bodies.{depth_of_paths, first_names, going_on, is_empty, is_here, items_at, parenthesised, paths_under}
 use Rattle.json_render.specs.ItemTexts.{items_here, segment_items}
-use Rattle.json_render.proofs.Depths.{flat-same}
 
 -- each path has fewer names
 abbrev pub Below : ℕ → List Path → Type 0
@@ -74,7 +74,7 @@ same-depth : (d e : ℕ) (ps cs : List Path) → 0 < d → 0 < e → Below d ps 
 same-depth zero e ps cs p q a b f g = absurd (omega arith)
 same-depth (suc d) zero ps cs p q a b f g = absurd (omega arith)
 same-depth (suc d) (suc e) ps cs p q a b f g =
-    ap (λ xs. star ps ++ xs) (flat-same (name_items ps cs (items_at d)) (name_items ps cs (items_at e)) (λ n.
+    ap (λ xs. star ps ++ xs) (flat_map-agree (name_items ps cs (items_at d)) (name_items ps cs (items_at e)) (λ n.
     let us = paths_under n ps in
     let vs = going_on (paths_under n cs) in
     let a' = under-below d n ps a in
@@ -92,7 +92,7 @@ one-level ps cs = go (max (depth_of_paths ps) (depth_of_paths cs)) (depth-below 
     go : (d : ℕ) → (1 ≤ d) × Below d ps → (1 ≤ d) × Below d cs → items_at d ps cs ≡ star ps ++ flat_map (name_items ps cs items_here) (place_names ps cs)
     go zero a b = absurd (omega arith)
     go (suc d) a b =
-        ap (λ xs. star ps ++ xs) (flat-same (name_items ps cs (items_at d)) (name_items ps cs items_here) (λ n.
+        ap (λ xs. star ps ++ xs) (flat_map-agree (name_items ps cs (items_at d)) (name_items ps cs items_here) (λ n.
         let us = paths_under n ps in
         let vs = going_on (paths_under n cs) in
         let m = max (depth_of_paths us) (depth_of_paths vs) in

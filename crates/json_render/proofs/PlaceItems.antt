@@ -4,16 +4,17 @@ use Rattle.std.specs.Prelude.{filter_map, if◌then◌else◌}
 use Rattle.std.specs.List.{cons_option, list_all, list_any}
 use Rattle.std.proofs.lemmas.Bool.{and_parts, and_right, false≢true}
 use Rattle.std.proofs.lemmas.List.{map-append}
+use Rattle.std.proofs.lemmas.List.Elements.{filter_map-append}
 use Rattle.edm_values.specs.Lists.{in_byte_order, same_text}
 use Rattle.edm_values.specs.Names.{Name, Path}
 use Rattle.edm_values.proofs.Reorderings.{Reorders}
+use Rattle.edm_values.proofs.ListFacts.{flat_map-agree}
 use Rattle.json_render.specs.Bodies.{first_names, going_on, is_empty, is_here, paths_under}
 use Rattle.json_render.specs.ItemTexts.{column_paths, column_rest, ends_column, group_items, items_here, place_items, prefix_paths, prefix_rest, segment_items}
 use Rattle.json_render.specs.Places.{NamedPart, goes_inside, inside_of, named_parts, next_parts, part_inside, part_on, seen}
 use Rattle.json_render.specs.declared.entries.Entry.{Entry}
 use Rattle.json_render.specs.declared.entries.Part.{Part}
-use Rattle.json_render.proofs.Depths.{flat-same}
-use Rattle.json_render.proofs.PlaceMembers.{filter_map-joined, to-front}
+use Rattle.json_render.proofs.PlaceMembers.{to-front}
 use Rattle.json_render.proofs.RowParts.{taken-more}
 use Rattle.json_render.proofs.ItemDepths.{name_items, one-level, star}
 use Rattle.json_render.proofs.Grouping.{named, names_in, order-reorders}
@@ -124,7 +125,7 @@ pub items_by_groups : (es : List NamedPart) → place_items es ≡ star (prefix_
 items_by_groups es =
     one-level (prefix_paths es) (column_paths es)
     ∙ ap (λ ns. star (prefix_paths es) ++ flat_map (name_items (prefix_paths es) (column_paths es) items_here) ns) (order-reorders (names-reorder es))
-    ∙ ap (λ xs. star (prefix_paths es) ++ xs) (flat-same (name_items (prefix_paths es) (column_paths es) items_here) (λ n. group_items n (named n (next_parts es))) (items-same es) (in_byte_order (names_in (next_parts es))))
+    ∙ ap (λ xs. star (prefix_paths es) ++ xs) (flat_map-agree (name_items (prefix_paths es) (column_paths es) items_here) (λ n. group_items n (named n (next_parts es))) (items-same es) (in_byte_order (names_in (next_parts es))))
 
 -- ---- parts of one name
 
@@ -141,7 +142,7 @@ inside-some (e ∷ es) h l = something e.name e.rest e.part es (and_parts (goes_
 -- ---- the parts of a shape
 
 paths-joined : {X : Type 0} (f : NamedPart → Option X) (xs ys : List NamedPart) → filter_map f (xs ++ ys) ≡ filter_map f xs ++ filter_map f ys
-paths-joined f xs ys = filter_map-joined f xs ys
+paths-joined f xs ys = filter_map-append f xs ys
 
 -- one entry more
 pub prefixes-pushed : (old new : List Entry) (e : Entry) → new ≡ old ++ e ∷ [] → prefix_paths (named_parts new) ≡ prefix_paths (named_parts old) ++ prefix_paths (seen e ∷ [])

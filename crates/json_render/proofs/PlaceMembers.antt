@@ -1,13 +1,15 @@
 -- The members at a place are those of its parts, group by group.
-use Rattle.std.proofs.Common.{◌≡◌, ℕ, Bool, true, false, cond, not, List, [], ◌∷◌, ◌++◌, Option, Some, None, map, filter, flat_map, refl, sym, ◌∙◌, ap, subst, append_assoc}
-use Rattle.std.specs.Prelude.{find, filter_map, option_and_then, option_map, unwrap_or, if◌then◌else◌}
+use Rattle.std.proofs.Common.{◌≡◌, ℕ, Bool, true, false, cond, not, List, [], ◌∷◌, ◌++◌, Option, Some, None, map, flat_map, refl, sym, ◌∙◌, ap, subst, append_assoc}
+use Rattle.std.specs.Prelude.{find, option_and_then, option_map, unwrap_or, if◌then◌else◌}
 use Rattle.std.specs.List.{cons_option, enumerate_from}
 use Rattle.std.proofs.lemmas.List.{append-nil, map-append}
+use Rattle.std.proofs.lemmas.List.Elements.{filter-append, filter_map-append}
 use Rattle.edm_values.specs.Lists.{first_some, in_byte_order, same_text}
 use Rattle.edm_values.specs.Names.{Name, Path}
 use Rattle.edm_values.specs.declared.Value.{Value}
 use Rattle.edm_values.proofs.Reorderings.{Reorders, reorders-itself}
 use Rattle.edm_values.proofs.SearchFacts.{find-joined, find_map-append}
+use Rattle.edm_values.proofs.ListFacts.{flat_map-agree}
 use Rattle.edm_model.specs.LookUps.{type_of_set}
 use Rattle.edm_model.specs.Models.{EntityType, Property}
 use Rattle.edm_data.specs.Worlds.{World, Entity}
@@ -17,23 +19,8 @@ use Rattle.json_render.specs.Bodies.{Shown, after_segment, entity_properties, fu
 use Rattle.json_render.specs.Places.{NamedPart, goes_inside, inside_of, next_parts, part_on}
 use Rattle.json_render.specs.RowTexts.{bound_at, column_in, column_seen, columns_seen, ended_prefix, group_members, group_value, here_place, leaf_seen, members_here, parts_at, place_members, prefix_seen, prefixes_seen, property_part, property_parts, segment, set_parts, type_word}
 use Rattle.json_render.specs.declared.entries.Part.{Part}
-use Rattle.json_render.proofs.Depths.{flat-same, name_members, one-level, place_names}
+use Rattle.json_render.proofs.Depths.{name_members, one-level, place_names}
 use Rattle.json_render.proofs.Grouping.{named, names_in, order-reorders}
-use Rattle.json_render.proofs.KeptEntries.{cons-append}
-
--- ---- lists in two parts
-
-passed-joined : {X : Type 0} (b : Bool) (x : X) (xs ys zs : List X) → xs ≡ ys ++ zs → cond b (x ∷ xs) xs ≡ cond b (x ∷ ys) ys ++ zs
-passed-joined true x xs ys zs h = ap (λ us. x ∷ us) h
-passed-joined false x xs ys zs h = h
-
-filter-joined : {X : Type 0} (t : X → Bool) (xs ys : List X) → filter t (xs ++ ys) ≡ filter t xs ++ filter t ys
-filter-joined t [] ys = refl
-filter-joined t (x ∷ xs) ys = passed-joined (t x) x (filter t (xs ++ ys)) (filter t xs) (filter t ys) (filter-joined t xs ys)
-
-pub filter_map-joined : {X Y : Type 0} (f : X → Option Y) (xs ys : List X) → filter_map f (xs ++ ys) ≡ filter_map f xs ++ filter_map f ys
-filter_map-joined f [] ys = refl
-filter_map-joined f (x ∷ xs) ys = ap (cons_option (f x)) (filter_map-joined f xs ys) ∙ cons-append (f x) (filter_map f xs) (filter_map f ys)
 
 -- ---- what stands under a name
 
@@ -230,11 +217,11 @@ members-same w i es n =
     let qs = properties_of_place w i es in
     let ps = properties_here w (prefixes_seen i es) in
     let m = property-matches w i es in
-    let parts : named n (parts_at w i es) ≡ named n (next_parts es) ++ named n qs = filter-joined (λ e. same_text e.name n) (next_parts es) qs in
+    let parts : named n (parts_at w i es) ≡ named n (next_parts es) ++ named n qs = filter-append (λ e. same_text e.name n) (next_parts es) qs in
     let inner : inside_of (named n (parts_at w i es)) ≡ inside_of (named n (next_parts es)) =
-    ap inside_of parts ∙ filter-joined goes_inside (named n (next_parts es)) (named n qs) ∙ ap (λ xs. inside_of (named n (next_parts es)) ++ xs) (m.inside n) ∙ append-nil (inside_of (named n (next_parts es))) in
+    ap inside_of parts ∙ filter-append goes_inside (named n (next_parts es)) (named n qs) ∙ ap (λ xs. inside_of (named n (next_parts es)) ++ xs) (m.inside n) ∙ append-nil (inside_of (named n (next_parts es))) in
     let value : here (under n (columns_seen i es ++ ps)) ≡ group_value w i (named n (parts_at w i es)) =
-    ap here (filter_map-joined (λ x. option_map (λ rest. (rest, x.1)) (after_segment n x.0)) (columns_seen i es) ps) ∙ here-joined (under n (columns_seen i es)) (under n ps)
+    ap here (filter_map-append (λ x. option_map (λ rest. (rest, x.1)) (after_segment n x.0)) (columns_seen i es) ps) ∙ here-joined (under n (columns_seen i es)) (under n ps)
     ∙ (λ j. first_some (value-columns w i n es j) (m.values n j)) ∙ sym (find_map-append (λ e. leaf_seen w i e.part e.rest) (named n (next_parts es)) (named n qs)) ∙ ap (group_value w i) (sym parts) in
     let us : under n (prefixes_seen i es) ≡ prefixes_seen i (inside_of (named n (parts_at w i es))) = under-prefixes i n es ∙ ap (prefixes_seen i) (sym inner) in
     let vs : further (under n (columns_seen i es)) ≡ columns_seen i (inside_of (named n (parts_at w i es))) = under-columns i n es ∙ ap (columns_seen i) (sym inner) in
@@ -245,4 +232,4 @@ pub place_by_groups : (w : World) (i : Instance) (es : List NamedPart) → place
 place_by_groups w i es =
     one-level w (prefixes_seen i es) (columns_seen i es)
     ∙ (λ j. flat_map (name_members w (prefixes_seen i es) (columns_seen i es) (members_here w)) (names-same w i es j))
-    ∙ flat-same (name_members w (prefixes_seen i es) (columns_seen i es) (members_here w)) (λ n. group_members w i n (named n (parts_at w i es))) (members-same w i es) (in_byte_order (names_in (parts_at w i es)))
+    ∙ flat_map-agree (name_members w (prefixes_seen i es) (columns_seen i es) (members_here w)) (λ n. group_members w i n (named n (parts_at w i es))) (members-same w i es) (in_byte_order (names_in (parts_at w i es)))

@@ -12,11 +12,13 @@ use Rattle.json_render.specs.Places.{NamedPart, named_parts, seen}
 use Rattle.json_render.specs.RowTexts.{column_parts, column_path, prefix_parts, prefix_path, property_part, set_parts, shown_name}
 use Rattle.std.proofs.lemmas.List.{map-append, take_all}
 use Rattle.std.proofs.lemmas.Option.{get_or_from_slice_get, slice_get_within}
+use Rattle.std.proofs.lemmas.List.FromFn.{length-enumerate_from}
 use Rattle.edm_values.proofs.OptionFacts.{mapped, some_value}
+use Rattle.edm_values.proofs.ListFacts.{none-past}
 use Rattle.edm_model.specs.Models.{EntitySet, EntityType, Model, Part as Place, Property}
 use Rattle.edm_model.specs.LookUps.{IsSet, parts, properties_of, set_type, type_at}
 use Rattle.json_render.specs.declared.entries.TypeName.{TypeName}
-use Rattle.json_render.proofs.SlotLemmas.{length-parts, none-past, part-there}
+use Rattle.json_render.proofs.SlotLemmas.{length-parts, part-there}
 
 none-before : (n : ℕ) → 0 + n ≡ n
 none-before n = omega arith
@@ -79,10 +81,6 @@ enumerated j [] k x h = cc
 enumerated j (y ∷ xs) zero x h = let e : j ≡ j + 0 = omega arith in ap (λ n. Some (n, y)) e ∙ ap (λ z. Some (j + 0, z)) (some_value h)
 enumerated j (y ∷ xs) (suc k) x h = let e : j + 1 + k ≡ j + suc k = omega arith in enumerated (j + 1) xs k x h ∙ ap (λ n. Some (n, x)) e
 
-length-enumerated : {X : Type 0} (j : ℕ) (xs : List X) → length (enumerate_from j xs) ≡ length xs
-length-enumerated j [] = refl
-length-enumerated j (x ∷ xs) = ap suc (length-enumerated (j + 1) xs)
-
 pub more-property : (k : ℕ) (ps : List Property) (at : ℕ) (name : Name) (start : List NamedPart) (old new : List Entry) (e : Entry) → option_map (λ q. q.name) (slice_get ps at) ≡ Some name
     → new ≡ old ++ e ∷ [] → seen e ≡ record { name = name; rest = []; part = Part.Property k at } → named_parts old ≡ start ++ map (property_part k) (take at (enumerate_from 0 ps))
     → named_parts new ≡ start ++ map (property_part k) (take (at + 1) (enumerate_from 0 ps))
@@ -100,7 +98,7 @@ more-property k ps at name start old new e h p g r =
 pub all-properties : (m : Model) (k s at : ℕ) → IsSet m s → length (properties_of m (set_type m s)) ≤ at → map (property_part k) (take at (enumerate_from 0 (properties_of m (set_type m s)))) ≡ set_parts m k s
 all-properties m k s at h l =
     let ps = properties_of m (set_type m s) in
-    let long = length-enumerated 0 ps in
+    let long = length-enumerate_from 0 ps in
     ap (map (property_part k)) (take_all at (enumerate_from 0 ps) (omega arith)) ∙ go (slice_get m.sets s) refl
   where
     typed : (o : Option EntityType) → map (property_part k) (enumerate_from 0 (unwrap_or (option_map (λ e. e.properties) o) [])) ≡ unwrap_or (option_map (λ t. map (property_part k) (enumerate_from 0 t.properties)) o) []

@@ -2,6 +2,8 @@
 use Rattle.std.proofs.Common.{◌≡◌, ℕ, suc, ◌+◌, ◌<◌, Bool, true, false, List, [], ◌∷◌, ◌++◌, Option, Some, None, length, map, refl, sym, ◌∙◌, ap, arith, length-append}
 use Rattle.std.specs.Prelude.{slice_get, option_and_then, option_map, unwrap_or, if◌then◌else◌, reverse}
 use Rattle.std.proofs.lemmas.List.{append-nil}
+use Rattle.std.proofs.lemmas.List.Elements.{filter_map-append}
+use Rattle.std.proofs.lemmas.Simd.{map-map}
 use Rattle.edm_values.specs.declared.EdmType.{EdmType}
 use Rattle.edm_values.specs.declared.Value.{Value}
 use Rattle.edm_values.specs.Names.{Path}
@@ -13,11 +15,6 @@ use Rattle.json_render.specs.Bodies.{shown_columns, shown_type, type_text}
 use Rattle.json_render.specs.RowTexts.{SamePattern, bound_at, column_in, column_parts, column_path, column_seen, columns_seen, filled, members_here, place_members, prefix_parts, prefix_path, prefix_seen, prefix_set, prefixes_seen, row_parts, shown_name, template_text, type_name, type_word, unwritten_text}
 use Rattle.json_render.specs.declared.members.Unwritten.{Unwritten}
 use Rattle.json_render.specs.declared.templates.Template.{Template}
-use Rattle.json_render.proofs.PlaceMembers.{filter_map-joined}
-
-map-twice : {X Y Z : Type 0} (g : Y → Z) (f : X → Y) (xs : List X) → map g (map f xs) ≡ map (λ x. g (f x)) xs
-map-twice g f [] = refl
-map-twice g f (x ∷ xs) = ap (λ ys. g (f x) ∷ ys) (map-twice g f xs)
 
 -- the path of a prefix beside a set
 abbrev set_path : Path × Option ℕ → Path
@@ -26,7 +23,7 @@ set_path x = x.0
 -- rows of one pattern have the same parts
 same-row_parts : (s : Shape) (i j : Instance) → SamePattern i j → row_parts s i ≡ row_parts s j
 same-row_parts s i j h =
-    let paths : map prefix_path i.prefixes ≡ map prefix_path j.prefixes = sym (map-twice set_path prefix_set i.prefixes) ∙ ap (map set_path) h.prefixes ∙ map-twice set_path prefix_set j.prefixes in
+    let paths : map prefix_path i.prefixes ≡ map prefix_path j.prefixes = sym (map-map set_path prefix_set i.prefixes) ∙ ap (map set_path) h.prefixes ∙ map-map set_path prefix_set j.prefixes in
     λ k. prefix_parts 0 (paths k) ++ column_parts s 0 (h.columns k)
 
 -- ---- prefixes
@@ -85,9 +82,9 @@ row-members w s r i h =
     let ps = prefix_parts 0 (map prefix_path i.prefixes) in
     let cs = column_parts s 0 (map column_path i.columns) in
     let p : prefixes_seen i (ps ++ cs) ≡ i.prefixes =
-    filter_map-joined (λ e. prefix_seen i e.part e.rest) ps cs ∙ (λ l. prefix-rows i 0 i.prefixes (λ j. ap (slice_get i.prefixes) (sym (none-added [] j))) l ++ no-prefixes s i 0 (map column_path i.columns) l) ∙ append-nil i.prefixes in
+    filter_map-append (λ e. prefix_seen i e.part e.rest) ps cs ∙ (λ l. prefix-rows i 0 i.prefixes (λ j. ap (slice_get i.prefixes) (sym (none-added [] j))) l ++ no-prefixes s i 0 (map column_path i.columns) l) ∙ append-nil i.prefixes in
     let c : columns_seen i (ps ++ cs) ≡ shown_columns s i =
-    filter_map-joined (λ e. column_seen i e.part e.rest) ps cs ∙ (λ l. no-columns i 0 (map prefix_path i.prefixes) l ++ column-rows s i 0 i.columns (λ j. ap (slice_get i.columns) (sym (none-added [] j))) l) in
+    filter_map-append (λ e. column_seen i e.part e.rest) ps cs ∙ (λ l. no-columns i 0 (map prefix_path i.prefixes) l ++ column-rows s i 0 i.columns (λ j. ap (slice_get i.columns) (sym (none-added [] j))) l) in
     ap (place_members w i) (same-row_parts s r i h) ∙ (λ l. members_here w (p l) (c l))
 
 -- ---- what is left to be written grows shorter

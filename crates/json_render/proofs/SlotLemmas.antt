@@ -66,11 +66,6 @@ part-there t n k l =
     let long = length-places n in
     slice_get-map (part_of t) (places n) k ∙ ap (option_map (part_of t)) (slice_get-get_or (places n) k 0 (omega arith) ∙ ap Some (get_or-places n k 0 l))
 
-pub none-past : {X : Type 0} (xs : List X) (k : ℕ) → slice_get xs k ≡ None → length xs ≤ k
-none-past [] k h = omega arith
-none-past (x ∷ xs) zero h = none_or x (sym h)
-none-past (x ∷ xs) (suc k) h = let l = none-past xs k h in omega arith
-
 -- the place of a part among those of its type
 pub part-place : (t n k : ℕ) (p : Part) → slice_get (parts t n) k ≡ Some p → p.at ≡ k
 part-place t n k p h =

@@ -9,6 +9,7 @@ use Rattle.std.proofs.lemmas.Bool.{and_from}
 use Rattle.serde_json.specs.Data.{Data}
 use Rattle.edm_values.specs.Lists.{same_text, places}
 use Rattle.edm_values.proofs.SameTexts.{text-self}
+use Rattle.edm_values.proofs.PlaceFacts.{any-place}
 use Rattle.edm_schema.specs.JsonTrees as tree
 use Rattle.edm_schema.specs.JsonTrees.{lacks}
 use Rattle.edm_schema.specs.ModelTrees.{type_members, type_place, type_tree}
@@ -23,7 +24,6 @@ use Rattle.model_diagnosis.specs.declared.faults.Fault.TheVariants as whole
 use Rattle.model_diagnosis.specs.declared.faults.ReferenceTest.{ReferenceTest}
 use Rattle.model_diagnosis.specs.declared.faults.CollectionTest.{CollectionTest}
 use Rattle.model_diagnosis.specs.Faults.{some_at, SomeAt, type_name, IsTypeFault, IsFault, failed_reference, failed_collection, FailsReference, FailsCollection}
-use Rattle.model_diagnosis.proofs.Tests.{any_place}
 
 -- a test that one of what is searched passes
 pub any_seen : {X : Type 0} (f : X → tree.Member) (p : tree.Member → Bool) (items : List X) (ms : List tree.Member) (i : ℕ) (x : X) → map f items ≡ ms → i < length items → x ≡ get_or items i x → p (f x) ≡ true → list_any p ms ≡ true
@@ -64,7 +64,7 @@ as_many s h = sym (sym (length-mapped type_seen s.types.items) ∙ ap length h.t
 -- a test that a type passes at its place
 pub any_type : (s : Schema) → IsSchema s → (p : ℕ → Bool) (k : ℕ) (t : TypeTree) → t ≡ get_or s.types.items k t → k < length s.types.items → p k ≡ true → list_any (λ j. same_text (type_name (root_of s) j) t.name.now && p j) (places (length (type_members (root_of s)))) ≡ true
 any_type s h p k t is within passes =
-    any_place (λ j. same_text (type_name (root_of s) j) t.name.now && p j) (length (type_members (root_of s))) k
+    any-place (λ j. same_text (type_name (root_of s) j) t.name.now && p j) (length (type_members (root_of s))) k
     (subst (λ n. k < n) (sym (as_many s h)) within)
     (and_from (same_text (type_name (root_of s) k) t.name.now) (p k) (ap (λ n. same_text n t.name.now) (name_at s h k t is within) ∙ text-self t.name.now) passes)
 

@@ -1,14 +1,13 @@
 -- Tests of the elements of lists and options, and what one test says of another.
-use Rattle.std.proofs.Common.{◌≡◌, ℕ, zero, suc, ◌<◌, Bool, true, false, not, cond, List, [], ◌∷◌, Some, None, refl, sym, ◌∙◌, ap, arith, inl, inr}
-use Rattle.std.specs.Prelude.{◌&&◌, ◌||◌, Option, is_some, is_none, if◌then◌else◌, filter}
+use Rattle.std.proofs.Common.{◌≡◌, ℕ, zero, suc, ◌<◌, Bool, true, false, not, cond, List, [], ◌∷◌, Some, None, refl, sym, ◌∙◌, ap, arith}
+use Rattle.std.specs.Prelude.{◌&&◌, ◌||◌, Option, is_none, if◌then◌else◌, filter}
 use Rattle.std.specs.List.{Contains, list_all, list_any}
-use Rattle.std.proofs.Math.Bool.{and-true, or-true, or-false}
-use Rattle.std.proofs.lemmas.Bool.{false≢true, cases_lt, or_from, and_from}
-use Rattle.std.proofs.lemmas.List.Folds.{list_all-append, list_all_at, list_any-append}
+use Rattle.std.proofs.Math.Bool.{and-true}
+use Rattle.std.proofs.lemmas.Bool.{false≢true, or_from, and_from}
+use Rattle.std.proofs.lemmas.List.Folds.{list_all-append, list_all_at}
 use Rattle.edm_values.specs.Lists.{places, is_some_and}
-use Rattle.edm_schema.proofs.Counted.{all_places_at}
-use Rattle.edm_schema.proofs.Passing.{and_left, and_right}
 use Rattle.model_diagnosis.specs.Faults.{first_failed}
+use Rattle.edm_values.proofs.EachLemmas.{and-left, and-right}
 
 -- a conjunction fails where its second part fails under its first
 pub and_fails : (a b : Bool) → (a ≡ true → b ≡ false) → (a && b) ≡ false
@@ -51,27 +50,19 @@ passes_among p xs x all at = elim (p x) as (λ b. p x ≡ b → b ≡ true) [
 -- no element passes a test that another one, which all pass, refutes
 pub none_any : {X : Type 0} (p q : X → Bool) → ((x : X) → p x ≡ true → q x ≡ false) → (xs : List X) → list_all p xs ≡ true → list_any q xs ≡ false
 none_any p q h [] a = refl
-none_any p q h (x ∷ xs) a = or_from (q x) (list_any q xs) (h x (and_left (p x) (list_all p xs) a)) (none_any p q h xs (and_right (p x) (list_all p xs) a))
+none_any p q h (x ∷ xs) a = or_from (q x) (list_any q xs) (h x (and-left (p x) (list_all p xs) a)) (none_any p q h xs (and-right (p x) (list_all p xs) a))
 
 -- all elements pass a test that follows from one that all pass
 pub all_weaker : {X : Type 0} (p q : X → Bool) → ((x : X) → p x ≡ true → q x ≡ true) → (xs : List X) → list_all p xs ≡ true → list_all q xs ≡ true
 all_weaker p q h [] a = refl
-all_weaker p q h (x ∷ xs) a = and_from (q x) (list_all q xs) (h x (and_left (p x) (list_all p xs) a)) (all_weaker p q h xs (and_right (p x) (list_all p xs) a))
-
--- all elements pass two tests
-pub all_both : {X : Type 0} (p q : X → Bool) (xs : List X) → list_all p xs ≡ true → list_all q xs ≡ true → list_all (λ x. p x && q x) xs ≡ true
-all_both p q [] a b = refl
-all_both p q (x ∷ xs) a b =
-    and_from (p x && q x) (list_all (λ x. p x && q x) xs)
-    (and_from (p x) (q x) (and_left (p x) (list_all p xs) a) (and_left (q x) (list_all q xs) b))
-    (all_both p q xs (and_right (p x) (list_all p xs) a) (and_right (q x) (list_all q xs) b))
+all_weaker p q h (x ∷ xs) a = and_from (q x) (list_all q xs) (h x (and-left (p x) (list_all p xs) a)) (all_weaker p q h xs (and-right (p x) (list_all p xs) a))
 
 -- all elements pass a test that those pass that a filter leaves out, and those that it keeps
 pub all_filtered : {X : Type 0} (kept p : X → Bool) → ((x : X) → kept x ≡ false → p x ≡ true) → (xs : List X) → list_all p (filter kept xs) ≡ true → list_all p xs ≡ true
 all_filtered kept p h [] a = refl
 all_filtered kept p h (x ∷ xs) a =
     elim (kept x) as (λ b. kept x ≡ b → list_all p (cond b (x ∷ filter kept xs) (filter kept xs)) ≡ true → (p x && list_all p xs) ≡ true) [
-      | true ↦ λ e g. and_from (p x) (list_all p xs) (and_left (p x) (list_all p (filter kept xs)) g) (all_filtered kept p h xs (and_right (p x) (list_all p (filter kept xs)) g))
+      | true ↦ λ e g. and_from (p x) (list_all p xs) (and-left (p x) (list_all p (filter kept xs)) g) (all_filtered kept p h xs (and-right (p x) (list_all p (filter kept xs)) g))
       | false ↦ λ e g. and_from (p x) (list_all p xs) (h x e) (all_filtered kept p h xs g)
     ] refl a
 
@@ -82,26 +73,7 @@ all_places p (suc n) h =
     list_all-append p (places n) (n ∷ [])
     ∙ (ap (λ b. list_all p (places n) && b) (and-true (p n)) ∙ and_from (list_all p (places n)) (p n) (all_places p n (λ k below. h k (omega arith))) (h n (omega arith)))
 
--- so of each place, where all pass
-pub passes_place : (p : ℕ → Bool) (n k : ℕ) → list_all p (places n) ≡ true → k < n → p k ≡ true
-passes_place p n k h below = elim (p k) as (λ b. p k ≡ b → b ≡ true) [ true ↦ λ e. refl | false ↦ λ e. sym (all_places_at p n k below e) ∙ h ] refl
-
--- a place that passes
-pub any_place : (p : ℕ → Bool) (n k : ℕ) → k < n → p k ≡ true → list_any p (places n) ≡ true
-any_place p zero k h passes = absurd (omega arith)
-any_place p (suc n) k h passes =
-    let last = list_any-append p (places n) (n ∷ []) ∙ ap (λ b. list_any p (places n) || b) (or-false (p n)) in
-    elim (cases_lt k n) [
-      | inl below ↦ last ∙ ap (λ b. b || p n) (any_place p n k below passes)
-      | inr above ↦ (let here : k ≡ n = omega arith in last ∙ (ap (λ b. list_any p (places n) || b) (ap p (sym here) ∙ passes) ∙ or-true (list_any p (places n))))
-    ]
-
 -- ---- options
-
--- what passes is there
-pub passes_some : {X : Type 0} (p : X → Bool) (o : Option X) → is_some_and p o ≡ true → is_some o ≡ true
-passes_some p None h = absurd (false≢true h)
-passes_some p (Some x) h = refl
 
 pub passes_not_none : {X : Type 0} (p : X → Bool) (o : Option X) → is_some_and p o ≡ true → is_none o ≡ false
 passes_not_none p None h = absurd (false≢true h)
@@ -114,10 +86,10 @@ some_weaker p q h (Some x) a = h x a
 
 -- what passes two tests passes each
 pub passes_first : {X : Type 0} (p q : X → Bool) (o : Option X) → is_some_and (λ x. p x && q x) o ≡ true → is_some_and p o ≡ true
-passes_first p q = some_weaker (λ x. p x && q x) p (λ x a. and_left (p x) (q x) a)
+passes_first p q = some_weaker (λ x. p x && q x) p (λ x a. and-left (p x) (q x) a)
 
 pub passes_second : {X : Type 0} (p q : X → Bool) (o : Option X) → is_some_and (λ x. p x && q x) o ≡ true → is_some_and q o ≡ true
-passes_second p q = some_weaker (λ x. p x && q x) q (λ x a. and_right (p x) (q x) a)
+passes_second p q = some_weaker (λ x. p x && q x) q (λ x a. and-right (p x) (q x) a)
 
 -- of two tests the one that is chosen
 pub first_chosen : {X : Type 0} (b : Bool) (p q : X → Bool) (o : Option X) → is_some_and (λ x. if b then p x else q x) o ≡ true → b ≡ true → is_some_and p o ≡ true

@@ -15,6 +15,7 @@ use Rattle.std.proofs.lemmas.Fn.{always_returns_same}
 use Rattle.std.proofs.lemmas.Cmp.{on_total, then_total, back_total}
 use Rattle.std.proofs.lemmas.List.Folds.{list_any-append}
 use Rattle.std.proofs.lemmas.List.Sorted.{ranks_by}
+use Rattle.std.proofs.Math.Bool.{or-true}
 use Rattle.edm_data.specs.Worlds.{World}
 use Rattle.edm_values.specs.declared.Value.{Value}
 use Rattle.edm_values.specs.Lists.{sorted}
@@ -76,10 +77,6 @@ any-or p q (x ∷ xs) = go (p x) (q x) (any-or p q xs)
     go true b e = refl
     go false false e = e
     go false true e = sym (or-true (list_any p xs))
-      where
-        or-true : (a : Bool) → (a || true) ≡ true
-        or-true true = refl
-        or-true false = refl
 
 any-none : {X : Type 0} (xs : List X) → list_any (λ x. false) xs ≡ false
 any-none [] = refl

@@ -10,16 +10,15 @@ use Rattle.std.specs.declared.cmp.Ordering.TheVariants.{Less, Equal, Greater}
 use Rattle.std.proofs.lemmas.Bool.{true≢false, cases_eq}
 use Rattle.std.proofs.lemmas.List.{drop_all, get_or_default, length-set}
 use Rattle.std.proofs.lemmas.List.Sorted.{sorted_far}
-use Rattle.std.proofs.lemmas.List.Sums.{length-filter, sum_by-cons}
+use Rattle.std.proofs.lemmas.List.Sums.{length-filter}
 use Rattle.edm_data.specs.Worlds.{World}
-use Rattle.apply_meaning.specs.LookUps.{HierarchyPlace}
 use Rattle.edm_values.proofs.EachLemmas.{Each, each-at}
 use Rattle.edm_values.proofs.Reorderings.{Reorders, each-reorders, length-reorders, reorders-back, reorders-filter}
-use Rattle.edm_values.proofs.SortLaws.{stable_sort_is_sorted}
+use Rattle.edm_values.proofs.SortLaws.{stable_sort_is_sorted, count_cons}
 use Rattle.edm_values.proofs.SortedLists.{reorders-sorted}
 use Rattle.apply_ast.specs.Trees.{OrderItem}
-use Rattle.apply_meaning.specs.Instances.{Instance, rows}
-use Rattle.apply_meaning.specs.Meaning.{node_ranks, order_before, order_values, refused_at_beyond}
+use Rattle.apply_meaning.specs.Instances.{Instance}
+use Rattle.apply_meaning.specs.Meaning.{order_before, order_values, refused_at_beyond}
 use Rattle.apply_meaning.specs.declared.refusals.RunRefused.{RunRefused}
 use Rattle.apply_meaning.specs.declared.refusals.RunRefused.TheVariants.{Range, Memory}
 use Rattle.row_orders.specs.Orders.{RankedPlace, before, item_values, values_cmp}
@@ -28,9 +27,6 @@ use Rattle.row_orders.proofs.OrderLemmas.{before-order, beyond-values, values-be
 
 -- ---- counts
 
-count-cons : {X : Type 0} (p : X → Bool) (x : X) (xs : List X) → count_by p (x ∷ xs) ≡ cond (p x) 1 0 + count_by p xs
-count-cons p x xs = sum_by-cons (λ y. cond (p y) 1 0) x xs
-
 -- where exactly the first k pass, k is the count
 counted-front : {X : Type 0} (p : X → Bool) (ys : List X) (k : ℕ) → k ≤ length ys → ((j : ℕ) (d : X) → j < k → p (get_or ys j d) ≡ true)
     → ((j : ℕ) (d : X) → k ≤ j → j < length ys → p (get_or ys j d) ≡ false) → count_by p ys ≡ k
@@ -38,10 +34,10 @@ counted-front p [] zero h front rest = refl
 counted-front p [] (suc k) h front rest = absurd (omega (arith, h))
 counted-front p (y ∷ ys) zero h front rest =
     let e = counted-front p ys zero (omega arith) (λ j d l. absurd (omega (arith, l))) (λ j d l m. rest (suc j) d (omega arith) (omega (arith, m))) in
-    count-cons p y ys ∙ ap (λ b. cond b 1 0 + count_by p ys) (rest 0 y (omega arith) (omega arith)) ∙ omega (arith, e)
+    count_cons p y ys ∙ ap (λ b. cond b 1 0 + count_by p ys) (rest 0 y (omega arith) (omega arith)) ∙ omega (arith, e)
 counted-front p (y ∷ ys) (suc k) h front rest =
     let e = counted-front p ys k (omega (arith, h)) (λ j d l. front (suc j) d (omega (arith, l))) (λ j d l m. rest (suc j) d (omega (arith, l)) (omega (arith, m))) in
-    count-cons p y ys ∙ ap (λ b. cond b 1 0 + count_by p ys) (front 0 y (omega arith)) ∙ omega (arith, e)
+    count_cons p y ys ∙ ap (λ b. cond b 1 0 + count_by p ys) (front 0 y (omega arith)) ∙ omega (arith, e)
 
 count-same : {X : Type 0} (p q : X → Bool) (xs : List X) → ((x : X) → p x ≡ q x) → count_by p xs ≡ count_by q xs
 count-same p q xs h = λ i. count_by (λ x. h x i) xs
@@ -201,9 +197,9 @@ module _ (w : World) (xs : List OrderItem) where
   placed-rank : (n m : ℕ) (l : List Instance) (i : Instance) → rank_in (before xs) (placed_from w xs n l) (item_values w xs i, m) ≡ count_by (λ j. order_before w xs j i) l
   placed-rank n m [] i = refl
   placed-rank n m (j ∷ l) i =
-      count-cons (λ (y : RankedPlace). before xs y (item_values w xs i, m)) (item_values w xs j, n) (placed_from w xs (suc n) l)
+      count_cons (λ (y : RankedPlace). before xs y (item_values w xs i, m)) (item_values w xs j, n) (placed_from w xs (suc n) l)
       ∙ (λ t. cond (sym (values-before w xs j i) t) 1 0 + placed-rank (suc n) m l i t)
-      ∙ sym (count-cons (λ q. order_before w xs q i) j l)
+      ∙ sym (count_cons (λ q. order_before w xs q i) j l)
 
   -- ranks that stand at their places are a list
   listed : (f : Instance → ℕ) (g : RankedPlace → ℕ) → ((i : Instance) (n : ℕ) → g (item_values w xs i, n) ≡ f i) → (rs : List ℕ) (n : ℕ) (l : List Instance) → length rs ≡ n + length l

@@ -1,5 +1,7 @@
 -- The generated file is read as the generated world.
-use Rattle.std.proofs.Common.{◌≡◌, ℕ, zero, suc, ◌+◌, ◌/◌, ◌%◌, ◌<◌, ◌≤◌, ◌^◌, true, false, ◌||◌, List, [], ◌∷◌, length, map, refl, sym, ◌∙◌, ap, arith, codes, pos, Some, None}
+use Rattle.std.proofs.Common.{◌≡◌, ℕ, zero, suc, ◌+◌, ◌/◌, ◌<◌, ◌≤◌, ◌^◌, true, false, ◌||◌, List, [], ◌∷◌, length, map, refl, sym, ◌∙◌, ap, arith, codes, pos, Some, None}
+use Rattle.std.proofs.lemmas.Nat.{mod_below}
+use Rattle.std.proofs.lemmas.Simd.{map-map}
 use Rattle.std.specs.Prelude.{is_none, slice_get, unwrap_or, Option, if◌then◌else◌, ◌==◌, ◌-◌}
 use Rattle.serde_json.specs.Data.{Data, depth, items_depth, string}
 use Rattle.serde_json.specs.View.{items_of}
@@ -7,17 +9,18 @@ use Rattle.serde_json.specs.Written.{has_float, items_have_float}
 use Rattle.edm_values.specs.declared.Value.{Value}
 use Rattle.edm_values.specs.Lists.{places}
 use Rattle.edm_values.specs.Values.{dec}
-use Rattle.edm_model.proofs.Mapped.{map_mapped}
-use Rattle.edm_model.specs.JsonTrees.{item_list, object_of, array_of}
+use Rattle.edm_model.specs.JsonTrees.{object_of, array_of}
 use Rattle.edm_model.specs.LookUps.{properties_of}
 use Rattle.edm_model.specs.SampleModel.{sample_model}
 use Rattle.edm_data.specs.DataFile.{World', Shape, unless_found, with_world, entity_of, is_no_entity, rows_reading, entities_in_tree, keys_reading, references_reading, data_tree_reading}
 use Rattle.sample_data.specs.Generator.{customer_count, org_count, drawn, amount, buyer, seller, customer, customer_tree, org, org_name, org_tree, sale, sale_tree, generated_tree, generated_world}
 use Rattle.edm_data.proofs.FirstPlaces.{size_at, find-all_places_none}
-use Rattle.sample_data.proofs.PlaceLists.{made_same}
+use Rattle.edm_data.proofs.ShapeLemmas.{item_list-of}
+use Rattle.edm_data.proofs.TreeLemmas.{values_of_rows}
 use Rattle.sample_data.proofs.EntityTrees.{customer_read, org_read, sale_read}
 use Rattle.sample_data.proofs.WorldKeys.{keys_accepted}
 use Rattle.sample_data.proofs.WorldReferences.{references_accepted}
+use Rattle.edm_values.proofs.PlaceFacts.{map-agree_places}
 
 -- ---- the entities that the file lists
 
@@ -29,12 +32,8 @@ tree_of customers orgs sales = object_of ((codes "Customers", array_of customers
 abbrev tree_rows : List Data → List Data → List Data → List (List (Option (List Value)))
 tree_rows customers orgs sales = map (entity_of (properties_of sample_model 0)) customers ∷ map (entity_of (properties_of sample_model 1)) orgs ∷ map (entity_of (properties_of sample_model 2)) sales ∷ []
 
-items_listed : (ds : List Data) → item_list (items_of ds) ≡ ds
-items_listed [] = refl
-items_listed (d ∷ ds) = ap (λ l. d ∷ l) (items_listed ds)
-
 tree_entities : (customers orgs sales : List Data) → entities_in_tree sample_model (tree_of customers orgs sales) ≡ rows_reading sample_model (tree_rows customers orgs sales)
-tree_entities customers orgs sales = λ i. rows_reading sample_model (tree_rows (items_listed customers i) (items_listed orgs i) (items_listed sales i))
+tree_entities customers orgs sales = λ i. rows_reading sample_model (tree_rows (item_list-of customers i) (item_list-of orgs i) (item_list-of sales i))
 
 -- ---- items that are entities
 
@@ -43,15 +42,11 @@ held [] q h = absurd (omega arith)
 held (x ∷ xs) zero h = refl
 held (x ∷ xs) (suc q) h = held xs q (omega arith)
 
-values : (xs : List (List Value)) → map (λ o. unwrap_or o []) (map Some xs) ≡ xs
-values [] = refl
-values (x ∷ xs) = ap (λ l. x ∷ l) (values xs)
-
 rows_held : (a b c : List (List Value)) → rows_reading sample_model (map Some a ∷ map Some b ∷ map Some c ∷ []) ≡ World' (record { model = sample_model; entities = a ∷ b ∷ c ∷ [] })
 rows_held a b c =
     let rows = map Some a ∷ map Some b ∷ map Some c ∷ [] in
     ap (λ o. unless_found o Shape (World' (record { model = sample_model; entities = map (map (λ o. unwrap_or o [])) rows }))) (find-all_places_none (is_no_entity rows) rows none)
-    ∙ (λ i. World' (record { model = sample_model; entities = values a i ∷ values b i ∷ values c i ∷ [] }))
+    ∙ (λ i. World' (record { model = sample_model; entities = values_of_rows a i ∷ values_of_rows b i ∷ values_of_rows c i ∷ [] }))
   where
     none : (s q : ℕ) → q < size_at (map Some a ∷ map Some b ∷ map Some c ∷ []) s → is_no_entity (map Some a ∷ map Some b ∷ map Some c ∷ []) (record { set = s; at = q }) ≡ false
     none zero q h = held a q h
@@ -62,7 +57,7 @@ rows_held a b c =
 -- ---- the whole
 
 read_each : (f : Data → Option (List Value)) (tree : ℕ → Data) (row : ℕ → List Value) (n : ℕ) → ((k : ℕ) → k < n → f (tree k) ≡ Some (row k)) → map f (map tree (places n)) ≡ map Some (map row (places n))
-read_each f tree row n h = map_mapped f tree (places n) ∙ made_same (λ k. f (tree k)) (λ k. Some (row k)) n h ∙ sym (map_mapped Some row (places n))
+read_each f tree row n h = map-map f tree (places n) ∙ map-agree_places (λ k. f (tree k)) (λ k. Some (row k)) n h ∙ sym (map-map Some row (places n))
 
 -- a file of so many customers, organisations and sales
 made_world : (c g n : ℕ) (trees : ℕ → Data) (rows : ℕ → List Value) → ((k : ℕ) → k < n → entity_of (properties_of sample_model 2) (trees k) ≡ Some (rows k))
@@ -72,15 +67,12 @@ made_world c g n trees rows h =
     ∙ (λ i. rows_reading sample_model (read_each (entity_of (properties_of sample_model 0)) customer_tree customer c (λ k less. customer_read k) i ∷ read_each (entity_of (properties_of sample_model 1)) org_tree org g (λ k less. org_read k) i ∷ read_each (entity_of (properties_of sample_model 2)) trees rows n h i ∷ []))
     ∙ rows_held (map customer (places c)) (map org (places g)) (map rows (places n))
 
-rest_below : (x m : ℕ) → 0 < m → x % m < m
-rest_below x m h = omega arith
-
 -- the generated file is a data file of the generated world
 pub generated_is_read : (n : ℕ) → n < 2 ^ 63 → data_tree_reading sample_model (generated_tree n) ≡ World' (generated_world n)
 generated_is_read n few =
-    let world = made_world customer_count (org_count n) n (λ k. sale_tree n (k + 1)) (λ k. sale n (k + 1)) (λ k less. sale_read n (k + 1) (rest_below (drawn (k + 1)) 10000 (omega arith)) (omega arith)) in
+    let world = made_world customer_count (org_count n) n (λ k. sale_tree n (k + 1)) (λ k. sale n (k + 1)) (λ k less. sale_read n (k + 1) (mod_below (drawn (k + 1)) 10000 (omega arith)) (omega arith)) in
     let keys = keys_accepted customer_count (org_count n) n (λ k. dec (pos (amount (k + 1))) 2) (λ k. buyer (k + 1)) (λ k. seller n (k + 1)) (omega arith) (omega arith) in
-    let references = references_accepted customer_count (org_count n) n (λ k. dec (pos (amount (k + 1))) 2) (λ k. buyer (k + 1)) (λ k. seller n (k + 1)) (λ k less. rest_below (drawn (k + 1) / 65536) customer_count (omega arith)) (λ k less. rest_below (drawn (k + 1) / 1024) (org_count n) (omega arith)) in
+    let references = references_accepted customer_count (org_count n) n (λ k. dec (pos (amount (k + 1))) 2) (λ k. buyer (k + 1)) (λ k. seller n (k + 1)) (λ k less. mod_below (drawn (k + 1) / 65536) customer_count (omega arith)) (λ k less. mod_below (drawn (k + 1) / 1024) (org_count n) (omega arith)) in
     ap (λ r. with_world (with_world r keys_reading) references_reading) world ∙ ap (λ r. with_world r references_reading) keys ∙ references
 
 -- ---- its depth

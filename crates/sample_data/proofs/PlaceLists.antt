@@ -1,5 +1,5 @@
 -- Lists that a function makes of the places of a list.
-use Rattle.std.proofs.Common.{◌≡◌, ℕ, zero, suc, ◌+◌, ◌<◌, ◌≤◌, Bool, true, false, ◌||◌, cond, List, [], ◌∷◌, ◌++◌, length, map, take, refl, sym, ◌∙◌, ap, arith, inl, inr, Some}
+use Rattle.std.proofs.Common.{◌≡◌, ℕ, zero, suc, ◌+◌, ◌<◌, ◌≤◌, Bool, true, false, ◌||◌, cond, List, [], ◌∷◌, length, map, take, refl, sym, ◌∙◌, ap, arith, inl, inr, Some}
 use Rattle.std.specs.Prelude.{position, is_none, slice_get, unwrap_or}
 use Rattle.std.specs.List.{list_any, position_from}
 use Rattle.std.proofs.lemmas.List.{map-append, length-map, take-append-le}
@@ -18,12 +18,6 @@ made_length f n = length-map (places n) f ∙ length-places n
 -- what stands at a place
 pub made_at : {X : Type 0} (f : ℕ → X) (d : X) (n k : ℕ) → k < n → unwrap_or (slice_get (map f (places n)) k) d ≡ f k
 made_at f d n k h = ap (λ o. unwrap_or o d) (mapped_place f n k h)
-
--- two functions that agree make one list
-pub made_same : {X : Type 0} (f g : ℕ → X) (n : ℕ) → ((k : ℕ) → k < n → f k ≡ g k) → map f (places n) ≡ map g (places n)
-made_same f g zero h = refl
-made_same f g (suc n) h =
-    map-append f (places n) (n ∷ []) ∙ (λ i. made_same f g n (λ k less. h k (omega arith)) i ++ h n (omega arith) i ∷ []) ∙ sym (map-append g (places n) (n ∷ []))
 
 -- the front of what is made
 pub made_front : {X : Type 0} (f : ℕ → X) (q n : ℕ) → q ≤ n → take q (map f (places n)) ≡ map f (places q)

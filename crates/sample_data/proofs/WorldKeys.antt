@@ -4,11 +4,11 @@ use Rattle.std.specs.Prelude.{slice_get, unwrap_or}
 use Rattle.std.specs.List.{list_any}
 use Rattle.std.proofs.lemmas.Bool.{cases_Bool}
 use Rattle.std.proofs.lemmas.Fmt.{decimal_injective}
+use Rattle.std.proofs.lemmas.Simd.{map-map}
 use Rattle.edm_values.specs.declared.Value.{Value}
 use Rattle.edm_values.specs.Lists.{places}
 use Rattle.edm_values.specs.Values.{same_value, value_in}
 use Rattle.edm_values.specs.OrderLaws.{same_value_is}
-use Rattle.edm_model.proofs.Mapped.{map_mapped}
 use Rattle.edm_model.specs.SampleModel.{sample_model}
 use Rattle.edm_data.specs.Worlds.{World}
 use Rattle.edm_data.specs.DataFile.{World', TwiceKey, unless_found, has_earlier_key, keys_reading}
@@ -45,7 +45,7 @@ numbers_differ i j less e =
 no_earlier : (f : ℕ → List Value) (p m q : ℕ) → q < m → ((j : ℕ) → j < q → value_in (f q) p ≡ value_in (f j) p → ⊥)
     → list_any (same_value (value_in (unwrap_or (slice_get (map f (places m)) q) []) p)) (take q (map (λ vs. value_in vs p) (map f (places m)))) ≡ false
 no_earlier f p m q h apart =
-    (λ i. list_any (same_value (value_in (made_at f [] m q h i) p)) (take q (map_mapped (λ vs. value_in vs p) f (places m) i)))
+    (λ i. list_any (same_value (value_in (made_at f [] m q h i) p)) (take q (map-map (λ vs. value_in vs p) f (places m) i)))
     ∙ ap (list_any (same_value (value_in (f q) p))) (made_front (λ k. value_in (f k) p) q m (omega arith))
     ∙ none_made (same_value (value_in (f q) p)) (λ k. value_in (f k) p) q (λ j less. differ (value_in (f q) p) (value_in (f j) p) (apart j less))
 

@@ -2,11 +2,11 @@
 use Rattle.std.proofs.Common.{◌≡◌, ℕ, zero, suc, ◌-◌, ◌/◌, ◌<◌, ◌==◌, Bool, true, false, not, ◌&&◌, ◌||◌, List, [], map, refl, ◌∙◌, ap, arith, Some, None, inl, inr}
 use Rattle.std.specs.Prelude.{if◌then◌else◌, position, is_none, option_map, Option}
 use Rattle.std.proofs.lemmas.Bool.{cases_Bool, eqb-false}
+use Rattle.std.proofs.lemmas.Simd.{map-map}
 use Rattle.edm_values.specs.declared.Value.{Value}
 use Rattle.edm_values.specs.Lists.{places}
 use Rattle.edm_values.specs.Values.{is_null, same_value, value_in}
 use Rattle.edm_values.specs.OrderLaws.{same_value_itself}
-use Rattle.edm_model.proofs.Mapped.{map_mapped}
 use Rattle.edm_data.specs.Worlds.{entity_at}
 use Rattle.edm_data.specs.DataFile.{World', Dangling, unless_found, is_dangling, references_reading}
 use Rattle.sample_data.specs.Generator.{customer, customer_name, org, org_name}
@@ -30,7 +30,7 @@ mapped_some f (Some x) h = refl
 found : (f : ℕ → List Value) (p m k set : ℕ) (t : List ℕ) → k < m → value_in (f k) p ≡ Value.Text t → is_lost set (keys f p m) (Value.Text t) ≡ false
 found f p m k set t h is =
     let passes : same_value (Value.Text t) (value_in (f k) p) ≡ true = ap (same_value (Value.Text t)) is ∙ same_value_itself (Value.Text t) in
-    mapped_some (entity_at set) (position (same_value (Value.Text t)) (keys f p m)) (ap (λ ks. is_none (position (same_value (Value.Text t)) ks)) (map_mapped (λ vs. value_in vs p) f (places m)) ∙ found_made (same_value (Value.Text t)) (λ j. value_in (f j) p) m k h passes)
+    mapped_some (entity_at set) (position (same_value (Value.Text t)) (keys f p m)) (ap (λ ks. is_none (position (same_value (Value.Text t)) ks)) (map-map (λ vs. value_in vs p) f (places m)) ∙ found_made (same_value (Value.Text t)) (λ j. value_in (f j) p) m k h passes)
 
 parent_found : (g q : ℕ) → q < g → is_lost 1 (keys org 0 g) (value_in (org q) 1) ≡ false
 parent_found g q h = elim (cases_Bool (q == 0)) as (λ b. is_lost 1 (keys org 0 g) (value_in (org q) 1) ≡ false) [

@@ -7,7 +7,8 @@ use Rattle.std.specs.Ordering.{int_cmp, is_ge}
 use Rattle.std.proofs.lemmas.Int.{ints, by_lt_z}
 use Rattle.std.proofs.lemmas.Nat.{div-add-mod', mod_below, mul-le}
 use Rattle.std.proofs.Math.Nat.{div-le_self, div-mul-le_self}
-use Rattle.std.proofs.Math.IntN.{*ℤ_comm, *ℤ-zero, zero-*ℤ, suc_ℤ-*ℤ, pos-*ℤ-pos, negsuc-*ℤ-pos}
+use Rattle.std.proofs.Math.IntN.{*ℤ_comm, *ℤ-zero, zero-*ℤ, pos-*ℤ-pos, negsuc-*ℤ-pos}
+use Rattle.edm_values.proofs.ValueOrders.{times-suc, plus-times}
 
 -- ---- tests of whole numbers
 
@@ -29,20 +30,10 @@ ge_is a b = go (int_lt a b) (int_lt b a) refl refl
 
 -- ---- products
 
-times_suc : (z : ℤ) (n : ℕ) → z *ℤ pos (suc n) ≡ z *ℤ pos n +ℤ z
-times_suc z n = *ℤ_comm z (pos (suc n)) ∙ suc_ℤ-*ℤ (pos n) z ∙ ap (λ k. k +ℤ z) (*ℤ_comm (pos n) z)
-
-pub plus_times : (x y : ℤ) (n : ℕ) → (x +ℤ y) *ℤ pos n ≡ x *ℤ pos n +ℤ y *ℤ pos n
-plus_times x y zero = *ℤ-zero (x +ℤ y) ∙ sym (λ i. *ℤ-zero x i +ℤ *ℤ-zero y i)
-plus_times x y (suc n) = times_suc (x +ℤ y) n ∙ ap (λ k. k +ℤ (x +ℤ y)) (plus_times x y n) ∙ four (x *ℤ pos n) (y *ℤ pos n) x y ∙ sym (λ i. times_suc x n i +ℤ times_suc y n i)
-  where
-    four : (a b x y : ℤ) → a +ℤ b +ℤ (x +ℤ y) ≡ a +ℤ x +ℤ (b +ℤ y)
-    four a b x y = omega (arith, ints)
-
 pub times_swapped : (z : ℤ) (m n : ℕ) → z *ℤ pos m *ℤ pos n ≡ z *ℤ pos n *ℤ pos m
 times_swapped z m zero = *ℤ-zero (z *ℤ pos m) ∙ sym (ap (λ k. k *ℤ pos m) (*ℤ-zero z) ∙ zero-*ℤ (pos m))
 times_swapped z m (suc n) =
-    times_suc (z *ℤ pos m) n ∙ ap (λ k. k +ℤ z *ℤ pos m) (times_swapped z m n) ∙ sym (plus_times (z *ℤ pos n) z m) ∙ ap (λ k. k *ℤ pos m) (sym (times_suc z n))
+    times-suc (z *ℤ pos m) n ∙ ap (λ k. k +ℤ z *ℤ pos m) (times_swapped z m n) ∙ sym (plus-times (z *ℤ pos n) z m) ∙ ap (λ k. k *ℤ pos m) (sym (times-suc z n))
 
 -- how far a number is above another
 apart : (x y : ℤ) → x ≤ℤ y → (d : ℕ) × (y ≡ x +ℤ pos d)
@@ -55,7 +46,7 @@ apart x y h = go (y -ℤ x) refl
 times_mono : (x y : ℤ) (n : ℕ) → x ≤ℤ y → (x *ℤ pos n) ≤ℤ (y *ℤ pos n)
 times_mono x y n h =
     let t = apart x y h in
-    let e = ap (λ z. z *ℤ pos n) t.1 ∙ plus_times x (pos t.0) n ∙ ap (λ z. x *ℤ pos n +ℤ z) (pos-*ℤ-pos t.0 n) in
+    let e = ap (λ z. z *ℤ pos n) t.1 ∙ plus-times x (pos t.0) n ∙ ap (λ z. x *ℤ pos n +ℤ z) (pos-*ℤ-pos t.0 n) in
     omega (arith, ints, e)
 
 times_less : (x y : ℤ) (n : ℕ) → x <ℤ y → (x *ℤ pos n +ℤ pos n) ≤ℤ (y *ℤ pos n)
@@ -63,7 +54,7 @@ times_less x y n h =
     let up : (x +ℤ pos 1) ≤ℤ y = omega (arith, ints) in
     let more = times_mono (x +ℤ pos 1) y n up in
     let one : 1 * n ≡ n = omega arith in
-    let e = plus_times x (pos 1) n ∙ ap (λ z. x *ℤ pos n +ℤ z) (pos-*ℤ-pos 1 n ∙ ap pos one) in
+    let e = plus-times x (pos 1) n ∙ ap (λ z. x *ℤ pos n +ℤ z) (pos-*ℤ-pos 1 n ∙ ap pos one) in
     omega (arith, ints, e, more)
 
 -- ---- quotients
@@ -155,10 +146,10 @@ pub hundredths : (p : ℕ) (a q r u : ℤ) → q *ℤ pos 100 +ℤ r ≡ a → (
 hundredths p a q r u e f x =
     let y = x -ℤ pos p *ℤ q in
     let whole : pos p *ℤ a ≡ pos p *ℤ q *ℤ pos 100 +ℤ pos p *ℤ r =
-    ap (λ z. pos p *ℤ z) (sym e) ∙ *ℤ_comm (pos p) (q *ℤ pos 100 +ℤ r) ∙ plus_times (q *ℤ pos 100) r p
+    ap (λ z. pos p *ℤ z) (sym e) ∙ *ℤ_comm (pos p) (q *ℤ pos 100 +ℤ r) ∙ plus-times (q *ℤ pos 100) r p
     ∙ (λ i. (times_swapped q 100 p ∙ ap (λ z. z *ℤ pos 100) (*ℤ_comm q (pos p))) i +ℤ *ℤ_comm r (pos p) i) in
     let back : y +ℤ pos p *ℤ q ≡ x = linear x (pos p *ℤ q) in
-    let parts : pos 100 *ℤ x ≡ y *ℤ pos 100 +ℤ pos p *ℤ q *ℤ pos 100 = *ℤ_comm (pos 100) x ∙ ap (λ z. z *ℤ pos 100) (sym back) ∙ plus_times y (pos p *ℤ q) 100 in
+    let parts : pos 100 *ℤ x ≡ y *ℤ pos 100 +ℤ pos p *ℤ q *ℤ pos 100 = *ℤ_comm (pos 100) x ∙ ap (λ z. z *ℤ pos 100) (sym back) ∙ plus-times y (pos p *ℤ q) 100 in
     shifted (pos p *ℤ a) (pos 100 *ℤ x) (pos p *ℤ r) (y *ℤ pos 100) (pos p *ℤ q *ℤ pos 100) whole parts
     ∙ f y
     ∙ le_same u y (pos p *ℤ q +ℤ u) x (λ g. under u x (pos p *ℤ q) g) (λ g. over u x (pos p *ℤ q) g)

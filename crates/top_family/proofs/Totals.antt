@@ -1,5 +1,5 @@
 -- The total of numbers of one scale, as the sum of their mantissas, and what is compared with it.
-use Rattle.std.proofs.Common.{◌≡◌, ℕ, ◌+◌, ◌-◌, ◌^◌, ◌<◌, cond, get_or, length, take, max, Bool, true, false, List, [], ◌∷◌, ◌++◌, fold, ℤ, pos, ◌+ℤ◌, ◌*ℤ◌, Some, refl, ap, sym, ◌∙◌, subst, arith, eqb-true, inl, inr}
+use Rattle.std.proofs.Common.{◌≡◌, ℕ, ◌+◌, ◌-◌, ◌^◌, ◌<◌, cond, get_or, length, take, Bool, true, false, List, [], ◌∷◌, ◌++◌, fold, ℤ, pos, ◌+ℤ◌, ◌*ℤ◌, Some, refl, ap, sym, ◌∙◌, subst, arith, eqb-true, inl, inr}
 use Rattle.std.specs.Prelude.{int_le, nat_eq, slice_get, find, ◌⊎◌}
 use Rattle.std.specs.Option.{option_map, unwrap_or}
 use Rattle.std.specs.List.{list_all}
@@ -7,10 +7,8 @@ use Rattle.std.specs.Ordering.{int_cmp, is_ge}
 use Rattle.std.specs.declared.cmp.Ordering.TheVariants.{Equal}
 use Rattle.std.proofs.lemmas.Bool.{true≢false, and_parts}
 use Rattle.std.proofs.lemmas.Cmp.{alike_right, tied_itself}
-use Rattle.std.proofs.lemmas.Int.{ints}
 use Rattle.std.proofs.lemmas.List.{map_more}
 use Rattle.std.proofs.Math.IntN.{*ℤ-zero, zero-*ℤ}
-use Rattle.std.proofs.Math.Nat.{sub_self, zero-max}
 use Rattle.edm_values.specs.declared.EdmType.{EdmType}
 use Rattle.edm_values.specs.declared.Seen.{Seen}
 use Rattle.edm_values.specs.declared.Value.{Value}
@@ -19,6 +17,7 @@ use Rattle.edm_values.specs.Literals.{AreNumbers, is_number_kind, is_of_kind}
 use Rattle.edm_values.specs.OrderLaws.{number_cmp_total, same_scale_cmp}
 use Rattle.edm_values.specs.Values.{Number, is_number, number_cmp, number_of, number_part, number_plus, number_times, reaches_percent, reaches_sum, seen_value, total}
 use Rattle.edm_values.proofs.ListFacts.{all-at, all-each, all-filter_map}
+use Rattle.edm_values.proofs.NumberLaws.{number_plus-same, number_plus-zero, plus_nothing}
 use Rattle.top_family.proofs.Quotients.{ge_is}
 use Rattle.top_family.specs.Selections.{seen_values}
 use Rattle.top_family.specs.Thresholds.{is_reached, mantissas, scale_in}
@@ -82,31 +81,14 @@ plus_value a v = unwrap_or (option_map (number_plus a) (number_of v)) a
 abbrev plus_mantissa : ℤ → Value → ℤ
 plus_mantissa a v = a +ℤ (number_part v).0
 
-own_scale : (z : ℤ) (s : ℕ) → z *ℤ pos (10 ^ (s - s)) ≡ z
-own_scale z s = ap (λ k. z *ℤ pos (10 ^ k)) (sub_self s) ∙ omega (arith, ints)
-
-max-same : (s : ℕ) → max s s ≡ s
-max-same s = omega arith
-
-plus-same : (a m : ℤ) (s : ℕ) → number_plus (a, s) (m, s) ≡ (a +ℤ m, s)
-plus-same a m s =
-    ap (λ t. (a *ℤ pos (10 ^ (t - s)) +ℤ m *ℤ pos (10 ^ (t - s)), t)) (max-same s) ∙ (λ i. (own_scale a s i +ℤ own_scale m s i, s))
-
-plus-zero : (m : ℤ) (s : ℕ) → number_plus (pos 0, 0) (m, s) ≡ (pos 0 +ℤ m, s)
-plus-zero m s =
-    ap (λ t. (pos 0 *ℤ pos (10 ^ (t - 0)) +ℤ m *ℤ pos (10 ^ (t - s)), t)) (zero-max s) ∙ (λ i. (zero-*ℤ (pos (10 ^ (s - 0))) i +ℤ own_scale m s i, s))
-
-plus_nothing : (a : ℤ) → a ≡ a +ℤ pos 0
-plus_nothing a = omega (arith, ints)
-
 fold-at : (vs : List Value) (a : ℤ) (s : ℕ) → list_all (at_scale s) vs ≡ true → fold plus_value (a, s) vs ≡ (fold plus_mantissa a vs, s)
 fold-at [] a s h = refl
 fold-at (Value.Int z ∷ vs) a s h =
     let t = and_parts (nat_eq 0 s) (list_all (at_scale s) vs) h in
-    ap (λ n. fold plus_value n vs) (ap (λ k. number_plus (a, s) (z, k)) (eqb-true 0 s t.0) ∙ plus-same a z s) ∙ fold-at vs (a +ℤ z) s t.1
+    ap (λ n. fold plus_value n vs) (ap (λ k. number_plus (a, s) (z, k)) (eqb-true 0 s t.0) ∙ number_plus-same a z s) ∙ fold-at vs (a +ℤ z) s t.1
 fold-at (Value.Dec d ∷ vs) a s h =
     let t = and_parts (nat_eq d.scale s) (list_all (at_scale s) vs) h in
-    ap (λ n. fold plus_value n vs) (ap (λ k. number_plus (a, s) (d.mantissa, k)) (eqb-true d.scale s t.0) ∙ plus-same a d.mantissa s) ∙ fold-at vs (a +ℤ d.mantissa) s t.1
+    ap (λ n. fold plus_value n vs) (ap (λ k. number_plus (a, s) (d.mantissa, k)) (eqb-true d.scale s t.0) ∙ number_plus-same a d.mantissa s) ∙ fold-at vs (a +ℤ d.mantissa) s t.1
 fold-at (Value.Null ∷ vs) a s h = fold-at vs a s h ∙ ap (λ b. (fold plus_mantissa b vs, s)) (plus_nothing a)
 fold-at (Value.Bool x ∷ vs) a s h = fold-at vs a s h ∙ ap (λ b. (fold plus_mantissa b vs, s)) (plus_nothing a)
 fold-at (Value.Text x ∷ vs) a s h = fold-at vs a s h ∙ ap (λ b. (fold plus_mantissa b vs, s)) (plus_nothing a)
@@ -121,10 +103,10 @@ total-at : (vs : List Value) (s : ℕ) → list_all (at_scale s) vs ≡ true →
 total-at [] s h = inr (refl, refl)
 total-at (Value.Int z ∷ vs) s h =
     let t = and_parts (nat_eq 0 s) (list_all (at_scale s) vs) h in
-    inl (ap (λ n. fold plus_value n vs) (ap (λ k. number_plus (pos 0, 0) (z, k)) (eqb-true 0 s t.0) ∙ plus-zero z s) ∙ fold-at vs (pos 0 +ℤ z) s t.1)
+    inl (ap (λ n. fold plus_value n vs) (ap (λ k. number_plus (pos 0, 0) (z, k)) (eqb-true 0 s t.0) ∙ number_plus-zero z s) ∙ fold-at vs (pos 0 +ℤ z) s t.1)
 total-at (Value.Dec d ∷ vs) s h =
     let t = and_parts (nat_eq d.scale s) (list_all (at_scale s) vs) h in
-    inl (ap (λ n. fold plus_value n vs) (ap (λ k. number_plus (pos 0, 0) (d.mantissa, k)) (eqb-true d.scale s t.0) ∙ plus-zero d.mantissa s) ∙ fold-at vs (pos 0 +ℤ d.mantissa) s t.1)
+    inl (ap (λ n. fold plus_value n vs) (ap (λ k. number_plus (pos 0, 0) (d.mantissa, k)) (eqb-true d.scale s t.0) ∙ number_plus-zero d.mantissa s) ∙ fold-at vs (pos 0 +ℤ d.mantissa) s t.1)
 total-at (Value.Null ∷ vs) s h = total-at vs s h
 total-at (Value.Bool x ∷ vs) s h = total-at vs s h
 total-at (Value.Text x ∷ vs) s h = total-at vs s h

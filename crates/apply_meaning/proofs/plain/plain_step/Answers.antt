@@ -81,20 +81,20 @@ returns-in_err-compute_rows-in-Compute-clause-steps g c =
     let made : rows_made (step_of c.args.step.now) c.args.rows.items ≡ length c.args.rows.items = ap (λ s. rows_made s c.args.rows.items) (ap step_of c.in-Compute.is ∙ step_of-Compute c.in-Compute.items) in
     omega (arith, made, c.compute_rows.ensures.steps)
 
-pub returns-in_ok-aggregated-in-Aggregate-clause-each : goal.returns-in_ok-aggregated-in-Aggregate-clause-each
-returns-in_ok-aggregated-in-Aggregate-clause-each g c =
+pub returns-in_ok-aggregation_rows-in-Aggregate-clause-each : goal.returns-in_ok-aggregation_rows-in-Aggregate-clause-each
+returns-in_ok-aggregation_rows-in-Aggregate-clause-each g c =
     let made : rows_made (step_of c.args.step.now) c.args.rows.items ≡ 1 = ap (λ s. rows_made s c.args.rows.items) (ap step_of c.in-Aggregate.is ∙ step_of-Aggregate c.in-Aggregate.items) in
     let w = c.args.store.now in
     let r = c.requires.ready in
-    let row = ap length (some_value (sym (step_mean-Aggregate w r.0 r.1 (map agg_of c.in-Aggregate.items) c.args.rows.items) ∙ c.in_ok-aggregated-in-Aggregate.ensures.mean r.0 r.1)) in
-    omega (arith, made, row, c.in_ok-aggregated-in-Aggregate.ensures.each)
+    let row = ap length (some_value (sym (step_mean-Aggregate w r.0 r.1 (map agg_of c.in-Aggregate.items) c.args.rows.items) ∙ c.in_ok-aggregation_rows-in-Aggregate.ensures.mean r.0 r.1)) in
+    omega (arith, made, row, c.in_ok-aggregation_rows-in-Aggregate.ensures.each)
 
-pub returns-in_ok-aggregated-in-Aggregate-clause-steps : goal.returns-in_ok-aggregated-in-Aggregate-clause-steps
-returns-in_ok-aggregated-in-Aggregate-clause-steps g c =
+pub returns-in_ok-aggregation_rows-in-Aggregate-clause-steps : goal.returns-in_ok-aggregation_rows-in-Aggregate-clause-steps
+returns-in_ok-aggregation_rows-in-Aggregate-clause-steps g c =
     let made : rows_made (step_of c.args.step.now) c.args.rows.items ≡ 1 = ap (λ s. rows_made s c.args.rows.items) (ap step_of c.in-Aggregate.is ∙ step_of-Aggregate c.in-Aggregate.items) in
-    omega (arith, made, c.aggregated.ensures.steps)
+    omega (arith, made, c.aggregation_rows.ensures.steps)
 
-pub returns-in_err-aggregated-in-Aggregate-clause-steps : goal.returns-in_err-aggregated-in-Aggregate-clause-steps
-returns-in_err-aggregated-in-Aggregate-clause-steps g c =
+pub returns-in_err-aggregation_rows-in-Aggregate-clause-steps : goal.returns-in_err-aggregation_rows-in-Aggregate-clause-steps
+returns-in_err-aggregation_rows-in-Aggregate-clause-steps g c =
     let made : rows_made (step_of c.args.step.now) c.args.rows.items ≡ 1 = ap (λ s. rows_made s c.args.rows.items) (ap step_of c.in-Aggregate.is ∙ step_of-Aggregate c.in-Aggregate.items) in
-    omega (arith, made, c.aggregated.ensures.steps)
+    omega (arith, made, c.aggregation_rows.ensures.steps)

@@ -24,11 +24,11 @@ type_concat-concat_shape-requires t c =
 
 pub type_concat-returns-in-Some-2 : goal.type_concat-returns-in-Some-2
 type_concat-returns-in-Some-2 t c =
-    ap (λ o. outcome o c.in-Some.quiet) (sym c.in-Some-2.is ∙ c.in_ok-shape-in-Some.ensures ∙ ap (concat_shape c.args.m.now) c.deref.ensures.value) ∙ outcome-Concat c.args.m.now (readings c.args.c.now) c.args.shape.now (pipes_of c.args.branches.now) c.in-Some.shapes.items c.in-Some.quiet (ap (option_map {U = List Shape × Bool} (λ x. (x.0.items, x.1))) (sym c.in-Some.is) ∙ c.in_ok-shapes.ensures)
+    ap (λ o. outcome o c.in-Some.quiet) (sym c.in-Some-2.is ∙ c.in_ok-shape-in-Some.ensures.value ∙ ap (concat_shape c.args.m.now) c.deref.ensures.value) ∙ outcome-Concat c.args.m.now (readings c.args.c.now) c.args.shape.now (pipes_of c.args.branches.now) c.in-Some.shapes.items c.in-Some.quiet (ap (option_map {U = List Shape × Bool} (λ x. (x.0.items, x.1))) (sym c.in-Some.is) ∙ c.in_ok-shapes.ensures)
 
 pub type_concat-returns-in-Some : goal.type_concat-returns-in-Some
 type_concat-returns-in-Some t c =
-    ap (λ o. outcome o c.in-Some.quiet) (sym c.in-None-2.is ∙ c.in_ok-shape-in-Some.ensures ∙ ap (concat_shape c.args.m.now) c.deref.ensures.value) ∙ outcome-Concat c.args.m.now (readings c.args.c.now) c.args.shape.now (pipes_of c.args.branches.now) c.in-Some.shapes.items c.in-Some.quiet (ap (option_map {U = List Shape × Bool} (λ x. (x.0.items, x.1))) (sym c.in-Some.is) ∙ c.in_ok-shapes.ensures)
+    ap (λ o. outcome o c.in-Some.quiet) (sym c.in-None-2.is ∙ c.in_ok-shape-in-Some.ensures.value ∙ ap (concat_shape c.args.m.now) c.deref.ensures.value) ∙ outcome-Concat c.args.m.now (readings c.args.c.now) c.args.shape.now (pipes_of c.args.branches.now) c.in-Some.shapes.items c.in-Some.quiet (ap (option_map {U = List Shape × Bool} (λ x. (x.0.items, x.1))) (sym c.in-Some.is) ∙ c.in_ok-shapes.ensures)
 
 pub type_concat-returns : goal.type_concat-returns
 type_concat-returns t c =
@@ -44,7 +44,7 @@ type_groups-returns-in-None t c =
 
 pub type_key-returns-in-Plain : goal.type_key-returns-in-Plain
 type_key-returns-in-Plain t c =
-    rw (c.in-Plain.is, key_of-Plain) (ap (λ b. Some (not b)) c.is_risky.ensures ∙ sym (λ i. then_some (key_typed-Plain c.args.m.now (readings c.args.c.now) c.args.shape.now c.in-Plain.path i) (key_quiet-Plain c.args.m.now (readings c.args.c.now) c.args.shape.now c.in-Plain.path i)))
+    rw (c.in-Plain.is, key_of-Plain) (ap (λ b. Some (not b)) c.is_risky.ensures.value ∙ sym (λ i. then_some (key_typed-Plain c.args.m.now (readings c.args.c.now) c.args.shape.now c.in-Plain.path i) (key_quiet-Plain c.args.m.now (readings c.args.c.now) c.args.shape.now c.in-Plain.path i)))
 
 pub type_key-returns-in-Rollup : goal.type_key-returns-in-Rollup
 type_key-returns-in-Rollup t c =

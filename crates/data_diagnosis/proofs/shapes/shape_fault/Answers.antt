@@ -5,8 +5,9 @@ use Rattle.serde_json.specs.View.{view, members_view}
 use Rattle.edm_model.specs.JsonTrees.{member_list}
 use Rattle.edm_model.specs.LookUps.{properties_of, set_type}
 use Rattle.edm_data.specs.DataFile.{is_known_member}
-use Rattle.data_diagnosis.proofs.ShapeFaults.{unmapped, member-fault, member-refused, entity-values}
+use Rattle.data_diagnosis.proofs.ShapeFaults.{member-fault, member-refused, entity-values}
 use Rattle.data_diagnosis.proofs.shapes.shape_fault.Goals as goal
+use Rattle.edm_values.proofs.OptionFacts.{unmapped}
 
 pub returns-in-Some-unknown_member-clause-found : goal.returns-in-Some-unknown_member-clause-found
 returns-in-Some-unknown_member-clause-found c =

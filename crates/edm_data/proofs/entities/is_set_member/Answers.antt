@@ -4,9 +4,9 @@ use Rattle.std.specs.List.{list_any}
 use Rattle.serde_json.specs.View.{view}
 use Rattle.edm_values.specs.Lists.{same_text}
 use Rattle.edm_model.specs.JsonTrees.{is_array}
-use Rattle.edm_data.proofs.KeyOrderLemmas.{is_some-position}
 use Rattle.edm_data.proofs.ShapeLemmas.{is_array-is}
 use Rattle.edm_data.proofs.entities.is_set_member.Goals as goal
+use Rattle.edm_values.proofs.SearchFacts.{is_some-position}
 
 pub returns-then-is_some : goal.returns-then-is_some
 returns-then-is_some c =

@@ -1,7 +1,8 @@
 use Rattle.std.proofs.Common.{◌≡◌, map, sym, ◌∙◌, ap, arith}
 use Rattle.std.proofs.lemmas.Grind.{common_steps}
+use Rattle.std.proofs.lemmas.Simd.{map-map}
 use Rattle.edm_model.specs.ModelFile.{navigation_of}
-use Rattle.edm_schema.proofs.Mapped.{made_more, map_mapped}
+use Rattle.edm_schema.proofs.Mapped.{made_more}
 use Rattle.edm_schema.specs.MemberLists.{member_seen, tree_of, root_of}
 use Rattle.edm_schema.specs.declared.members.Member.{Member}
 use Rattle.edm_model.proofs.build.navigations_of.Goals as goal
@@ -10,7 +11,7 @@ pub returns : goal.returns
 returns c =
     let items = c.args.t.now.navigations.items in
     let whole : c.loop-member.navigations.items ≡ map (λ (m : Member). navigation_of (root_of c.args.schema.now) (tree_of c.args.t.now) (member_seen m)) items = grind (arith, common_steps) in
-    whole ∙ (sym (map_mapped (navigation_of (root_of c.args.schema.now) (tree_of c.args.t.now)) member_seen items) ∙ ap (map (navigation_of (root_of c.args.schema.now) (tree_of c.args.t.now))) c.requires.t.navigations)
+    whole ∙ (sym (map-map (navigation_of (root_of c.args.schema.now) (tree_of c.args.t.now)) member_seen items) ∙ ap (map (navigation_of (root_of c.args.schema.now) (tree_of c.args.t.now))) c.requires.t.navigations)
 
 pub loop-member-preserved : goal.loop-member-preserved
 loop-member-preserved c =

@@ -1,7 +1,8 @@
 use Rattle.std.proofs.Common.{◌≡◌, map, sym, ◌∙◌, ap, subst, arith}
 use Rattle.std.proofs.lemmas.Grind.{common_steps}
+use Rattle.std.proofs.lemmas.Simd.{map-map}
 use Rattle.edm_model.specs.ModelFile.{type_of}
-use Rattle.edm_schema.proofs.Mapped.{made_more, map_mapped}
+use Rattle.edm_schema.proofs.Mapped.{made_more}
 use Rattle.edm_schema.specs.MemberLists.{root_of, type_seen, IsTypeTree}
 use Rattle.edm_schema.specs.declared.schema.TypeTree.{TypeTree}
 use Rattle.edm_model.proofs.build.types_of.Goals as goal
@@ -10,7 +11,7 @@ pub returns : goal.returns
 returns c =
     let items = c.args.schema.now.types.items in
     let whole : c.loop-t.types.items ≡ map (λ (m : TypeTree). type_of (root_of c.args.schema.now) (type_seen m)) items = grind (arith, common_steps) in
-    whole ∙ (sym (map_mapped (type_of (root_of c.args.schema.now)) type_seen items) ∙ ap (map (type_of (root_of c.args.schema.now))) c.requires.types)
+    whole ∙ (sym (map-map (type_of (root_of c.args.schema.now)) type_seen items) ∙ ap (map (type_of (root_of c.args.schema.now))) c.requires.types)
 
 pub type_of-requires-clause-t : goal.type_of-requires-clause-t
 type_of-requires-clause-t c =

@@ -1,9 +1,10 @@
 use Rattle.std.proofs.Common.{rules, ◌≡◌, ◌∙◌, IsTrue, ap, length, replicate, subst, sym, arith}
 use Rattle.std.specs.Prelude.{◌==◌}
 use Rattle.apply_meaning.specs.Running.{all_of}
-use Rattle.hier_rows.proofs.NodeLaws.{rows-count, rows-of}
+use Rattle.hier_rows.proofs.NodeLaws.{rows-of}
 use Rattle.hier_rows.proofs.TraversalLaws.{ranks-empty}
 use Rattle.hier_rows.proofs.traversals.node_ranks.Goals as goal
+use Rattle.apply_meaning.proofs.SetLemmas.{rows-length}
 
 pub returns-then-is_empty-clause-ranks : goal.returns-then-is_empty-clause-ranks
 returns-then-is_empty-clause-ranks g c =
@@ -16,6 +17,6 @@ row_ranks-requires-clause-of g c = subst (λ l. IsTrue (all_of c.args.store.now 
 
 pub row_ranks-requires-clause-small : goal.row_ranks-requires-clause-small
 row_ranks-requires-clause-small g c =
-    let size : length c.deref.result.now ≡ c.count-size.result = ap length (c.deref.ensures.value ∙ c.in_ok-nodes.ensures.rows) ∙ rows-count c.args.store.now c.args.set ∙ sym c.count-size.ensures in
+    let size : length c.deref.result.now ≡ c.count-size.result = ap length (c.deref.ensures.value ∙ c.in_ok-nodes.ensures.rows) ∙ rows-length c.args.store.now c.args.set ∙ sym c.count-size.ensures in
     let fits = c.count-size.type_inv in
     omega (arith, size, fits)

@@ -3,8 +3,9 @@ use Rattle.edm_values.specs.Values.{same_value, seen_value, value_cmp}
 use Rattle.edm_model.specs.LookUps.{key_at, key_of, set_type}
 use Rattle.edm_data.specs.References.{count, key, property}
 use Rattle.edm_data.specs.Worlds.{entity_at}
-use Rattle.hier_rows.proofs.KeyLaws.{found-by-key, key-place}
+use Rattle.hier_rows.proofs.KeyLaws.{found-by-key}
 use Rattle.hier_rows.proofs.tried_nodes.has_key.Goals as goal
+use Rattle.edm_data.proofs.TableLemmas.{key_place}
 
 pub returns : goal.returns
 returns c = λ taken.
@@ -17,7 +18,7 @@ returns c = λ taken.
     ap (λ p. p.at) c.key_of-place.ensures.value
     ∙ ap (λ t. (key_of c.model-model.result.now t).at) c.set_type.ensures.value
     ∙ ap (λ m. (key_of m (set_type m s)).at) c.model-model.ensures.value
-    ∙ key-place w.model s c.requires in
+    ∙ key_place w.model s c.requires in
     let same : same_value v (key w (entity_at s k)) ≡ true =
     ap (λ p. is_eq (value_cmp v (property w (entity_at s k) p))) (sym place)
     ∙ ap (λ x. is_eq (value_cmp v x)) (sym c.property.ensures)

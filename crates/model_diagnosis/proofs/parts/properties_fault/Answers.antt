@@ -7,12 +7,12 @@ use Rattle.std.specs.Prelude.{◌&&◌}
 use Rattle.edm_schema.specs.JsonTrees.{members_in}
 use Rattle.edm_schema.specs.declared.members.Member.{Member}
 use Rattle.edm_schema.specs.MemberLists.{member_seen, tree_of}
-use Rattle.edm_schema.proofs.Passing.{and_right}
 use Rattle.model_diagnosis.specs.Faults.{failed_property}
 use Rattle.model_diagnosis.specs.Searched.{is_sound_property}
 use Rattle.model_diagnosis.proofs.Found.{some_seen, seen_at, among_seen}
 use Rattle.model_diagnosis.proofs.Unbroken.{all_searched, kept_passes, one_more, property_holds}
 use Rattle.model_diagnosis.proofs.parts.properties_fault.Goals as goal
+use Rattle.edm_values.proofs.EachLemmas.{and-right}
 
 pub returns-in-Some-clause-found : goal.returns-in-Some-clause-found
 returns-in-Some-clause-found c =
@@ -32,7 +32,7 @@ loop-member-preserved c =
     let within = rw items at c.loop-member-test.true in
     let is = rw items at c.member-item.is in
     let kept = kept_passes (λ (n : tree.Member). is_own n.0 && is_property n.1) (members_in (tree_of t)) (member_seen m) (among_seen member_seen t.properties.items (property_members (tree_of t)) c.loop-member.member-index m c.requires.properties within is) in
-    let property : is_property (view m.value.now) ≡ true = and_right _ _ kept in
+    let property : is_property (view m.value.now) ≡ true = and-right _ _ kept in
     one_more (λ (n : Member). is_sound_property (member_seen n).1) t.properties.items c.loop-member.member-index m within is c.loop-member.invariant
     (property_holds (view m.value.now) property c.in_default.ensures.none c.in_default-failed_property_test.ensures.none)
 

@@ -6,7 +6,7 @@ use Rattle.apply_meaning.specs.Meaning.{item_value}
 use Rattle.apply_meaning.specs.Running.{all_of}
 use Rattle.apply_meaning.proofs.MeaningEquations.{step_mean-Aggregate}
 use Rattle.apply_meaning.proofs.RunLemmas.{all-fit-of}
-use Rattle.apply_meaning.proofs.plain.aggregated.Goals as goal
+use Rattle.apply_meaning.proofs.plain.aggregation_rows.Goals as goal
 
 pub aggregate_rows-requires-clause-of : goal.aggregate_rows-requires-clause-of
 aggregate_rows-requires-clause-of g c =
