@@ -4,7 +4,7 @@ ghost use Rattle.std.specs.Prelude.{◌≡◌, ◌≢◌, ◌↔◌, ℕ, ◌+�
 ghost use Rattle.std.specs.Io.{ReadsAtMost, WritesAtMost};
 ghost use Rattle.std.specs.Io.KnownBytes.{Keeps, ReadConsumes, WriteAppends};
 ghost use Rattle.std.specs.IoError.{error_kind};
-ghost use Rattle.apply_io.specs.Causes.{HasCause, CountsFault};
+ghost use Rattle.apply_io.specs.Causes.{HasCause, next_count, CountsFault};
 ghost use Rattle.apply_io.specs.Files.{KeepsFiles, ReadsFile, told_content};
 ghost use Rattle.apply_io.specs.Adapters.{PassesOn, kept_name};
 
@@ -65,10 +65,12 @@ fn flush_again<W: Write>(writer: &mut W) -> io::Result<()>
     Err(io::Error::from(ErrorKind::TimedOut))
 }
 
-/// A source over a reader, as standard input. It raises its count at each error, want of memory below it included.
+/// A source over a reader, as standard input. It counts its reads, and its faults: each error is one, want of memory below it
+/// included.
 #[derive(Drop)]
 pub struct StdSource<R: Read + Drop> {
     inner: R,
+    reads: u64,
     faults: u64,
 }
 
@@ -78,7 +80,11 @@ impl<R: Read + Drop> StdSource<R> {
         ensures inner { result.inner ≡ inner }
         ensures faults { result.faults ≡ 0 }
     {
-        StdSource { inner, faults: 0 }
+        StdSource {
+            inner,
+            reads: 0,
+            faults: 0,
+        }
     }
 }
 
@@ -87,6 +93,8 @@ impl<R: Read + Drop> Source for StdSource<R> {
 
     ghost fault_count = { λ s. s.faults };
 
+    ghost reads_once = { λ s t. t.reads ≡ next_count s.reads };
+
     fn faults(&self) -> u64 {
         self.faults
     }
@@ -94,6 +102,7 @@ impl<R: Read + Drop> Source for StdSource<R> {
     fn read(&mut self, buf: &mut [u8]) -> Result<usize, Failed>
         ensures bound { ReadsAtMost result buf.new }
         ensures bytes { ReadConsumes (R.remaining self.old.inner) (R.remaining self.new.inner) result buf.new }
+        ensures once { 0 < length buf.old → self.new.reads ≡ next_count self.old.reads }
         ensures cause { HasCause self.old.faults self.new.faults result }
         ensures faults { CountsFault self.old.faults self.new.faults result }
         ensures no_room { length buf.old ≡ 0 → (result ≡ Ok 0) × (self.new.faults ≡ self.old.faults) }
@@ -101,6 +110,7 @@ impl<R: Read + Drop> Source for StdSource<R> {
         if buf.is_empty() {
             return Ok(0);
         }
+        self.reads = self.reads.saturating_add(1);
         match read_again(&mut self.inner, buf) {
             Ok(count) => Ok(count),
             Err(_) => {

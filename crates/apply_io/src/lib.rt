@@ -41,6 +41,9 @@ pub trait Source {
     // How often the source has failed.
     ghost fault_count: { Self → ℕ };
 
+    // One read with room leads from the first state to the second. No law says what two reads do.
+    ghost reads_once: { Self → Self → Type 0 };
+
     /// How often it has failed. The count stays at its last value.
     fn faults(&self) -> u64
         ensures { result ≡ fault_count self.now };
@@ -49,6 +52,7 @@ pub trait Source {
     fn read(&mut self, buf: &mut [u8]) -> Result<usize, Failed>
         ensures bound { ReadsAtMost result buf.new }
         ensures bytes { ReadConsumes (left self.old) (left self.new) result buf.new }
+        ensures once { 0 < length buf.old → reads_once self.old self.new }
         ensures cause { HasCause (fault_count self.old) (fault_count self.new) result }
         ensures no_room { length buf.old ≡ 0 → (result ≡ Ok 0) × (fault_count self.new ≡ fault_count self.old) };
 }

@@ -73,6 +73,8 @@ impl Source for MemSource {
 
     ghost fault_count = { λ s. s.faults };
 
+    ghost reads_once = { λ s t. t.calls ≡ next_count s.calls };
+
     fn faults(&self) -> u64 {
         self.faults
     }
@@ -81,12 +83,12 @@ impl Source for MemSource {
     fn read(&mut self, buf: &mut [u8]) -> Result<usize, Failed>
         ensures bound { ReadsAtMost result buf.new }
         ensures bytes { ReadConsumes (Some self.old.left) (Some self.new.left) result buf.new }
+        ensures once { 0 < length buf.old → self.new.calls ≡ next_count self.old.calls }
         ensures cause { HasCause self.old.faults self.new.faults result }
         ensures faults { CountsFault self.old.faults self.new.faults result }
         ensures no_room { length buf.old ≡ 0 → (result ≡ Ok 0) × (self.new ≡ self.old) }
         ensures fails { 0 < length buf.old → IsErr result ↔ Contains self.old.fails (next_count self.old.calls) }
         ensures count { IfOk result (λ n. n ≡ min (min (length buf.old) self.old.most) (length self.old.left)) }
-        ensures calls { 0 < length buf.old → self.new.calls ≡ next_count self.old.calls }
         ensures same { (self.new.fails ≡ self.old.fails) × (self.new.most ≡ self.old.most) }
     {
         if buf.is_empty() {

@@ -1,11 +1,12 @@
 -- From the pieces that were read to the whole stream.
-use Rattle.std.proofs.Common.{◌≡◌, ℕ, ◌+◌, ◌≤◌, false, List, [], ◌++◌, length, take, drop, refl, sym, ap, subst, ◌∙◌, arith, inl, inr, append_assoc, length-append}
+use Rattle.std.proofs.Common.{◌≡◌, ℕ, ◌+◌, ◌≤◌, false, List, [], ◌∷◌, ◌++◌, length, take, drop, refl, sym, ap, subst, ◌∙◌, arith, inl, inr, append_assoc, length-append}
 use Rattle.std.specs.declared.option.Option.{Option}
 use Rattle.std.specs.Io.KnownBytes.{Consumes, Keeps, IsAtEnd}
 use Rattle.std.proofs.lemmas.List.{append-nil, take-append-drop, length-take-le, take-take}
 use Rattle.std.proofs.lemmas.List.Elements.{All-nil}
 use Rattle.std.proofs.Math.Seq.{take-append-add}
 use Rattle.std.proofs.KnownBytes.{Appends-trans, Consumes-nil, Consumes-trans, Consumes-kept}
+use Rattle.apply_io.specs.Reads.{EndsInOneRead}
 use Rattle.line_stream.specs.Lines.{is_line_feed, shown, request_lines, ended_lines}
 use Rattle.line_stream.specs.Buffers.{Kept, nothing_kept}
 use Rattle.line_stream.specs.Costs.{Rises}
@@ -16,6 +17,37 @@ use Rattle.line_stream.proofs.Buffered.{Holds-nothing, StandsFor-whole}
 use Rattle.line_stream.proofs.Responding.{LongLines, IsOut-stands, out_at}
 use Rattle.line_stream.proofs.Counting.{LongBounds, Rises-at, Rises-left, Rises-after, Rises-line}
 use Rattle.line_stream.proofs.Answering.{Answers-nil, Answers-more, BreaksOff-more, front-after, counted-after}
+
+-- ---- the last read
+
+module _ {A : Type 0} (left : A → Option (List ℕ)) (reads_once : A → A → Type 0) where
+  -- it is the only one
+  one_read-only : (x y : A) (bytes : List ℕ) → Consumes (left x) (left y) bytes → reads_once x y → EndsInOneRead left reads_once x y [] bytes
+  one_read-only x y bytes taken once = record {
+    between = x;
+    taken = Consumes-nil (left x);
+    given = taken;
+    once = once;
+  }
+
+  -- bytes were taken before
+  one_read-after : (x y z : A) (front earlier last : List ℕ) → Consumes (left x) (left y) front → EndsInOneRead left reads_once y z earlier last → EndsInOneRead left reads_once x z (front ++ earlier) last
+  one_read-after x y z front earlier last taken h = record {
+    between = h.between;
+    taken = Consumes-trans (left x) (left y) (left h.between) front earlier taken h.taken;
+    given = h.given;
+    once = h.once;
+  }
+
+  -- it gave nothing
+  one_read-nothing : (x y z : A) (front none : List ℕ) → length none ≡ 0 → Consumes (left x) (left y) front → Consumes (left y) (left z) none → reads_once y z → EndsInOneRead left reads_once x z (front ++ none) []
+  one_read-nothing x y z front [] size taken given once = record {
+    between = y;
+    taken = rw (append-nil front) taken;
+    given = given;
+    once = once;
+  }
+  one_read-nothing x y z front (b ∷ none) size taken given once = absurd (omega (arith, size))
 
 module _ (is_reply : List ℕ → List ℕ → Type 0) (bounds : List ℕ → ℕ → Type 0) where
   -- ---- what one piece did
@@ -37,24 +69,6 @@ module _ (is_reply : List ℕ → List ℕ → Type 0) (bounds : List ℕ → �
         let less : limit ≤ n = omega arith in
         rw (take-take limit n buffer less) answered;
   }
-
-  pub Breaks-read : (room limit : ℕ) (l0 l1 h0 h1 : Option (List ℕ)) (s t : ℕ) (k0 : Kept) (buffer : List ℕ) (n m : ℕ) → m ≤ n → n ≤ length buffer → n ≤ room → n ≤ limit + 1 → Consumes l0 l1 (take n buffer) → BreaksOff is_reply bounds h0 h1 s t k0 (take m buffer) → Breaks is_reply bounds room limit l0 l1 h0 h1 s t k0
-  Breaks-read room limit l0 l1 h0 h1 s t k0 buffer n m less there fits within taken broken =
-      let size = length-take-le n buffer there in
-      record {
-        earlier = [];
-        last = take n buffer;
-        one_read = omega (arith, size);
-        within = omega (arith, size);
-        taken = taken;
-        held = h0;
-        count = s;
-        after = k0;
-        answered = Answers-nil is_reply bounds h0 s k0;
-        broken =
-            let front = take-take m n buffer less in
-            subst (λ x. BreaksOff is_reply bounds h0 h1 s t k0 x) (take-append-drop m (take n buffer)) (BreaksOff-more is_reply bounds h0 h1 s t k0 (take m (take n buffer)) (drop m (take n buffer)) (rw front broken));
-      }
 
   -- ---- one piece after the other
 
@@ -83,22 +97,6 @@ module _ (is_reply : List ℕ → List ℕ → Type 0) (bounds : List ℕ → �
         let size : limit ≡ length a.bytes + m = omega (arith, a.count) in
         rw (size, take-append-add a.bytes b.bytes m) (Answers-more is_reply bounds h0 h1 h2 s t u k0 k1 k2 a.bytes (take m b.bytes) a.answered b.answered);
   }
-
-  pub Breaks-after : (room limit : ℕ) (l0 l1 l2 h0 h1 h2 : Option (List ℕ)) (s t u : ℕ) (k0 k1 : Kept) (n m : ℕ) → n + m ≡ limit → Advances is_reply bounds l0 l1 h0 h1 s t k0 k1 n → Breaks is_reply bounds room m l1 l2 h1 h2 t u k1 → Breaks is_reply bounds room limit l0 l2 h0 h2 s u k0
-  Breaks-after room limit l0 l1 l2 h0 h1 h2 s t u k0 k1 n m e a b =
-      let same : (a.bytes ++ b.earlier) ++ b.last ≡ a.bytes ++ (b.earlier ++ b.last) = append_assoc a.bytes b.earlier b.last in
-      record {
-        earlier = a.bytes ++ b.earlier;
-        last = b.last;
-        one_read = b.one_read;
-        within = omega (arith, ap length same, length-append a.bytes (b.earlier ++ b.last), a.count, b.within);
-        taken = rw same (Consumes-trans l0 l1 l2 a.bytes (b.earlier ++ b.last) a.taken b.taken);
-        held = b.held;
-        count = b.count;
-        after = b.after;
-        answered = Answers-more is_reply bounds h0 h1 b.held s t b.count k0 k1 b.after a.bytes b.earlier a.answered b.answered;
-        broken = b.broken;
-      }
 
   -- ---- from an empty buffer
 
@@ -174,8 +172,8 @@ module _ (is_reply : List ℕ → List ℕ → Type 0) (bounds : List ℕ → �
         counted = all_count h0 h1 s t u k a.bytes p bound r;
       }
 
-  pub RespondsInPart-middle : (room limit : ℕ) (l0 l1 h0 h1 : Option (List ℕ)) (s t : ℕ) (kept : ℕ) → Breaks is_reply bounds room limit l0 l1 h0 h1 s t (nothing_kept kept) → RespondsInPart is_reply bounds room limit l0 l1 h0 h1 s t
-  RespondsInPart-middle room limit l0 l1 h0 h1 s t kept b =
+  pub RespondsInPart-middle : (one_read : List ℕ → List ℕ → Type 0) (room limit : ℕ) (l0 l1 h0 h1 : Option (List ℕ)) (s t : ℕ) (kept : ℕ) → Breaks is_reply bounds one_read room limit l0 l1 h0 h1 s t (nothing_kept kept) → RespondsInPart is_reply bounds one_read room limit l0 l1 h0 h1 s t
+  RespondsInPart-middle one_read room limit l0 l1 h0 h1 s t kept b =
       let p = Answers-start h0 b.held s b.count b.after kept b.earlier b.answered in
       let q : FrontUpTo is_reply bounds b.held h1 b.count t (p.piece ++ b.last) = b.broken.from p.piece p.no_feed p.holds in
       let whole = append-nil (b.earlier ++ b.last) in
@@ -183,6 +181,7 @@ module _ (is_reply : List ℕ → List ℕ → Type 0) (bounds : List ℕ → �
         earlier = b.earlier;
         last = b.last;
         one_read = b.one_read;
+        fits = b.fits;
         within = b.within;
         taken = b.taken;
         prompt = p.written;
@@ -192,8 +191,9 @@ module _ (is_reply : List ℕ → List ℕ → Type 0) (bounds : List ℕ → �
         front = inl (front-after is_reply bounds h0 b.held s b.count b.after b.earlier b.last q.written p q.front, Rises-at bounds ended_lines ((b.earlier ++ b.last) ++ []) (b.earlier ++ b.last) s t whole (counted-after is_reply bounds h0 b.held s b.count t b.after b.earlier b.last p ended_lines [] ended_lines-cut (q.counted ended_lines [] ended_lines-cut)));
       }
 
-  pub RespondsInPart-last : (room : ℕ) (l0 l1 h0 h1 h2 : Option (List ℕ)) (s t u : ℕ) (k : Kept) (kept n limit : ℕ) → n ≤ limit → IsAtEnd l1 → LongLines is_reply k.limit → LongBounds bounds k.limit → Advances is_reply bounds l0 l1 h0 h1 s t (nothing_kept kept) k n → WritesPart is_reply (shown k.bytes) h1 h2 → Rises bounds (shown k.bytes) t u → RespondsInPart is_reply bounds room limit l0 l1 h0 h2 s u
-  RespondsInPart-last room l0 l1 h0 h1 h2 s t u k kept n limit within end law bound a w r =
+  -- in the response to the last line, once a read gave nothing
+  RespondsInPart-end : (one_read : List ℕ → List ℕ → Type 0) (room : ℕ) (l0 l1 h0 h1 h2 : Option (List ℕ)) (s t u : ℕ) (k : Kept) (kept n limit : ℕ) → n ≤ limit → IsAtEnd l1 → LongLines is_reply k.limit → LongBounds bounds k.limit → (a : Advances is_reply bounds l0 l1 h0 h1 s t (nothing_kept kept) k n) → one_read a.bytes [] → WritesPart is_reply (shown k.bytes) h1 h2 → Rises bounds (shown k.bytes) t u → RespondsInPart is_reply bounds one_read room limit l0 l1 h0 h2 s u
+  RespondsInPart-end one_read room l0 l1 h0 h1 h2 s t u k kept n limit within end law bound a once w r =
       let p = Answers-start h0 h1 s t k kept a.bytes a.answered in
       let out = all_out h0 h1 s t k a.bytes (w.written ++ w.lost) p law w.replies in
       let front : IsFront is_reply (request_lines a.bytes) (p.written ++ w.written) = (w.lost, subst (λ o. IsOut is_reply (request_lines a.bytes) o) (sym (append_assoc p.written w.written w.lost)) out) in
@@ -201,7 +201,8 @@ module _ (is_reply : List ℕ → List ℕ → Type 0) (bounds : List ℕ → �
       record {
         earlier = a.bytes;
         last = [];
-        one_read = omega arith;
+        one_read = once;
+        fits = omega arith;
         within = omega (arith, ap length whole, a.count);
         taken = rw whole a.taken;
         prompt = p.written;
@@ -210,3 +211,47 @@ module _ (is_reply : List ℕ → List ℕ → Type 0) (bounds : List ℕ → �
         replies = ended_out h0 h1 s t k a.bytes p;
         front = rw whole (inr (end, front, all_count h0 h1 s t u k a.bytes p bound r));
       }
+
+-- ---- where the writing broke off, over the states of a source
+
+module _ {A : Type 0} (is_reply : List ℕ → List ℕ → Type 0) (bounds : List ℕ → ℕ → Type 0) (left : A → Option (List ℕ)) (reads_once : A → A → Type 0) where
+  pub Breaks-read : (room limit : ℕ) (x y : A) (h0 h1 : Option (List ℕ)) (s t : ℕ) (k0 : Kept) (buffer : List ℕ) (n m : ℕ) → m ≤ n → n ≤ length buffer → n ≤ room → n ≤ limit + 1 → Consumes (left x) (left y) (take n buffer) → reads_once x y → BreaksOff is_reply bounds h0 h1 s t k0 (take m buffer) → Breaks is_reply bounds (EndsInOneRead left reads_once x y) room limit (left x) (left y) h0 h1 s t k0
+  Breaks-read room limit x y h0 h1 s t k0 buffer n m less there fits within taken once broken =
+      let size = length-take-le n buffer there in
+      record {
+        earlier = [];
+        last = take n buffer;
+        one_read = one_read-only left reads_once x y (take n buffer) taken once;
+        fits = omega (arith, size);
+        within = omega (arith, size);
+        taken = taken;
+        held = h0;
+        count = s;
+        after = k0;
+        answered = Answers-nil is_reply bounds h0 s k0;
+        broken =
+            let front = take-take m n buffer less in
+            subst (λ b. BreaksOff is_reply bounds h0 h1 s t k0 b) (take-append-drop m (take n buffer)) (BreaksOff-more is_reply bounds h0 h1 s t k0 (take m (take n buffer)) (drop m (take n buffer)) (rw front broken));
+      }
+
+  pub Breaks-after : (room limit : ℕ) (x y z : A) (h0 h1 h2 : Option (List ℕ)) (s t u : ℕ) (k0 k1 : Kept) (n m : ℕ) → n + m ≡ limit → Advances is_reply bounds (left x) (left y) h0 h1 s t k0 k1 n → Breaks is_reply bounds (EndsInOneRead left reads_once y z) room m (left y) (left z) h1 h2 t u k1 → Breaks is_reply bounds (EndsInOneRead left reads_once x z) room limit (left x) (left z) h0 h2 s u k0
+  Breaks-after room limit x y z h0 h1 h2 s t u k0 k1 n m e a b =
+      let same : (a.bytes ++ b.earlier) ++ b.last ≡ a.bytes ++ (b.earlier ++ b.last) = append_assoc a.bytes b.earlier b.last in
+      record {
+        earlier = a.bytes ++ b.earlier;
+        last = b.last;
+        one_read = one_read-after left reads_once x y z a.bytes b.earlier b.last a.taken b.one_read;
+        fits = b.fits;
+        within = omega (arith, ap length same, length-append a.bytes (b.earlier ++ b.last), a.count, b.within);
+        taken = rw same (Consumes-trans (left x) (left y) (left z) a.bytes (b.earlier ++ b.last) a.taken b.taken);
+        held = b.held;
+        count = b.count;
+        after = b.after;
+        answered = Answers-more is_reply bounds h0 h1 b.held s t b.count k0 k1 b.after a.bytes b.earlier a.answered b.answered;
+        broken = b.broken;
+      }
+
+  pub RespondsInPart-last : (room : ℕ) (x y z : A) (h0 h1 h2 h3 : Option (List ℕ)) (s t u v : ℕ) (k l : Kept) (kept n m limit : ℕ) → n ≤ limit → m ≡ 0 → IsAtEnd (left z) → LongLines is_reply l.limit → LongBounds bounds l.limit → Advances is_reply bounds (left x) (left y) h0 h1 s t (nothing_kept kept) k n → Advances is_reply bounds (left y) (left z) h1 h2 t u k l m → reads_once y z → WritesPart is_reply (shown l.bytes) h2 h3 → Rises bounds (shown l.bytes) u v → RespondsInPart is_reply bounds (EndsInOneRead left reads_once x z) room limit (left x) (left z) h0 h3 s v
+  unfolding Advances-more
+  RespondsInPart-last room x y z h0 h1 h2 h3 s t u v k l kept n m limit within none end law bound a b once w r =
+      RespondsInPart-end is_reply bounds (EndsInOneRead left reads_once x z) room (left x) (left z) h0 h2 h3 s u v l kept (n + m) limit (omega (arith, within, none)) end law bound (Advances-more is_reply bounds (left x) (left y) (left z) h0 h1 h2 s t u (nothing_kept kept) k l n m a b) (one_read-nothing left reads_once x y z a.bytes b.bytes (b.count ∙ none) a.taken b.taken once) w r

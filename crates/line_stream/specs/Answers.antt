@@ -37,11 +37,12 @@ pub record Responds (is_reply : List ℕ → List ℕ → Type 0) (bounds : List
   pub replies : IsOut is_reply (lines bytes) written
   pub counted : Rises bounds (lines bytes) count0 count1
 
--- The writing broke off. The bytes taken from the source are one more than the limit at most, and the last of them came in one read, of so many bytes at most. What was written begins with the responses to all lines that an LF ended before that read, and it is a front of responses to all lines: whatever follows the bytes, or at the end of the source. A count rose by no more than what bounds the costs of the lines.
-pub record RespondsInPart (is_reply : List ℕ → List ℕ → Type 0) (bounds : List ℕ → ℕ → Type 0) (room limit : ℕ) (left0 left1 held0 held1 : Option (List ℕ)) (count0 count1 : ℕ) : Type 0 where
+-- The writing broke off. The bytes taken from the source are one more than the limit at most, and the last of them, so many at most, were taken by one read. What was written begins with the responses to all lines that an LF ended before that read, and it is a front of responses to all lines: whatever follows the bytes, or at the end of the source. A count rose by no more than what bounds the costs of the lines.
+pub record RespondsInPart (is_reply : List ℕ → List ℕ → Type 0) (bounds : List ℕ → ℕ → Type 0) (ends_in_one_read : List ℕ → List ℕ → Type 0) (room limit : ℕ) (left0 left1 held0 held1 : Option (List ℕ)) (count0 count1 : ℕ) : Type 0 where
   pub earlier : List ℕ
   pub last : List ℕ
-  pub one_read : length last ≤ room
+  pub one_read : ends_in_one_read earlier last
+  pub fits : length last ≤ room
   pub within : length (earlier ++ last) ≤ limit + 1
   pub taken : Consumes left0 left1 (earlier ++ last)
   pub prompt : List ℕ

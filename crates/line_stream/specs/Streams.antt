@@ -55,11 +55,12 @@ pub record Overruns (is_reply : List ℕ → List ℕ → Type 0) (bounds : List
   pub taken : Consumes left0 left1 bytes
   pub answered : Answers is_reply bounds held0 held1 count0 count1 before after (take limit bytes)
 
--- bytes were taken, one more than the limit at most: the lines that those before the last read end were answered, and the writing broke off in the responses to the lines that those of the last read end, which gave so many at most
-pub record Breaks (is_reply : List ℕ → List ℕ → Type 0) (bounds : List ℕ → ℕ → Type 0) (room limit : ℕ) (left0 left1 held0 held1 : Option (List ℕ)) (count0 count1 : ℕ) (before : Kept) : Type 0 where
+-- bytes were taken, one more than the limit at most, the last of them, so many at most, by one read: the lines that those before it end were answered, and the writing broke off in the responses to the lines that those of the last read end
+pub record Breaks (is_reply : List ℕ → List ℕ → Type 0) (bounds : List ℕ → ℕ → Type 0) (ends_in_one_read : List ℕ → List ℕ → Type 0) (room limit : ℕ) (left0 left1 held0 held1 : Option (List ℕ)) (count0 count1 : ℕ) (before : Kept) : Type 0 where
   pub earlier : List ℕ
   pub last : List ℕ
-  pub one_read : length last ≤ room
+  pub one_read : ends_in_one_read earlier last
+  pub fits : length last ≤ room
   pub within : length (earlier ++ last) ≤ limit + 1
   pub taken : Consumes left0 left1 (earlier ++ last)
   pub held : Option (List ℕ)
