@@ -7,8 +7,7 @@ use Rattle.edm_values.specs.Literals.{is_of_kind}
 use Rattle.edm_values.specs.declared.EdmType.{EdmType}
 use Rattle.edm_values.specs.declared.Method.{Method}
 use Rattle.edm_values.specs.declared.Value.{Value}
-use Rattle.edm_values.proofs.EachLemmas.{all-filter}
-use Rattle.edm_values.proofs.ListFacts.{all-any, all-map}
+use Rattle.edm_values.proofs.ListFacts.{all-any, all-map, all-filter}
 use Rattle.edm_values.proofs.OptionFacts.{chained, if_else-parts, mapped}
 use Rattle.edm_model.specs.LookUps.{custom_on, property_on}
 use Rattle.edm_model.specs.Models.{Custom, Model, Part}

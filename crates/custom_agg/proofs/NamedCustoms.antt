@@ -1,11 +1,11 @@
 -- The custom aggregate of a name with its reading is that of the id that the name leads to.
-use Rattle.std.proofs.Common.{◌≡◌, refl, sym, ◌∙◌, ap, ℕ, ◌==◌, ◌&&◌, Bool, true, false, List, [], ◌∷◌, Option, None, Some, cond, get_or}
+use Rattle.std.proofs.Common.{◌≡◌, refl, sym, ◌∙◌, ap, ℕ, ◌==◌, ◌&&◌, Bool, true, List, [], ◌∷◌, Option, None, Some, cond, get_or}
 use Rattle.std.specs.Prelude.{All, find, option_and_then, option_map}
 use Rattle.std.proofs.lemmas.Bool.{and_from, and_parts, eq-eqb, eqb-true}
 use Rattle.std.proofs.lemmas.List.Elements.{All-head, All-tail}
 use Rattle.edm_values.specs.Lists.{same_text}
 use Rattle.edm_values.specs.Names.{Name}
-use Rattle.edm_values.proofs.OptionFacts.{some_value}
+use Rattle.edm_values.proofs.OptionFacts.{some_value, same_bool}
 use Rattle.edm_values.proofs.SameTexts.{same_texts, text-self}
 use Rattle.edm_values.proofs.SearchFacts.{find-mapped}
 use Rattle.edm_model.specs.Models.{Custom, Model, Part}
@@ -13,12 +13,8 @@ use Rattle.edm_model.specs.LookUps.{custom_named, custom_on}
 use Rattle.context_typing.specs.Readings.{AreTypedOver, IsTypedCustom, is_named, reading_of, readings, same_part, typed_at}
 use Rattle.context_typing.specs.Typing.{Reading, custom_at}
 use Rattle.context_typing.specs.declared.customs.TypedCustom.{TypedCustom}
-use Rattle.custom_agg.proofs.TypedCustoms.{named-place, one_part, typed-named}
-
-same-tests : (a b : Bool) → (a ≡ true → b ≡ true) → (b ≡ true → a ≡ true) → a ≡ b
-same-tests true b f g = sym (f refl)
-same-tests false true f g = g refl
-same-tests false false f g = refl
+use Rattle.custom_agg.proofs.TypedCustoms.{named-place, typed-named}
+use Rattle.context_typing.proofs.CustomFacts.{same_part-is}
 
 -- two searches by tests that agree on each element
 same-search : {X : Type 0} (p q : X → Bool) (xs : List X) → All (λ x. p x ≡ q x) xs → find p xs ≡ find q xs
@@ -27,7 +23,7 @@ same-search p q (x ∷ xs) a = λ i. cond (All-head (λ x. p x ≡ q x) x xs a i
 
 -- a typed custom aggregate has the name where it has the id that the name leads to
 same-one : (m : Model) (t k : ℕ) (n : Name) (u : Custom) (x : TypedCustom) → custom_named m t n ≡ Some (k, u) → IsTypedCustom m x → is_named t n x ≡ same_part x.read.id (record { of = t; at = k })
-same-one m t k n u x e typed = same-tests (is_named t n x) (same_part x.read.id (record { of = t; at = k })) there back
+same-one m t k n u x e typed = same_bool (is_named t n x) (same_part x.read.id (record { of = t; at = k })) there back
   where
     there : is_named t n x ≡ true → same_part x.read.id (record { of = t; at = k }) ≡ true
     there h =
@@ -39,7 +35,7 @@ same-one m t k n u x e typed = same-tests (is_named t n x) (same_part x.read.id 
 
     back : same_part x.read.id (record { of = t; at = k }) ≡ true → is_named t n x ≡ true
     back h =
-        let same = one_part x.read.id (record { of = t; at = k }) h in
+        let same = same_part-is x.read.id (record { of = t; at = k }) h in
         let v = typed-named m x typed in
         let own = named-place m x.read.id.of x.read.id.at x.name v.0 v.1 in
         let other = named-place m t k n u e in

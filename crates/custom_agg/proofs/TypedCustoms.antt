@@ -1,42 +1,26 @@
 -- Custom aggregates that were typed over a model: where their ids and their names lead.
-use Rattle.std.proofs.Common.{◌≡◌, sym, ◌∙◌, ap, subst, ℕ, ◌==◌, Bool, true, List, [], ◌∷◌, Option, Some, inl, inr}
-use Rattle.std.specs.Prelude.{All, find, option_map, slice_get, unwrap_or}
-use Rattle.std.proofs.lemmas.Bool.{and_parts, eqb-true}
-use Rattle.std.proofs.lemmas.List.Elements.{All-head, All-tail}
+use Rattle.std.proofs.Common.{◌≡◌, sym, ◌∙◌, ap, ℕ, Bool, List, [], Option, Some}
+use Rattle.std.specs.Prelude.{option_map, slice_get, unwrap_or}
 use Rattle.edm_values.specs.declared.EdmType.{EdmType}
 use Rattle.edm_values.specs.Lists.{same_text}
 use Rattle.edm_values.specs.Names.{Name}
-use Rattle.edm_values.proofs.OptionFacts.{chained, mapped, none_or, some_value}
+use Rattle.edm_values.proofs.OptionFacts.{chained, mapped, some_value}
 use Rattle.edm_values.proofs.SameTexts.{same_texts}
-use Rattle.edm_values.proofs.SearchFacts.{chosen, found-passes}
+use Rattle.edm_values.proofs.SearchFacts.{found-passes, found-numbered_at, found-All}
 use Rattle.edm_model.specs.Models.{Custom, EntityType, Model, Part}
 use Rattle.edm_model.specs.LookUps.{custom_named, custom_on, item_named, type_at}
 use Rattle.context_typing.specs.Readings.{AreTypedOver, IsTypedCustom, reading_of, same_part, typed_at}
 use Rattle.context_typing.specs.Typing.{custom_kind, custom_risky}
 use Rattle.context_typing.specs.declared.customs.TypedCustom.{TypedCustom}
-use Rattle.apply_meaning.proofs.WellTyped.{numbered-at}
 use Rattle.std.specs.List.{enumerate_from}
-
--- what holds of all holds of what a search finds
-pub found-one : {X : Type 0} (P : X → Type 0) (test : X → Bool) (xs : List X) (x : X) → All P xs → find test xs ≡ Some x → P x
-found-one P test [] x a e = none_or x e
-found-one P test (y ∷ ys) x a e = elim (chosen (test y) y x (find test ys) e) [
-  | inl h ↦ subst P h.1 (All-head P y ys a)
-  | inr h ↦ found-one P test ys x (All-tail P y ys a) h.1
-]
-
--- the two are one part
-pub one_part : (a b : Part) → same_part a b ≡ true → a ≡ b
-one_part a b e =
-    let t = and_parts (a.of == b.of) (a.at == b.at) e in
-    (λ i. record { of = eqb-true a.of b.of t.0 i; at = eqb-true a.at b.at t.1 i })
+use Rattle.context_typing.proofs.CustomFacts.{same_part-is}
 
 -- what a name finds stands at its place, and has the name
 pub named-place : (m : Model) (t k : ℕ) (n : Name) (u : Custom) → custom_named m t n ≡ Some (k, u) → (custom_on m (record { of = t; at = k }) ≡ Some u) × (u.name ≡ n)
 named-place m t k n u e =
     let test : ℕ × Custom → Bool = λ y. same_text (y.1).name n in
     let y = chained (λ (e : EntityType). item_named (λ (u : Custom). u.name) n e.customs) (type_at m t) (k, u) e in (
-      ap (λ (o : Option EntityType). slice_get (unwrap_or (option_map (λ (e : EntityType). e.customs) o) []) k) y.1 ∙ numbered-at test (y.0).customs (k, u) y.2,
+      ap (λ (o : Option EntityType). slice_get (unwrap_or (option_map (λ (e : EntityType). e.customs) o) []) k) y.1 ∙ found-numbered_at test (y.0).customs (k, u) y.2,
       same_texts u.name n (found-passes test (enumerate_from 0 (y.0).customs) (k, u) y.2),
     )
 
@@ -53,8 +37,8 @@ pub typed-found : (m : Model) (c : List TypedCustom) (id : Part) (u : Custom) (x
     → (x.owner ≡ id.of) × (custom_kind m u (reading_of x) ≡ Some x.kind)
 typed-found m c id u x all on e =
     let test : TypedCustom → Bool = λ y. same_part y.read.id id in
-    let typed = found-one (IsTypedCustom m) test c x all e in
-    let same = one_part x.read.id id (found-passes test c x e) in
+    let typed = found-All (IsTypedCustom m) test c x all e in
+    let same = same_part-is x.read.id id (found-passes test c x e) in
     let v = typed-named m x typed in
     let own : v.0 ≡ u = some_value (sym (named-place m x.read.id.of x.read.id.at x.name v.0 v.1).0 ∙ ap (custom_on m) same ∙ on) in
     (sym typed.0 ∙ ap (λ (p : Part). p.of) same, ap (λ u. custom_kind m u (reading_of x)) (sym own) ∙ v.2)

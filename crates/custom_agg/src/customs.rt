@@ -13,12 +13,13 @@ use crate::definitions::definition;
 use crate::groups::{group_values, groups_by};
 use aggregate_ops::aggregate_values;
 use apply_ast::Expr;
-use apply_meaning::{Row, data_is_loaded, values_of};
+use apply_meaning::{Row, data_is_loaded};
 use context_typing::{Customs, ReadCustom};
 use edm_data::Data;
 use edm_model::CustomId;
 use edm_values::{Method, Value};
 use par_stages::Gate;
+use row_values::values_of;
 use std::alloc::{AllocError, Global};
 use std::thread::Threads;
 
@@ -39,7 +40,7 @@ fn over_all<R: Threads + Sync, G: Gate>(
     requires foldable { AreFoldable method (spec.values store.now (expr_of e.now) rows.now) }
     ensures { IfOk result (λ v. v ≡ aggregate method (spec.values store.now (expr_of e.now) rows.now)) }
 {
-    let values = values_of(alloc, store, e, rows)?;
+    let values = values_of(rt, alloc, store, e, rows, workers)?;
     aggregate_values(rt, alloc, method, values.as_slice(), workers, gate)
 }
 
@@ -64,9 +65,7 @@ fn over_groups<R: Threads + Sync, G: Gate>(
 {
     let paths = read.per.as_slice();
     let groups = groups_by(rt, alloc, store, paths, rows, workers, gate)?;
-    let results = group_values(
-        rt, alloc, store, &read.of, method, rows, &groups, workers, gate,
-    )?;
+    let results = group_values(rt, alloc, store, &read.of, method, rows, &groups, gate)?;
     aggregate_values(rt, alloc, outer, results.as_slice(), workers, gate)
 }
 

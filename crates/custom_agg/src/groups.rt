@@ -8,13 +8,14 @@ ghost use Rattle.apply_meaning.specs.Running.{all_of};
 ghost use Rattle.par_stages.specs.Placed.{placed};
 ghost use Rattle.custom_agg.specs.CustomValues.{are_within, results_at};
 
-use crate::values::{key_lists, values_at};
+use crate::values::values_at;
 use aggregate_ops::{Groups, KeyTable, aggregate_values};
 use apply_ast::{Expr, Path};
 use apply_meaning::Row;
 use edm_data::Data;
 use edm_values::{Method, Value};
 use par_stages::{Gate, pieces};
+use row_values::key_lists;
 use std::alloc::{AllocError, Global};
 use std::thread::Threads;
 
@@ -33,12 +34,13 @@ pub(crate) fn groups_by<R: Threads + Sync, G: Gate>(
     requires of { IsTrue (all_of store.now rows.now) }
     ensures { IfOk result (λ found. found ≡ groups_of (placed 0 (map (key_list store.now paths.now) rows.now))) }
 {
-    let lists = key_lists(alloc, store, paths, rows)?;
+    let lists = key_lists(rt, alloc, store, paths, rows, workers)?;
     let empty = KeyTable::new(alloc, paths.len());
     pieces(rt, lists.as_slice(), workers, gate, &empty)?.into_groups()
 }
 
-/// What a method gives on the values of an expression on the rows of each group.
+/// What a method gives on the values of an expression on the rows of each group. Groups are many and often small, so each is one
+/// piece.
 pub(crate) fn group_values<R: Threads + Sync, G: Gate>(
     rt: &R,
     alloc: Global,
@@ -47,11 +49,8 @@ pub(crate) fn group_values<R: Threads + Sync, G: Gate>(
     method: Method,
     rows: &[Row],
     groups: &Groups,
-    workers: u32,
     gate: &G,
 ) -> Result<Vec<Value>, AllocError>
-    requires some { 0 < workers }
-    requires few { workers ≤ 64 }
     requires of { IsTrue (all_of store.now rows.now) }
     requires within { IsTrue (are_within (length rows.now) groups.now) }
     requires foldable { AreFoldable method (values store.now (expr_of e.now) rows.now) }
@@ -60,7 +59,7 @@ pub(crate) fn group_values<R: Threads + Sync, G: Gate>(
     let mut results = Vec::with_capacity(alloc, groups.len())?;
     for k in 0..groups.len() {
         let values = values_at(alloc, store, e, rows, groups.places(k))?;
-        results.push(aggregate_values(rt, alloc, method, values.as_slice(), workers, gate)?)?;
+        results.push(aggregate_values(rt, alloc, method, values.as_slice(), 1, gate)?)?;
     }
     Ok(results)
 }

@@ -2,10 +2,10 @@
 //!
 //! `custom` evaluates the expression of a custom aggregate on each row and aggregates the values by its method, in groups and
 //! again by its outer method where its definition says so. `definitions` finds the definition of a custom aggregate, `values`
-//! has the values of expressions and of key paths on rows, and `groups` groups rows and aggregates the values of each group.
+//! has the values of expressions on some of the rows, and `groups` groups rows and aggregates the values of each group.
 //!
 //! The crate stands on `aggregate_ops` for aggregates and tables of keys, on `par_stages` for folds in pieces, on
-//! `apply_meaning` for rows and expressions, on `context_typing` for the readings of custom aggregates, and on `edm_data` and
+//! `row_values` for values on rows, on `apply_meaning` for rows and expressions, on `context_typing` for the readings of custom aggregates, and on `edm_data` and
 //! `edm_model` for the data.
 //!
 //! It promises that the value is the one that the definition of the custom aggregate gives on the rows (`custom_value` of

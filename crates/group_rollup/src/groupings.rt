@@ -49,7 +49,7 @@ pub fn group<R: Threads + Sync, G: Gate>(
     requires of { IsTrue (all_of store.now rows.now) }
     ensures { GivesFor (λ found. found ≡ groups store.now keys.now rows.now) store.now keys.now rows.now result }
 {
-    let lists = key_lists(alloc, store, keys, rows)?;
+    let lists = key_lists(rt, alloc, store, keys, rows, workers)?;
     Ok(groups_of(rt, alloc, lists.as_slice(), keys.len(), workers, gate)?)
 }
 
@@ -96,7 +96,7 @@ fn level<R: Threads + Sync, G: Gate>(
 
 /// The groups of key lists of `width` values by their first values, for each number of these from all to one more than
 /// `least`. The key lists are grouped once, by all their values, and each next level is made from the one before it.
-fn level_groups<R: Threads + Sync, G: Gate>(
+fn front_levels<R: Threads + Sync, G: Gate>(
     rt: &R,
     alloc: Global,
     lists: &[Vec<Value>],
@@ -139,10 +139,10 @@ pub fn rollup<R: Threads + Sync, G: Gate>(
     ensures { GivesFor (λ found. found.items ≡ spec.level_groups store.now keys.now levels.now with_all rows.now) store.now (keys.now ++ levels.now) rows.now result }
 {
     let paths = all_paths(alloc, keys, levels)?;
-    let lists = key_lists(alloc, store, paths.as_slice(), rows)?;
+    let lists = key_lists(rt, alloc, store, paths.as_slice(), rows, workers)?;
     let lists = lists.as_slice();
     let width = paths.len();
-    let mut found = level_groups(rt, alloc, lists, keys.len(), width, workers, gate)?;
+    let mut found = front_levels(rt, alloc, lists, keys.len(), width, workers, gate)?;
     if with_all {
         let groups = level(rt, alloc, lists, &found, keys.len(), width, workers, gate)?;
         found.push(groups)?;

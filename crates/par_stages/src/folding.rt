@@ -3,21 +3,10 @@ ghost use Rattle.std.specs.Prelude.{◌≡◌, ◌+◌, ◌^◌, ◌<◌, ◌≤
 ghost use Rattle.std.specs.Thread.{IsSync};
 ghost use Rattle.par_stages.specs.Placed.{placed, placed_between, cut_at};
 
+use crate::bounds::{piece_bounds, piece_count};
 use crate::{Gate, Partial};
 use std::alloc::AllocError;
 use std::thread::{Threads, join};
-
-/// Where piece j of k begins, in a list of n items.
-fn cut(n: usize, k: u32, j: u32) -> usize
-    requires some { 0 < k }
-    requires few { k ≤ 64 }
-    requires at_most { j ≤ k }
-    requires small { n < 2 ^ 63 }
-    ensures place { result ≡ cut_at n k j }
-    ensures within { result ≤ n }
-{
-    (u128::from(j) * n as u128 / u128::from(k)) as usize
-}
 
 /// Folds the items at the places from `start` to before `end`.
 fn fold_between<T, P: Partial<Item = T>>(
@@ -57,8 +46,7 @@ fn fold_piece<T, P: Partial<Item = T>, G: Gate>(
     ensures kind { IfOk result (λ p. P.kind p ≡ P.kind empty.now) }
 {
     gate.piece(j, k);
-    let start = cut(items.len(), k, j);
-    let end = cut(items.len(), k, j + 1);
+    let (start, end) = piece_bounds(items.len(), k, j);
     fold_between(items, start, end, empty)
 }
 
@@ -148,6 +136,6 @@ pub fn pieces<R: Threads + Sync, T: Sync, P: Partial<Item = T> + Sync, G: Gate>(
     if n >= 1 << 63 {
         return Err(AllocError);
     }
-    let k = u32::try_from(n).unwrap_or(workers).min(workers).max(1);
+    let k = piece_count(n, workers);
     fold_first(rt, items, k, k, gate, empty)
 }

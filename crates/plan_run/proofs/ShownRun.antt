@@ -13,6 +13,7 @@ use Rattle.context_typing.specs.Typing.{hierarchy_at, steps_shape}
 use Rattle.apply_meaning.proofs.MeaningEquations.{inner_mean-SomePipe}
 use Rattle.apply_meaning.proofs.MeaningProved.{loaded-mean_fits}
 use Rattle.apply_meaning.proofs.NodeLemmas.{named-parts}
+use Rattle.apply_meaning.proofs.SetLemmas.{rows-length as rows-count}
 use Rattle.apply_meaning.specs.Instances.{Instance, rows}
 use Rattle.apply_meaning.specs.Meaning.{Outcome, inner_mean, mean, shown_of}
 use Rattle.apply_meaning.specs.Running.{Gives}
@@ -20,7 +21,6 @@ use Rattle.apply_meaning.specs.declared.refusals.RunRefused.{RunRefused}
 use Rattle.apply_meaning.specs.declared.refusals.RunRefused.TheVariants.{Range, Memory}
 use Rattle.row_orders.specs.Ranks.{GivesNumbers}
 use Rattle.apply_meaning.specs.MeaningLaws.{IsLoaded}
-use Rattle.hier_rows.proofs.NodeLaws.{rows-count}
 use Rattle.hier_rows.proofs.ShownLaws.{roots-below}
 use Rattle.hier_rows.specs.HierRows.{AreRootsBelow}
 use Rattle.plan_run.proofs.CostEquations.{given_applications-SomePipe}

@@ -13,7 +13,7 @@ ghost use Rattle.plan_run.specs.Conditions.{ItemReady, ItemsReady, RootFits, Ste
 
 use crate::contexts::Context;
 use apply_ast::{AggItem, AggList, Name, Path};
-use apply_meaning::{Row, Steps, count, data_is_loaded, path_of, values_of};
+use apply_meaning::{Row, Steps, count, data_is_loaded, path_of};
 use edm_model::TypeId;
 use edm_values::Value;
 use par_stages::Gate;
@@ -72,7 +72,7 @@ fn item_value<R: Threads + Sync, G: Gate>(
     match item {
         AggItem::Count(name) => Ok((path_of(alloc, name)?, count(rows.len())?)),
         AggItem::Standard(e, method, name) => {
-            let values = values_of(alloc, context.store(), e, rows)?;
+            let values = context.values(alloc, e, rows)?;
             let value = context.aggregate(alloc, *method, values.as_slice())?;
             Ok((path_of(alloc, name)?, value))
         }

@@ -1,13 +1,15 @@
 //! What a run works with.
-ghost use Rattle.std.specs.Prelude.{◌≡◌, ◌++◌, ◌<◌, ◌≤◌, All, Some, IfOk, IfSome, IsTrue, is_some, length, map};
+ghost use Rattle.std.specs.Prelude.{◌≡◌, ◌++◌, ◌<◌, ◌≤◌, All, Some, IfOk, IfSome, IsTrue, is_some, filter, length, map, true};
+ghost use Rattle.edm_values.specs.Values.{is_value};
 ghost use Rattle.edm_model.specs.LookUps.{HierarchyPlace, IsCustom, IsSet};
 ghost use Rattle.edm_data.specs.Nodes.{parents_of};
-ghost use Rattle.apply_ast.specs.Views.{hier_of};
+ghost use Rattle.apply_ast.specs.Views.{expr_of, hier_of};
 ghost use Rattle.context_typing.specs.Readings.{AreTypedOver, readings, typed_at};
 ghost use Rattle.context_typing.specs.Typing.{customs_typed, hierarchy_at};
 ghost use Rattle.apply_meaning.specs.Aggregates as aggregates;
-ghost use Rattle.apply_meaning.specs.Meaning.{key_list};
-ghost use Rattle.apply_meaning.specs.Running.{all_of};
+ghost use Rattle.apply_meaning.specs.Instances.{val};
+ghost use Rattle.apply_meaning.specs.Meaning.{key_list, refused_at_beyond, values};
+ghost use Rattle.apply_meaning.specs.Running.{Gives, all_of};
 ghost use Rattle.aggregate_ops.specs.KeyTables.{HasWidth};
 ghost use Rattle.aggregate_ops.specs.Partials.{AreFoldable};
 ghost use Rattle.custom_agg.specs.CustomValues.{value_by_id, HaveRoot};
@@ -17,7 +19,7 @@ ghost use Rattle.rollup_rec.specs.Rollups.{rolled, width_of};
 ghost use Rattle.plan_run.specs.Levels.{GivesFor};
 
 use aggregate_ops::{Groups, aggregate_values};
-use apply_ast::{HierName, Path};
+use apply_ast::{Expr, HierName, Path};
 use apply_meaning::{Row, RunRefused};
 use context_typing::Customs;
 use custom_agg::custom;
@@ -27,8 +29,9 @@ use edm_values::{Method, Value};
 use group_rollup::{GroupRefused, group, key_lists, rollup};
 use hier_index::Index;
 use hier_states::{HierState, Nodes, nodes_at};
-use par_stages::Gate;
+use par_stages::{Gate, workers_for};
 use rollup_rec::roll;
+use row_values::{filter_rows, values_of};
 use std::alloc::{AllocError, Global};
 use std::marker::Model;
 use std::thread::Threads;
@@ -89,6 +92,28 @@ impl<'a, R: Threads + Sync, G: Gate> Context<'a, R, G> {
         }
     }
 
+    /// The same data, whose lists are folded in one piece: for pipelines that are run again and again, on few rows each.
+    pub(crate) fn alone(&self) -> Context<'a, R, G>
+        ensures { result ≡ self.now }
+    {
+        Context {
+            rt: self.rt,
+            store: self.store,
+            customs: self.customs,
+            hiers: self.hiers,
+            workers: 1,
+            gate: self.gate,
+        }
+    }
+
+    /// How many of the workers a list of n items is worth: two at least, where there are two.
+    fn hands(&self, n: usize) -> u32
+        ensures some { 0 < result }
+        ensures few { result ≤ 64 }
+    {
+        workers_for(n, 2, self.workers)
+    }
+
     /// The data.
     pub(crate) fn store(&self) -> &Data
         ensures { result.now ≡ self.now.world }
@@ -115,7 +140,34 @@ impl<'a, R: Threads + Sync, G: Gate> Context<'a, R, G> {
         requires { AreFoldable method values.now }
         ensures { IfOk result (λ v. v ≡ aggregates.aggregate method values.now) }
     {
-        aggregate_values(self.rt, alloc, method, values, self.workers, self.gate)
+        let hands = self.hands(values.len());
+        aggregate_values(self.rt, alloc, method, values, hands, self.gate)
+    }
+
+    /// The values of an expression on rows.
+    pub(crate) fn values(
+        &self,
+        alloc: Global,
+        e: &Expr,
+        rows: &[Row],
+    ) -> Result<Vec<Value>, AllocError>
+        requires { IsTrue (all_of self.now.world rows.now) }
+        ensures { IfOk result (λ vs. vs.items ≡ values self.now.world (expr_of e.now) rows.now) }
+    {
+        values_of(self.rt, alloc, self.store, e, rows, self.workers)
+    }
+
+    /// The rows on which an expression is true.
+    pub(crate) fn filter(
+        &self,
+        alloc: Global,
+        e: &Expr,
+        rows: Vec<Row>,
+    ) -> Result<Vec<Row>, RunRefused>
+        requires { IsTrue (all_of self.now.world rows.items) }
+        ensures { Gives result (refused_at_beyond (values self.now.world (expr_of e.now) rows.items) (filter (λ i. is_value true (val self.now.world i (expr_of e.now))) rows.items)) }
+    {
+        filter_rows(self.rt, alloc, self.store, e, rows, self.workers)
     }
 
     /// The value of a custom aggregate on rows.
@@ -130,6 +182,7 @@ impl<'a, R: Threads + Sync, G: Gate> Context<'a, R, G> {
         requires fit { HaveRoot self.now.world id.of rows.now }
         ensures { IfOk result (λ v. Some v ≡ value_by_id self.now.world self.now.customs id rows.now) }
     {
+        let hands = self.hands(rows.len());
         custom(
             self.rt,
             alloc,
@@ -137,7 +190,7 @@ impl<'a, R: Threads + Sync, G: Gate> Context<'a, R, G> {
             rows,
             self.customs,
             id,
-            self.workers,
+            hands,
             self.gate,
         )
     }
@@ -152,15 +205,8 @@ impl<'a, R: Threads + Sync, G: Gate> Context<'a, R, G> {
         requires { IsTrue (all_of self.now.world rows.now) }
         ensures { GivesFor (λ found. found ≡ groups self.now.world keys.now rows.now) self.now.world keys.now rows.now result }
     {
-        match group(
-            self.rt,
-            alloc,
-            self.store,
-            rows,
-            keys,
-            self.workers,
-            self.gate,
-        ) {
+        let hands = self.hands(rows.len());
+        match group(self.rt, alloc, self.store, rows, keys, hands, self.gate) {
             Ok(found) => Ok(found),
             Err(GroupRefused::Range) => Err(RunRefused::Range),
             Err(GroupRefused::Memory) => Err(RunRefused::Memory),
@@ -179,16 +225,9 @@ impl<'a, R: Threads + Sync, G: Gate> Context<'a, R, G> {
         requires { IsTrue (all_of self.now.world rows.now) }
         ensures { GivesFor (λ found. found.items ≡ level_groups self.now.world keys.now levels.now with_all rows.now) self.now.world (keys.now ++ levels.now) rows.now result }
     {
+        let hands = self.hands(rows.len());
         match rollup(
-            self.rt,
-            alloc,
-            self.store,
-            rows,
-            keys,
-            levels,
-            with_all,
-            self.workers,
-            self.gate,
+            self.rt, alloc, self.store, rows, keys, levels, with_all, hands, self.gate,
         ) {
             Ok(found) => Ok(found),
             Err(GroupRefused::Range) => Err(RunRefused::Range),
@@ -206,7 +245,7 @@ impl<'a, R: Threads + Sync, G: Gate> Context<'a, R, G> {
         requires { IsTrue (all_of self.now.world rows.now) }
         ensures { GivesFor (λ lists. map (λ k. k.items) lists.items ≡ map (key_list self.now.world keys.now) rows.now) self.now.world keys.now rows.now result }
     {
-        match key_lists(alloc, self.store, keys, rows) {
+        match key_lists(self.rt, alloc, self.store, keys, rows, self.workers) {
             Ok(lists) => Ok(lists),
             Err(GroupRefused::Range) => Err(RunRefused::Range),
             Err(GroupRefused::Memory) => Err(RunRefused::Memory),
@@ -239,15 +278,7 @@ impl<'a, R: Threads + Sync, G: Gate> Context<'a, R, G> {
         requires width { All (HasWidth (width_of keys.now)) keys.now }
         ensures { IfOk result (λ v. v.items ≡ rolled index.now nodes.now (map (λ k. k.items) keys.now) shown.now) }
     {
-        roll(
-            self.rt,
-            alloc,
-            index,
-            nodes,
-            shown,
-            keys,
-            self.workers,
-            self.gate,
-        )
+        let hands = self.hands(keys.len());
+        roll(self.rt, alloc, index, nodes, shown, keys, hands, self.gate)
     }
 }

@@ -39,8 +39,7 @@ use apply_ast::{
     ClimbStep, HierName, JoinStep, KeyItem, KeyList, Name, Pipe, PipeList, Step, TopStep,
 };
 use apply_meaning::{
-    Row, RunRefused, Steps, compute_rows, data_is_loaded, filter_rows, set_rows, skip_rows,
-    top_rows,
+    Row, RunRefused, Steps, compute_rows, data_is_loaded, set_rows, skip_rows, top_rows,
 };
 use edm_model::{NavId, TypeId};
 use hier_rows::{all_nodes, shown_nodes};
@@ -202,6 +201,28 @@ pub(crate) fn run_pipe<R: Threads + Sync, G: Gate, L: Ledger>(
     Ok(rows)
 }
 
+/// The rows that the pipeline gives, each list folded in one piece: for a pipeline that is run again and again, on few rows each.
+#[cycle(run)]
+fn run_alone<R: Threads + Sync, G: Gate, L: Ledger>(
+    alloc: Global,
+    context: &Context<'_, R, G>,
+    root: &Option<TypeId>,
+    pipe: &Pipe,
+    rows: Vec<Row>,
+    steps: &mut Steps<L>,
+) -> Result<Vec<Row>, RunRefused>
+    requires ready { ReadyFrom context.now root.now (pipe_of pipe.now) rows.items }
+    requires named { AreReady context.now (hierarchies (pipe_of pipe.now)) }
+    ensures mean { (S S' : Shape) → RunsFrom context.now root.now S S' (pipe_of pipe.now) rows.items
+        → Gives result (mean context.now.world (readings context.now.customs) S (pipe_of pipe.now) rows.items) }
+    ensures steps { (S S' : Shape) → RunsFrom context.now root.now S S' (pipe_of pipe.now) rows.items
+        → steps.new ≤ steps.old + cost context.now.world (readings context.now.customs) S (pipe_of pipe.now) rows.items }
+    ensures grown { steps.old ≤ steps.new }
+{
+    let inner = context.alone();
+    run_pipe(alloc, &inner, root, pipe, rows, steps)
+}
+
 /// The rows that one transformation gives.
 #[cycle(run)]
 fn run_step<R: Threads + Sync, G: Gate, L: Ledger>(
@@ -244,7 +265,7 @@ fn run_step<R: Threads + Sync, G: Gate, L: Ledger>(
         Step::Climb(climb) => run_climb(alloc, context, root, climb, rows, steps),
         Step::Traverse(walk) => traverse_rows(alloc, context, walk, rows.as_slice(), steps),
         Step::Identity => Ok(rows),
-        Step::Filter(e) => filter_rows(alloc, store, e, rows),
+        Step::Filter(e) => context.filter(alloc, e, rows),
         Step::Compute(items) => Ok(compute_rows(alloc, store, items.as_slice(), rows, steps)?),
         Step::OrderBy(items) => order_rows(alloc, store, items, rows),
         Step::Skip(n) => Ok(skip_rows(*n, rows)),
@@ -407,7 +428,7 @@ fn run_group<R: Threads + Sync, G: Gate, L: Ledger>(
     let places = level.places(k);
     group_ready(context, root, pipe, level, rows, places);
     let copies = members(alloc, rows, places, steps)?;
-    let results = run_pipe(alloc, context, root, pipe, copies, steps)?;
+    let results = run_alone(alloc, context, root, pipe, copies, steps)?;
     let key = level.key(alloc, k)?;
     Ok(with_keys(alloc, level.paths(), key.as_slice(), results, steps)?)
 }
@@ -603,7 +624,7 @@ fn run_inner<R: Threads + Sync, G: Gate, L: Ledger>(
     ensures grown { steps.old ≤ steps.new }
 {
     match inner {
-        Some(pipe) => run_pipe(alloc, context, root, pipe, rows, steps),
+        Some(pipe) => run_alone(alloc, context, root, pipe, rows, steps),
         None => Ok(rows),
     }
 }

@@ -10,8 +10,8 @@ use Rattle.group_rollup.proofs.LevelLemmas.{levels-all, levels-some}
 use Rattle.group_rollup.proofs.groupings.rollup.Goals as goal
 use Rattle.group_rollup.proofs.groupings.rollup.Goals.{then-with_all+in_ok-groups+in_ok-push, else-with_all}
 
-pub level_groups-requires-clause-width : goal.level_groups-requires-clause-width
-level_groups-requires-clause-width g c κs within =
+pub front_levels-requires-clause-width : goal.front_levels-requires-clause-width
+front_levels-requires-clause-width g c κs within =
     let wide = wide-images (key_list c.args.store.now c.as_slice.result.now) (length c.as_slice.result.now) (λ i. length-map c.as_slice.result.now (lookup c.args.store.now i)) c.as_slice-lists.result.now c.args.rows.now (ap (map (λ k. k.items)) c.as_slice-lists.ensures.value ∙ c.in_ok-lists.ensures.0) in
     let size : length c.as_slice.result.now ≡ c.len-width.result = omega arith in
     subst (λ n. All (HasWidth n) c.as_slice-lists.result.now) size wide

@@ -9,10 +9,10 @@ use Rattle.plan_run.specs.Conditions.{ItemRuns}
 use Rattle.plan_run.proofs.CustomLemmas.{item-foldable}
 use Rattle.plan_run.proofs.aggregations.item_value.Goals as goal
 
-pub values_of-requires : goal.values_of-requires
-values_of-requires g c =
+pub values-requires-after_bounds : goal.values-requires-after_bounds
+values-requires-after_bounds g c κs within =
     let r = c.requires.ready in
-    subst (λ w. IsTrue (all_of w c.args.rows.now)) (sym c.store-in-Standard.ensures) (all-fit-of c.args.context.now.world r.0 c.args.rows.now (r.1).fit)
+    all-fit-of c.args.context.now.world r.0 c.args.rows.now (r.1).fit
 
 pub aggregate-requires-after_bounds : goal.aggregate-requires-after_bounds
 aggregate-requires-after_bounds g c κs within =
@@ -20,5 +20,5 @@ aggregate-requires-after_bounds g c κs within =
     let l = c.args.rows.now in
     let r = c.requires.ready in
     let e = expr_of c.in-Standard.e in
-    subst (AreFoldable c.in-Standard.method) (sym (c.as_slice.ensures.value ∙ c.in_ok-values-in-Standard.ensures ∙ ap (λ w. values w e l) c.store-in-Standard.ensures))
+    subst (AreFoldable c.in-Standard.method) (sym (c.as_slice.ensures.value ∙ c.in_ok-values-in-Standard.ensures))
     (item-foldable x c.args.root.now r.0 e c.in-Standard.method c.in-Standard.name l (subst IsLoaded c.store.ensures c.data_is_loaded.ensures) (subst (λ i. ItemRuns x c.args.root.now r.0 i l) (ap agg_of c.in-Standard.is) r.1))

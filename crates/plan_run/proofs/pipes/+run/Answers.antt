@@ -136,10 +136,36 @@ run_pipe-returns-clause-steps g t c = λ S S' R.
 pub run_pipe-returns-clause-grown : goal.run_pipe-returns-clause-grown
 run_pipe-returns-clause-grown g t c = omega (arith, c.loop-i.invariant.2)
 
-pub run_step-filter_rows-requires : goal.run_step-filter_rows-requires
-run_step-filter_rows-requires g t c =
+-- ---- one piece alone
+
+pub run_alone-run_pipe-requires-clause-ready : goal.run_alone-run_pipe-requires-clause-ready
+run_alone-run_pipe-requires-clause-ready g t c κs within = subst (λ x. ReadyFrom x c.args.root.now (pipe_of c.args.pipe.now) c.args.rows.items) (sym c.alone-inner.ensures) c.requires.ready
+
+pub run_alone-run_pipe-requires-clause-named : goal.run_alone-run_pipe-requires-clause-named
+run_alone-run_pipe-requires-clause-named g t c κs within = subst (λ x. AreReady x (hierarchies (pipe_of c.args.pipe.now))) (sym c.alone-inner.ensures) c.requires.named
+
+pub run_alone-returns-clause-mean : goal.run_alone-returns-clause-mean
+run_alone-returns-clause-mean g t c = λ S S' R.
+    let e = c.alone-inner.ensures in
+    subst (λ x. Gives c.run_pipe.result (mean x.world (readings x.customs) S (pipe_of c.args.pipe.now) c.args.rows.items)) e
+    (c.run_pipe.ensures.mean S S' (subst (λ x. RunsFrom x c.args.root.now S S' (pipe_of c.args.pipe.now) c.args.rows.items) (sym e) R))
+
+pub run_alone-returns-clause-steps : goal.run_alone-returns-clause-steps
+run_alone-returns-clause-steps g t c = λ S S' R.
+    let e = c.alone-inner.ensures in
+    let spent = c.run_pipe.ensures.steps S S' (subst (λ x. RunsFrom x c.args.root.now S S' (pipe_of c.args.pipe.now) c.args.rows.items) (sym e) R) in
+    let same = ap (λ x. cost x.world (readings x.customs) S (pipe_of c.args.pipe.now) c.args.rows.items) e in
+    omega (arith, spent, same)
+
+pub run_alone-returns-clause-grown : goal.run_alone-returns-clause-grown
+run_alone-returns-clause-grown g t c = omega (arith, c.run_pipe.ensures.grown)
+
+-- ---- one transformation
+
+pub run_step-filter-requires-after_bounds : goal.run_step-filter-requires-after_bounds
+run_step-filter-requires-after_bounds g t c κs within =
     let r = c.requires.ready in
-    subst (λ w. IsTrue (all_of w c.args.rows.items)) (sym c.store-store.ensures) (all-fit-of c.args.context.now.world r.0 c.args.rows.items (r.2).runs.fit)
+    all-fit-of c.args.context.now.world r.0 c.args.rows.items (r.2).runs.fit
 
 pub run_step-compute_rows-requires-clause-of : goal.run_step-compute_rows-requires-clause-of
 run_step-compute_rows-requires-clause-of g t c =
@@ -171,8 +197,8 @@ run_step-returns-in-Filter-clause-mean g t c = λ S S' R.
     let x = c.args.context.now in
     let l = c.args.rows.items in
     let e = expr_of c.in-Filter.e in
-    subst (Gives c.filter_rows.result) (sym (ap (λ s. step_mean x.world (readings x.customs) S s l) (ap step_of c.in-Filter.is ∙ step_of-Filter c.in-Filter.e) ∙ step_mean-Filter x.world (readings x.customs) S e l))
-    (subst (λ (w : World). Gives c.filter_rows.result (refused_at_beyond (values w e l) (filter (λ i. is_value true (val w i e)) l))) c.store-store.ensures c.filter_rows.ensures)
+    subst (Gives c.filter.result) (sym (ap (λ s. step_mean x.world (readings x.customs) S s l) (ap step_of c.in-Filter.is ∙ step_of-Filter c.in-Filter.e) ∙ step_mean-Filter x.world (readings x.customs) S e l))
+    c.filter.ensures
 
 pub run_step-returns-in_err-compute_rows-in-Compute-clause-steps :
     goal.run_step-returns-in_err-compute_rows-in-Compute-clause-steps
@@ -302,7 +328,7 @@ run_group-returns-in_err-results-clause-steps g t c = λ S G d R at.
     let T = pipe_of c.args.pipe.now in
     let l = c.args.rows.now in
     let u = group-run c.args.k R at c.places-places.ensures c.in_ok-copies.ensures.rows in
-    let ran = c.run_pipe.ensures.steps S G u.runs in
+    let ran = c.run_alone.ensures.steps S G u.runs in
     let costs = u.costs in
     let few = u.few in
     let copied = c.members.ensures.steps in
@@ -310,7 +336,7 @@ run_group-returns-in_err-results-clause-steps g t c = λ S G d R at.
     omega (arith, few, copied, charged, ran, costs)
 
 pub run_group-returns-in_err-results-clause-grown : goal.run_group-returns-in_err-results-clause-grown
-run_group-returns-in_err-results-clause-grown g t c = omega (arith, c.members.ensures.grown, c.run_pipe.ensures.grown)
+run_group-returns-in_err-results-clause-grown g t c = omega (arith, c.members.ensures.grown, c.run_alone.ensures.grown)
 
 pub run_group-returns-in_err-key-clause-steps : goal.run_group-returns-in_err-key-clause-steps
 run_group-returns-in_err-key-clause-steps g t c = λ S G d R at.
@@ -318,7 +344,7 @@ run_group-returns-in_err-key-clause-steps g t c = λ S G d R at.
     let T = pipe_of c.args.pipe.now in
     let l = c.args.rows.now in
     let u = group-run c.args.k R at c.places-places.ensures c.in_ok-copies.ensures.rows in
-    let ran = c.run_pipe.ensures.steps S G u.runs in
+    let ran = c.run_alone.ensures.steps S G u.runs in
     let costs = u.costs in
     let few = u.few in
     let copied = c.members.ensures.steps in
@@ -326,7 +352,7 @@ run_group-returns-in_err-key-clause-steps g t c = λ S G d R at.
     omega (arith, few, copied, charged, ran, costs)
 
 pub run_group-returns-in_err-key-clause-grown : goal.run_group-returns-in_err-key-clause-grown
-run_group-returns-in_err-key-clause-grown g t c = omega (arith, c.members.ensures.grown, c.run_pipe.ensures.grown)
+run_group-returns-in_err-key-clause-grown g t c = omega (arith, c.members.ensures.grown, c.run_alone.ensures.grown)
 
 pub run_group-with_keys-requires : goal.run_group-with_keys-requires
 run_group-with_keys-requires g t c =
@@ -351,7 +377,7 @@ run_group-returns-in_err-with_keys-clause-steps g t c = λ S G d R at.
     let T = pipe_of c.args.pipe.now in
     let l = c.args.rows.now in
     let u = group-run c.args.k R at c.places-places.ensures c.in_ok-copies.ensures.rows in
-    let ran = c.run_pipe.ensures.steps S G u.runs in
+    let ran = c.run_alone.ensures.steps S G u.runs in
     let costs = u.costs in
     let few = u.few in
     let copied = c.members.ensures.steps in
@@ -361,7 +387,7 @@ run_group-returns-in_err-with_keys-clause-steps g t c = λ S G d R at.
     omega (arith, few, copied, charged, ran, costs, made, spent)
 
 pub run_group-returns-in_err-with_keys-clause-grown : goal.run_group-returns-in_err-with_keys-clause-grown
-run_group-returns-in_err-with_keys-clause-grown g t c = omega (arith, c.members.ensures.grown, c.run_pipe.ensures.grown, c.with_keys.ensures.grown)
+run_group-returns-in_err-with_keys-clause-grown g t c = omega (arith, c.members.ensures.grown, c.run_alone.ensures.grown, c.with_keys.ensures.grown)
 
 pub run_group-returns-clause-steps : goal.run_group-returns-clause-steps
 run_group-returns-clause-steps g t c = λ S G d R at.
@@ -369,7 +395,7 @@ run_group-returns-clause-steps g t c = λ S G d R at.
     let T = pipe_of c.args.pipe.now in
     let l = c.args.rows.now in
     let u = group-run c.args.k R at c.places-places.ensures c.in_ok-copies.ensures.rows in
-    let ran = c.run_pipe.ensures.steps S G u.runs in
+    let ran = c.run_alone.ensures.steps S G u.runs in
     let costs = u.costs in
     let few = u.few in
     let copied = c.members.ensures.steps in
@@ -379,7 +405,7 @@ run_group-returns-clause-steps g t c = λ S G d R at.
     omega (arith, few, copied, charged, ran, costs, made, spent)
 
 pub run_group-returns-clause-grown : goal.run_group-returns-clause-grown
-run_group-returns-clause-grown g t c = omega (arith, c.members.ensures.grown, c.run_pipe.ensures.grown, c.with_keys.ensures.grown)
+run_group-returns-clause-grown g t c = omega (arith, c.members.ensures.grown, c.run_alone.ensures.grown, c.with_keys.ensures.grown)
 
 pub run_group-returns-clause-mean : goal.run_group-returns-clause-mean
 run_group-returns-clause-mean g t c = λ S G d R at.
@@ -1129,20 +1155,20 @@ run_inner-returns-in-Some-clause-mean g t c = λ S S' R.
     let x = c.args.context.now in
     let l = c.args.rows.items in
     let e = ap (λ o. inner_of (option_map pipe_of o)) c.in-Some.is in
-    subst (Gives c.run_pipe.result) (sym (inner_mean-SomePipe x.world (readings x.customs) S (λ r. Some r) (pipe_of c.in-Some.pipe) l) ∙ ap (λ T. inner_mean x.world (readings x.customs) S (λ r. Some r) T l) (sym e))
-    (c.run_pipe.ensures.mean S S' (subst (λ T. InnerRuns x c.args.root.now S S' T l) e R))
+    subst (Gives c.run_alone.result) (sym (inner_mean-SomePipe x.world (readings x.customs) S (λ r. Some r) (pipe_of c.in-Some.pipe) l) ∙ ap (λ T. inner_mean x.world (readings x.customs) S (λ r. Some r) T l) (sym e))
+    (c.run_alone.ensures.mean S S' (subst (λ T. InnerRuns x c.args.root.now S S' T l) e R))
 
 pub run_inner-returns-in-Some-clause-steps : goal.run_inner-returns-in-Some-clause-steps
 run_inner-returns-in-Some-clause-steps g t c = λ S S' R.
     let x = c.args.context.now in
     let l = c.args.rows.items in
     let e = ap (λ o. inner_of (option_map pipe_of o)) c.in-Some.is in
-    let spent = c.run_pipe.ensures.steps S S' (subst (λ T. InnerRuns x c.args.root.now S S' T l) e R) in
+    let spent = c.run_alone.ensures.steps S S' (subst (λ T. InnerRuns x c.args.root.now S S' T l) e R) in
     let whole = ap (λ T. inner_cost x.world (readings x.customs) S T l) e in
     omega (arith, spent, whole)
 
 pub run_inner-returns-in-Some-clause-grown : goal.run_inner-returns-in-Some-clause-grown
-run_inner-returns-in-Some-clause-grown g t c = omega (arith, c.run_pipe.ensures.grown)
+run_inner-returns-in-Some-clause-grown g t c = omega (arith, c.run_alone.ensures.grown)
 
 pub run_inner-returns-in-None-clause-mean : goal.run_inner-returns-in-None-clause-mean
 run_inner-returns-in-None-clause-mean g t c = λ S S' R.
@@ -1155,8 +1181,8 @@ run_inner-returns-in-None-clause-mean g t c = λ S S' R.
 pub run_step-run_concat-requires-clause-named : goal.run_step-run_concat-requires-clause-named
 run_step-run_concat-requires-clause-named g t c κs within = subst (λ s. AreReady c.args.context.now (step_hierarchies s)) (ap step_of c.in-Concat.is ∙ step_of-Concat c.in-Concat.branches) c.requires.named
 
-pub run_inner-run_pipe-requires-clause-named : goal.run_inner-run_pipe-requires-clause-named
-run_inner-run_pipe-requires-clause-named g t c κs within = subst (λ o. AreReady c.args.context.now (inner_hierarchies (inner_of (option_map pipe_of o)))) c.in-Some.is c.requires.named
+pub run_inner-run_alone-requires-clause-named : goal.run_inner-run_alone-requires-clause-named
+run_inner-run_alone-requires-clause-named g t c κs within = subst (λ o. AreReady c.args.context.now (inner_hierarchies (inner_of (option_map pipe_of o)))) c.in-Some.is c.requires.named
 
 -- ---- a traversal
 

@@ -1,7 +1,7 @@
 use Rattle.std.proofs.Common.{◌≡◌, ◌+◌, ◌-◌, ◌++◌, ◌∷◌, [], ◌∙◌, ap, arith, map}
 use Rattle.group_rollup.specs.Groupings.{front_groups}
 use Rattle.group_rollup.proofs.LevelLemmas.{front_groups-more}
-use Rattle.group_rollup.proofs.groupings.level_groups.Goals as goal
+use Rattle.group_rollup.proofs.groupings.front_levels.Goals as goal
 
 pub level-requires-clause-found : goal.level-requires-clause-found
 level-requires-clause-found g c κs within =

@@ -1,6 +1,6 @@
 use Rattle.std.proofs.Common.{◌≡◌, map, take}
 use Rattle.apply_meaning.specs.Meaning as spec
-use Rattle.custom_agg.proofs.values.key_lists.Given as goal
+use Rattle.row_values.proofs.keys.lists_in_turn.Given as goal
 
 -- the key lists so far
 abbrev pub invariant-loop-row : goal.invariant-loop-row

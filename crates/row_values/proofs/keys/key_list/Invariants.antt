@@ -1,6 +1,6 @@
 use Rattle.std.proofs.Common.{◌≡◌, take}
 use Rattle.apply_meaning.specs.Meaning as spec
-use Rattle.custom_agg.proofs.values.key_list.Given as goal
+use Rattle.row_values.proofs.keys.key_list.Given as goal
 
 -- the values so far
 abbrev pub invariant-loop-path : goal.invariant-loop-path

@@ -1,0 +1,4 @@
+pub use Rattle.apply_meaning.specs.Instances
+pub use Rattle.apply_meaning.specs.Meaning
+pub use Rattle.apply_meaning.specs.Running
+pub mod Answers

@@ -1,0 +1,21 @@
+//! Values on rows, in the order of the rows, worked out by several threads.
+//!
+//! `values_of` has the values of an expression on rows, `key_lists` those of key paths; `filter_rows` keeps the rows on which an
+//! expression is true. The rows are cut into at most as many parts as there are workers, by `rayon`, and few rows are not cut at
+//! all. Threads read the data, the rows and the expression, and write nothing that is shared. Rows are moved by the thread that
+//! called.
+//!
+//! The crate stands on `apply_meaning` for rows and the values of expressions on them, on `apply_ast` for expressions and paths,
+//! and on `edm_data` for the data.
+//!
+//! It promises the values of the definitions, in the order of the rows, for every number of workers.
+#![tactic(auto)]
+
+mod filters;
+mod keys;
+mod parts;
+mod values;
+
+pub use filters::filter_rows;
+pub use keys::key_lists;
+pub use values::values_of;
