@@ -1,5 +1,6 @@
 pub mod PlanMeaning
 mod PlanSteps
+mod PlanTurns
 mod SettledFacts
 mod SettledPassing
 mod SettledRules

@@ -1,8 +1,8 @@
--- From one rewrite of a typed pipeline to its plan.
-use Rattle.std.proofs.Common.{◌≡◌, ◌∙◌, refl, sym, ap, subst, List, [], ◌∷◌, ◌++◌, Option, Some, None}
-use Rattle.std.specs.Prelude.{IfSome, slice_get}
+-- From what each rule makes of a typed pipeline at its first place to what the first of them makes that applies.
+use Rattle.std.proofs.Common.{◌≡◌, ◌∙◌, refl, sym, ap, subst, ℕ, ◌+◌, ◌<◌, ◌≤◌, List, [], ◌∷◌, ◌++◌, Option, Some, None, map, take, drop, length, get_or}
+use Rattle.std.specs.Prelude.{slice_get}
+use Rattle.std.proofs.lemmas.List.{drop-map, get_or_default, take-map, take_all}
 use Rattle.edm_values.specs.Lists.{find_map, first_some}
-use Rattle.edm_values.proofs.EachLemmas.{Each}
 use Rattle.edm_model.specs.Models.{Model}
 use Rattle.apply_ast.specs.Trees.{Pipe}
 use Rattle.apply_ast.specs.Views.{pipe_of}
@@ -10,56 +10,70 @@ use Rattle.apply_meaning.specs.MeaningLaws.{IsLoaded}
 use Rattle.context_typing.specs.Answers.{IsTyping}
 use Rattle.context_typing.specs.Typing.{Customs, shape_of_set, steps_shape}
 use Rattle.context_typing.specs.declared.typed.Typed.{Typed}
-use Rattle.rewrite_rules.specs.Places.{IsFirst}
+use Rattle.rewrite_rules.specs.Places.{IsFirst, MayStand, rule_of}
+use Rattle.rewrite_rules.specs.declared.rules.RuleName.{RuleName}
+use Rattle.rewrite_rules.proofs.FirstPlaces.{mapped-next, mapped-whole}
 use Rattle.rewrite_laws.specs.RewriteLaws.{MayStandFor}
 use Rattle.rewrite_laws.specs.Rewrites.{Rule, first_rewrite, rules}
-use Rattle.optimiser.specs.Plans.{IsNext}
+use Rattle.optimiser.specs.Plans.{IsFirstOf}
+use Rattle.optimiser.specs.Settled.{early_rules, later_rules}
 
--- a search passes over what gives nothing
-found-behind : {X Y : Type 0} (f : X → Option Y) (xs ys : List X) → Each (λ x. f x ≡ None) xs → find_map f (xs ++ ys) ≡ find_map f ys
-found-behind f [] ys e = refl
-found-behind f (x ∷ xs) ys e = ap (λ o. first_some o (find_map f (xs ++ ys))) e.0 ∙ found-behind f xs ys e.1
-
--- it ends with nothing where nothing is given
-found-nowhere : {X Y : Type 0} (f : X → Option Y) (xs : List X) → Each (λ x. f x ≡ None) xs → find_map f xs ≡ None
-found-nowhere f [] e = refl
-found-nowhere f (x ∷ xs) e = ap (λ o. first_some o (find_map f xs)) e.0 ∙ found-nowhere f xs e.1
+-- a search in a list, and then in another
+pub found-append : {X Y : Type 0} (f : X → Option Y) (xs ys : List X) → find_map f (xs ++ ys) ≡ first_some (find_map f xs) (find_map f ys)
+found-append f [] ys = refl
+found-append f (x ∷ xs) ys = ap (first_some (f x)) (found-append f xs ys) ∙ sym (first_some-assoc (f x) (find_map f xs) (find_map f ys))
+  where
+    first_some-assoc : {Y : Type 0} (a b d : Option Y) → first_some (first_some a b) d ≡ first_some a (first_some b d)
+    first_some-assoc None b d = refl
+    first_some-assoc (Some y) b d = refl
 
 module _ (m : Model) (c : Customs) (t : Typed) where
-  -- a rule applies at no place
-  abbrev pub Nowhere : Rule → Type 0
-  Nowhere r = IsFirst r m c t None
+  abbrev First : Rule → Option Pipe
+  First r = first_rewrite r m c (shape_of_set m t.set) (pipe_of t.pipe)
 
-  -- so it has no first result
-  none-first : (rs : List Rule) → Each Nowhere rs → Each (λ r. first_rewrite r m c (shape_of_set m t.set) (pipe_of t.pipe) ≡ None) rs
-  none-first [] e = tt
-  none-first (r ∷ rs) e = (ap (λ l. slice_get l 0) e.0, none-first rs e.1)
+  -- none of the first rules of a list applies
+  abbrev pub NoneOf : List RuleName → Type 0
+  NoneOf ns = find_map First (map rule_of ns) ≡ None
 
-  -- what a rule makes at its first place, where those before it apply nowhere
-  pub next-by : (before : List Rule) (r : Rule) (after : List Rule) (q : Typed) → before ++ r ∷ after ≡ rules → Each Nowhere before → IsFirst r m c t (Some q) → IsNext m c t (Some q)
-  next-by before r after q whole none first =
-      let f : Rule → Option Pipe = λ r. first_rewrite r m c (shape_of_set m t.set) (pipe_of t.pipe) in
-      (first.0, first.1, ap (find_map f) (sym whole) ∙ found-behind f before (r ∷ after) (none-first before none) ∙ ap (λ o. first_some o (find_map f after)) first.2)
+  -- nor the next
+  pub none-more : (ns : List RuleName) (i : ℕ) (d : RuleName) (o : Option Typed) → i < length ns → NoneOf (take i ns) → o ≡ None → IsFirst (rule_of (get_or ns i d)) m c t o → NoneOf (take (i + 1) ns)
+  none-more ns i d o h none e first =
+      let n = get_or ns i d in
+      let k : First (rule_of n) ≡ None = ap (λ l. slice_get l 0) (subst (IsFirst (rule_of n) m c t) e first) in
+      ap (find_map First) (mapped-next rule_of ns i n h (get_or_default ns i d n h))
+      ∙ found-append First (map rule_of (take i ns)) (rule_of n ∷ [])
+      ∙ (λ j. first_some (none j) (first_some (k j) None))
 
-  -- no rule applies
-  pub next-none : Each Nowhere rules → IsNext m c t None
-  next-none none = found-nowhere (λ r. first_rewrite r m c (shape_of_set m t.set) (pipe_of t.pipe)) rules (none-first rules none)
+  -- the next one applies
+  pub found-next : (ns : List RuleName) (i : ℕ) (d : RuleName) (o : Option Typed) (q : Typed) → i < length ns → NoneOf (take i ns) → o ≡ Some q → IsFirst (rule_of (get_or ns i d)) m c t o → IsFirstOf (map rule_of ns) m c t (Some q)
+  found-next ns i d o q h none e first =
+      let n = get_or ns i d in
+      let k = subst (IsFirst (rule_of n) m c t) e first in
+      let rest = map rule_of (drop (i + 1) ns) in (
+        k.0,
+        k.1,
+        ap (find_map First) (mapped-whole rule_of ns i n h (get_or_default ns i d n h))
+            ∙ found-append First (map rule_of (take i ns)) (rule_of n ∷ rest)
+            ∙ (λ j. first_some (none j) (first_some (k.2 j) (find_map First rest))),
+      )
 
-  -- a rule that gives nothing
-  pub first-none : (r : Rule) (o : Option Typed) → o ≡ None → IsFirst r m c t o → Nowhere r
-  first-none r o e h = subst (IsFirst r m c t) e h
-
-  -- a rule that gives something, where those before it apply nowhere
-  pub first-some : (before : List Rule) (r : Rule) (after : List Rule) (o : Option Typed) (q : Typed) → before ++ r ∷ after ≡ rules → Each Nowhere before → o ≡ Some q → IsFirst r m c t o → IsNext m c t (Some q)
-  first-some before r after o q whole none e h = next-by before r after q whole none (subst (IsFirst r m c t) e h)
+  -- none of all applies
+  pub none-at_all : (ns : List RuleName) (i : ℕ) → length ns ≤ i → NoneOf (take i ns) → IsFirstOf (map rule_of ns) m c t None
+  none-at_all ns i h none = ap (λ l. find_map First (map rule_of l)) (sym (take_all i ns h)) ∙ none
 
   -- what may stand for a pipeline with its shape is typed
   pub typing-kept : (q : Typed) → q.set ≡ t.set → q.shape ≡ t.shape → MayStandFor IsLoaded m c (shape_of_set m t.set) t.shape (pipe_of t.pipe) (pipe_of q.pipe) → IsTyping m c q
   typing-kept q set shape h = (h.typed.0, ap (λ s. steps_shape m c (shape_of_set m s) (pipe_of q.pipe)) set ∙ h.typed.1 ∙ ap Some (sym shape))
 
   -- so what a rule gives is typed
-  pub first-typed : (r : Rule) (o : Option Typed) (q : Typed) → o ≡ Some q → IsFirst r m c t o → IfSome o (λ q. MayStandFor IsLoaded m c (shape_of_set m t.set) t.shape (pipe_of t.pipe) (pipe_of q.pipe)) → IsTyping m c q
+  pub first-typed : (r : Rule) (o : Option Typed) (q : Typed) → o ≡ Some q → IsFirst r m c t o → MayStand m c t o → IsTyping m c q
   first-typed r o q e h k =
       let first = subst (IsFirst r m c t) e h in
-      let P : Option Typed → Type 0 = λ o. IfSome o (λ q. MayStandFor IsLoaded m c (shape_of_set m t.set) t.shape (pipe_of t.pipe) (pipe_of q.pipe)) in
-      typing-kept q first.0 first.1 (subst P e k)
+      typing-kept q first.0 first.1 (subst (MayStand m c t) e k)
+
+-- the rules behind those that come first, as a slice has them
+pub later-of : (ns : List RuleName) → map rule_of ns ≡ rules → map rule_of (take (length later_rules) (drop (length early_rules) ns)) ≡ later_rules
+later-of ns e =
+    sym (take-map rule_of (length later_rules) (drop (length early_rules) ns))
+    ∙ ap (take (length later_rules)) (sym (drop-map rule_of (length early_rules) ns))
+    ∙ ap (λ l. take (length later_rules) (drop (length early_rules) l)) e

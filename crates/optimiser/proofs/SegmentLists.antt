@@ -1,25 +1,19 @@
 -- Segments as lists: a filter that goes past some of them, and those at the end.
-use Rattle.std.proofs.Common.{◌≡◌, add-one, refl, sym, ◌∙◌, ap, arith, subst, ℕ, min, ◌<◌, ◌≤◌, ◌+◌, ◌-◌, ◌==◌, Bool, true, false, not, ◌&&◌, ◌||◌, List, [], ◌∷◌, ◌++◌, Option, Some, None, drop, get_or, length, map, reverse, set, take}
-use Rattle.std.specs.Prelude.{option_and_then, option_map, if◌then◌else◌}
-use Rattle.std.specs.Bool.{then_some}
+use Rattle.std.proofs.Common.{◌≡◌, add-one, refl, sym, ◌∙◌, ap, arith, subst, ℕ, ◌<◌, ◌≤◌, ◌+◌, ◌-◌, ◌==◌, Bool, true, false, not, ◌&&◌, ◌||◌, List, [], ◌∷◌, ◌++◌, drop, get_or, length, map, reverse, set, take}
+use Rattle.std.specs.Prelude.{option_map, if◌then◌else◌}
 use Rattle.std.specs.List.{list_all}
 use Rattle.std.proofs.Math.Dec.{eqb-suc-zero}
 use Rattle.std.proofs.lemmas.List.{append_assoc, drop_all, drop_more, get_or_default, map-append, reverse-append, set_split, take_all, take_more}
 use Rattle.edm_values.specs.Lists.{is_nonempty}
-use Rattle.edm_values.proofs.OptionFacts.{some_value}
 use Rattle.edm_model.specs.Models.{Model}
-use Rattle.apply_ast.specs.Trees.{Expr, Limit, Step, TopStep}
+use Rattle.apply_ast.specs.Trees.{Expr, Step}
 use Rattle.apply_ast.specs.declared.expressions.BinOp.TheVariants as BinOp
 use Rattle.apply_ast.specs.Views.{expr_of, step_of}
 use Rattle.context_typing.specs.Typing.{is_sure}
 use Rattle.context_typing.specs.Shapes.{Shape}
-use Rattle.rewrite_laws.specs.TreeEquality.{expr_same}
-use Rattle.rewrite_laws.specs.Rewrites.{top_count}
-use Rattle.rewrite_laws.proofs.SameExpressions.{same-exprs}
-use Rattle.rewrite_rules.specs.Forms.{count_by, count_from_top}
 use Rattle.optimiser.proofs.SettledFacts.{put_tests-append}
 use Rattle.optimiser.specs.Settled as spec
-use Rattle.optimiser.specs.SegmentViews.{GoesTo, IsPast, counted_by, segment_of, segments_of, test_of}
+use Rattle.optimiser.specs.SegmentViews.{GoesTo, IsPast, segment_of, segments_of, test_of}
 use Rattle.optimiser.specs.declared.segments.Test.{Test}
 use Rattle.optimiser.specs.declared.segments.Segment.{Segment}
 
@@ -125,75 +119,6 @@ put-both m S a b gs sure =
     sym (put_tests-append (map (spec.judged m S) (spec.parts m S a)) (map (spec.judged m S) (spec.parts m S b)) gs)
     ∙ ap (λ l. spec.put_tests l gs) (sym (map-append (spec.judged m S) (spec.parts m S a) (spec.parts m S b)))
     ∙ ap (λ v. spec.put_tests (map (spec.judged m S) (if v then spec.parts m S a ++ spec.parts m S b else Expr.Binary BinOp.And a b ∷ [])) gs) (sym sure)
-
--- ---- selections
-
--- the count that stands for two, by what each counts
-last-form : (g : spec.Segment) (t : TopStep) → spec.last_count g t
-    ≡ (if is_nonempty g.tests then None else option_and_then (λ s. option_and_then (λ x. option_and_then (λ y. then_some (expr_same x.1 y.1) (counted_by x.1 (min x.0 y.0))) (count_by t)) (count_from_top s)) g.head)
-last-form g t = ap (λ o. if is_nonempty g.tests then None else o) (go g.head t.bottom t.limit t.expr)
-  where
-    top : Bool → Limit → Expr → TopStep
-    top b l e = record { bottom = b; limit = l; expr = e }
-
-    two : (b : Bool) (l : Limit) (e : Expr) (b' : Bool) (l' : Limit) (e' : Expr) → spec.joined_count (Some (Step.TopBy (top b l e))) (top b' l' e')
-        ≡ option_and_then (λ x. option_and_then (λ y. then_some (expr_same x.1 y.1) (counted_by x.1 (min x.0 y.0))) (count_by (top b' l' e'))) (count_by (top b l e))
-    two false (Limit.Count n) e false (Limit.Count k) e' = refl
-    two false (Limit.Count n) e false l' e' = refl
-    two false (Limit.Count n) e true l' e' = refl
-    two false l e b' l' e' = refl
-    two true l e b' l' e' = refl
-
-    go : (h : Option Step) (b' : Bool) (l' : Limit) (e' : Expr) → spec.joined_count h (top b' l' e')
-        ≡ option_and_then (λ s. option_and_then (λ x. option_and_then (λ y. then_some (expr_same x.1 y.1) (counted_by x.1 (min x.0 y.0))) (count_by (top b' l' e'))) (count_from_top s)) h
-    go None b' l' e' = refl
-    go (Some (Step.TopBy u)) b' l' e' = two u.bottom u.limit u.expr b' l' e'
-    go (Some s) b' l' e' = refl
-
--- as the program tests it
-pub last-given : (g : Segment) (s : Step) (t : TopStep) (n k : ℕ) (by next : Expr) → (length g.tests.items == 0) ≡ true → option_map step_of g.head ≡ Some s
-    → count_from_top s ≡ Some (n, by) → count_by t ≡ Some (k, next) → (b : Bool) → expr_same by next ≡ b → then_some b (counted_by by (min n k)) ≡ spec.last_count (segment_of g) t
-last-given g s t n k by next none head first second b same =
-    let found : Option (ℕ × Expr) → Option (ℕ × Expr) → Option TopStep = λ o p. option_and_then (λ x. option_and_then (λ y. then_some (expr_same x.1 y.1) (counted_by x.1 (min x.0 y.0))) p) o in
-    sym (last-form (segment_of g) t
-    ∙ ap (λ v. if v then None else option_and_then (λ s. found (count_from_top s) (count_by t)) (option_map step_of g.head)) (is-empty g.tests.items none)
-    ∙ ap (option_and_then (λ s. found (count_from_top s) (count_by t))) head
-    ∙ (λ i. found (first i) (second i))
-    ∙ ap (λ v. then_some v (counted_by by (min n k))) same)
-  where
-    is-empty : (ts : List Test) → (length ts == 0) ≡ true → is_nonempty (map test_of ts) ≡ false
-    is-empty [] e = refl
-    is-empty (t ∷ ts) e = cc (eqb-suc-zero (length ts))
-
--- the count that a selection goes on to is of its own expression
-pub same-count : (t : TopStep) (k : ℕ) (next : Expr) → count_by t ≡ Some (k, next) → next ≡ t.expr
-same-count t k next e = go (top_count t.bottom t.limit) e
-  where
-    go : (o : Option ℕ) → option_map {U = ℕ × Expr} (λ n. (n, t.expr)) o ≡ Some (k, next) → next ≡ t.expr
-    go None e = cc
-    go (Some n) e = sym (ap (λ x. x.1) (some_value e))
-
--- a count by one of two expressions that are the same
-pub counted-same : (b : Bool) (by next e : Expr) (n : ℕ) → expr_same by next ≡ b → next ≡ e → option_map (counted_by e) (then_some b n) ≡ then_some b (counted_by by n)
-counted-same true by next e n h k = ap (λ x. Some (counted_by x n)) (sym (same-exprs by next h ∙ k))
-counted-same false by next e n h k = refl
-
-selected : (m : Model) (S : Shape) (g : spec.Segment) (gs : List spec.Segment) (t u : TopStep) → Some u ≡ spec.last_count g t → record g { head = Some (Step.TopBy u) } ∷ gs ≡ spec.put_selection m S t (g ∷ gs)
-selected m S g gs t u count = ap (λ o. elim o [ None ↦ spec.segment m S (Step.TopBy t) ∷ g ∷ gs | Some v ↦ record g { head = Some (Step.TopBy v) } ∷ gs ]) count
-
--- the last segment, with another step
-pub select-last : (gs : List Segment) (n : ℕ) (g g' : Segment) (t u : TopStep) (m : Model) (S : Shape) → n ≡ length gs → 0 < n → g ≡ get_or gs (n - 1) g → Some u ≡ spec.last_count (segment_of g) t
-    → segment_of g' ≡ record (segment_of g) { head = Some (Step.TopBy u) } → segments_of (set gs (n - 1) g') ≡ spec.put_selection m S t (segments_of gs)
-select-last gs n g g' t u m S all some is count made =
-    let next : n ≡ (n - 1) + 1 = omega arith in
-    let at : n - 1 < length gs = omega arith in
-    let end : length gs ≤ n = omega arith in
-    let rest : List spec.Segment = segments_of (take (n - 1) gs) in
-    let last = before gs n (n - 1) next at g is in
-    set-segments gs n (n - 1) next at g is g'
-    ∙ (λ i. reverse (map segment_of (drop_all n gs end i)) ++ made i ∷ rest)
-    ∙ selected m S (segment_of g) rest t u count
-    ∙ ap (spec.put_selection m S t) (sym last ∙ ap segments_of (take_all n gs end))
 
 -- ---- steps
 

@@ -1,23 +1,22 @@
--- A typed pipeline of which no rule makes anything is settled as it stands.
-use Rattle.std.proofs.Common.{◌≡◌, ◌==◌, refl, sym, ◌∙◌, ap, subst, ℕ, Bool, true, false, not, ◌&&◌, ◌||◌, List, [], ◌∷◌, ◌++◌, Option, Some, None, map, filter, find, cond, append_assoc, append-nil, Contains, IsTrue, arith, min, ◌⊎◌, inl, inr, if◌then◌else◌}
+-- A typed pipeline of which none of the rules that come first makes anything is settled as it stands.
+use Rattle.std.proofs.Common.{◌≡◌, ◌==◌, refl, sym, ◌∙◌, ap, subst, Bool, true, false, not, ◌&&◌, ◌||◌, List, [], ◌∷◌, ◌++◌, Option, Some, None, map, filter, find, cond, append_assoc, append-nil, Contains, IsTrue, arith, ◌⊎◌, inl, inr, if◌then◌else◌}
 use Rattle.std.specs.Prelude.{option_and_then, option_map, option_to_list}
 use Rattle.std.specs.Bool.{then_some}
 use Rattle.std.specs.List.{list_all, list_any}
 use Rattle.edm_values.specs.Lists.{all_some, is_nonempty, is_some_and}
-use Rattle.edm_values.proofs.EachLemmas.{Each, all_some-head, all_some-tail, and-left, and-right, and_then-some, if-some, some_and-holds, then_some-holds}
-use Rattle.edm_values.proofs.OptionFacts.{none_or}
+use Rattle.edm_values.proofs.EachLemmas.{Each, all_some-head, all_some-tail, and-left, and-right, then_some-holds}
+use Rattle.edm_values.proofs.OptionFacts.{chained, if_else-parts, none_or, some_and}
 use Rattle.edm_model.specs.Models.{Model, Navigation}
 use Rattle.edm_model.specs.LookUps.{HierarchyPlace}
-use Rattle.apply_ast.specs.Trees.{AggItem, Expr, Key, Keys, Limit, OptPipe, OrderItem, Pipe, Pipes, Step, TopStep, is_distance, is_long, steps}
+use Rattle.apply_ast.specs.Trees.{Expr, Key, Keys, OptPipe, OrderItem, Pipe, Pipes, Step, is_distance, is_long, steps}
 use Rattle.context_typing.specs.Shapes.{Shape, set_shape}
 use Rattle.context_typing.specs.Typing.{Customs, after, branch_shapes, concat_shape, group_keys, grouped_shape, hierarchy_at, inner_shape, is_free, is_node_path, is_sure, join_navigation, joined_shape, key_typed, keys_typed, no_shape, order_sure, root_type, step_shape, steps_shape}
 use Rattle.context_typing.proofs.WalkFacts.{pipe-steps}
-use Rattle.rewrite_laws.specs.Rewrites.{FilterRun, Rule, behind, branch_results, drop_identity, drop_order, drop_true, inner_results, is_among, join_counts, key_results, keys_results, longer, movable, pass_compute, pass_order, passing, paths, pipe_results, rules, runs, split_conjunction, step_results, top_count}
-use Rattle.rewrite_laws.specs.TreeEquality.{expr_same}
+use Rattle.rewrite_laws.specs.Rewrites.{FilterRun, Rule, behind, branch_results, drop_identity, drop_true, inner_results, is_among, key_results, keys_results, longer, movable, pass_compute, pass_order, passing, paths, pipe_results, runs, split_conjunction, step_results}
 use Rattle.rewrite_laws.proofs.RuleLemmas.{after-filter}
-use Rattle.optimiser.specs.Settled.{Segment, Test, all_steps, at_least_identity, front, head_passed, joined_count, judged, last_count, order_flag, parts, put_step, put_steps, put_test, put_tests, segment, segment_passed, segment_steps, settled_branches, settled_inner, settled_key, settled_keys, settled_step, whole, with_test, without_orders}
+use Rattle.optimiser.specs.Settled.{Segment, Test, all_steps, at_least_identity, early_rules, front, head_passed, judged, order_flag, parts, put_step, put_steps, put_test, put_tests, segment, segment_passed, segment_steps, settled_branches, settled_inner, settled_key, settled_keys, settled_step, whole, with_test}
 use Rattle.optimiser.proofs.SettledFacts.{after-order, map-append}
-use Rattle.optimiser.proofs.SettledPassing.{and-none, append-none, is_nonempty-map, judged-sure, map-none, nothing-parts, one-filter, one-part, then_some-none}
+use Rattle.optimiser.proofs.SettledPassing.{and-none, append-none, is_nonempty-map, judged-sure, map-none, nothing-parts, one-filter, one-part}
 use Rattle.optimiser.proofs.SettledResults.{typed_first}
 
 -- ---- runs of which none is found
@@ -54,12 +53,6 @@ not-passing m T test x es e ss h =
     run-there (λ r. (may r && test r.last) ≡ false) es e ss
     (none-found (λ (r : FilterRun). test r.last) may (runs all) (none-mapped (λ r. Step.Filter r.last ∷ behind x r) (find (λ r. test r.last) (movable m T all)) h))
 
-no-chain : {X Y : Type 0} (f : ℕ → ℕ → X) (g : ℕ → ℕ → Y) (z : Bool) (o p : Option ℕ) → option_and_then (λ n. option_and_then (λ k. then_some z (f n k)) p) o ≡ None → option_and_then (λ n. option_and_then (λ k. then_some z (g n k)) p) o ≡ None
-no-chain f g z None p e = refl
-no-chain f g z (Some n) None e = refl
-no-chain f g false (Some n) (Some k) e = refl
-no-chain f g true (Some n) (Some k) e = none_or (f n k) (sym e)
-
 -- ---- the last segment before steps of which no rule makes anything
 
 -- filters may be passed by another
@@ -67,9 +60,9 @@ abbrev may_pass : Model → Shape → List Expr → Expr → Bool
 may_pass m T es e = not (is_nonempty es) || (list_all (is_sure m T) es && is_sure m T e)
 
 module _ (m : Model) (c : Customs) where
-  -- no rule makes anything of a pipeline
+  -- none of the rules makes anything of a pipeline
   abbrev pub AtRest : Shape → Bool → Pipe → Type 0
-  AtRest S before p = (r : Rule) → Contains rules r → pipe_results r m c S before p ≡ []
+  AtRest S before p = (r : Rule) → Contains early_rules r → pipe_results r m c S before p ≡ []
 
   -- the segment is a step with filters behind it, on the shape behind them, and no rule makes anything at the step
   pub record EndsAt (S : Shape) (g : Segment) (p : Pipe) : Type 0 where
@@ -79,33 +72,27 @@ module _ (m : Model) (c : Customs) where
     pub es : List Expr
     pub is : g ≡ record { head = Some step; sure = order_flag m start step; tests = map (judged m S) es }
     pub behind' : S ≡ after m c start step
-    pub none : (r : Rule) → Contains rules r → r m c start before step (map Step.Filter es ++ steps p) ≡ None
+    pub none : (r : Rule) → Contains early_rules r → r m c start before step (map Step.Filter es ++ steps p) ≡ None
 
   -- or there is no step
   abbrev pub Ends : Shape → Segment → Pipe → Type 0
   Ends S g p = ((g.head ≡ None) × (g.sure ≡ false)) ⊎ EndsAt S g p
 
   -- the places of the rules
-  pub at-identity : Contains rules drop_identity
+  pub at-identity : Contains early_rules drop_identity
   at-identity = (0, omega arith, refl)
 
-  pub at-split : Contains rules split_conjunction
+  pub at-split : Contains early_rules split_conjunction
   at-split = (1, omega arith, refl)
 
-  pub at-true : Contains rules drop_true
+  pub at-true : Contains early_rules drop_true
   at-true = (2, omega arith, refl)
 
-  pub at-compute : Contains rules pass_compute
+  pub at-compute : Contains early_rules pass_compute
   at-compute = (3, omega arith, refl)
 
-  pub at-order : Contains rules pass_order
+  pub at-order : Contains early_rules pass_order
   at-order = (4, omega arith, refl)
-
-  pub at-aggregate : Contains rules drop_order
-  at-aggregate = (5, omega arith, refl)
-
-  pub at-count : Contains rules join_counts
-  at-count = (6, omega arith, refl)
 
   -- a filter does not pass the segment
   not-passed : (S : Shape) (g : Segment) (e : Expr) (q : Pipe) → Ends S g (Pipe.Then (Step.Filter e) q) → segment_passed g (judged m S e) ≡ false
@@ -131,43 +118,6 @@ module _ (m : Model) (c : Customs) where
           order-case true items n = not-passing m h.start (λ b. true) (Step.OrderBy items) h.es e (steps q) n
           order-case false items n = and-none (may_pass m h.start h.es e) false refl
       go x k = and-none (may_pass m S h.es e) (head_passed (Some h.step) (order_flag m h.start h.step) e) (ap (λ x. head_passed (Some x) (order_flag m h.start x) e) k)
-
-  -- an order at the end is not dropped before an aggregation
-  not-dropped : (S : Shape) (g : Segment) (as' : List AggItem) (q : Pipe) → Ends S g (Pipe.Then (Step.Aggregate as') q) → (g.sure && not (is_nonempty g.tests)) ≡ false
-  not-dropped S g as' q (inl h) = ap (λ z. z && not (is_nonempty g.tests)) h.1
-  not-dropped S g as' q (inr h) =
-      ap (λ (g : Segment). g.sure && not (is_nonempty g.tests)) h.is
-      ∙ (λ i. order_flag m h.start h.step && not (is_nonempty-map (judged m S) h.es i))
-      ∙ go h.es h.step refl refl
-    where
-      go : (es : List Expr) (x : Step) → h.es ≡ es → h.step ≡ x → (order_flag m h.start h.step && not (is_nonempty h.es)) ≡ false
-      go (e ∷ es) x j k = and-none (order_flag m h.start h.step) (not (is_nonempty h.es)) (ap (λ l. not (is_nonempty l)) j)
-      go [] (Step.OrderBy items) j k =
-          let none : drop_order m c h.start h.before (Step.OrderBy items) (Step.Aggregate as' ∷ steps q) ≡ None =
-          (λ i. drop_order m c h.start h.before (sym k i) (map Step.Filter (sym j i) ++ Step.Aggregate as' ∷ steps q)) ∙ h.none drop_order at-aggregate in
-          ap (λ x. order_flag m h.start x && not (is_nonempty h.es)) k ∙ ap (λ z. z && not (is_nonempty h.es)) (then_some-none (order_sure m h.start items) (Step.Aggregate as' ∷ steps q) none)
-      go [] x j k = ap (λ x. order_flag m h.start x && not (is_nonempty h.es)) k
-
-  -- a count at the end is not joined with another
-  not-joined : (S : Shape) (g : Segment) (t : TopStep) (q : Pipe) → Ends S g (Pipe.Then (Step.TopBy t) q) → last_count g t ≡ None
-  not-joined S g t q (inl h) = ap (λ o. if is_nonempty g.tests then None else joined_count o t) h.0 ∙ go (is_nonempty g.tests)
-    where
-      go : (b : Bool) → (if b then None else joined_count None t) ≡ None
-      go true = refl
-      go false = refl
-  not-joined S g t q (inr h) =
-      ap (λ g. last_count g t) h.is
-      ∙ (λ i. if is_nonempty-map (judged m S) h.es i then None else joined_count (Some h.step) t)
-      ∙ go h.es h.step refl refl
-    where
-      go : (es : List Expr) (x : Step) → h.es ≡ es → h.step ≡ x → (if is_nonempty h.es then None else joined_count (Some h.step) t) ≡ None
-      go (e ∷ es) x j k = ap (λ l. if is_nonempty l then None else joined_count (Some h.step) t) j
-      go [] (Step.TopBy u) j k =
-          let none : join_counts m c h.start h.before (Step.TopBy u) (Step.TopBy t ∷ steps q) ≡ None =
-          (λ i. join_counts m c h.start h.before (sym k i) (map Step.Filter (sym j i) ++ Step.TopBy t ∷ steps q)) ∙ h.none join_counts at-count in
-          (λ i. if is_nonempty (j i) then None else joined_count (Some (k i)) t)
-          ∙ no-chain (λ n l. Step.TopBy (record u { limit = Limit.Count (min n l) }) ∷ steps q) (λ n l. record u { limit = Limit.Count (min n l) }) (expr_same u.expr t.expr) (top_count u.bottom u.limit) (top_count t.bottom t.limit) none
-      go [] x j k = λ i. if is_nonempty (j i) then None else joined_count (Some (k i)) t
 
   -- a step begins a segment
   begins_here : (S : Shape) (before : Bool) (s : Step) (q : Pipe) → AtRest S before (Pipe.Then s q) → EndsAt (after m c S s) (segment m S s) q
@@ -216,19 +166,19 @@ module _ (m : Model) (c : Customs) where
   -- ---- inside steps
 
   abbrev InnerAtRest : Shape → OptPipe → Type 0
-  InnerAtRest S T = (r : Rule) → Contains rules r → inner_results r m c S T ≡ []
+  InnerAtRest S T = (r : Rule) → Contains early_rules r → inner_results r m c S T ≡ []
 
   abbrev BranchesAtRest : Shape → Pipes → Type 0
-  BranchesAtRest S ps = (r : Rule) → Contains rules r → branch_results r m c S ps ≡ []
+  BranchesAtRest S ps = (r : Rule) → Contains early_rules r → branch_results r m c S ps ≡ []
 
   abbrev KeyAtRest : Key → Type 0
-  KeyAtRest k = (r : Rule) → Contains rules r → key_results r m c k ≡ []
+  KeyAtRest k = (r : Rule) → Contains early_rules r → key_results r m c k ≡ []
 
   abbrev KeysAtRest : Keys → Type 0
-  KeysAtRest ks = (r : Rule) → Contains rules r → keys_results r m c ks ≡ []
+  KeysAtRest ks = (r : Rule) → Contains early_rules r → keys_results r m c ks ≡ []
 
   abbrev StepAtRest : Shape → Step → Type 0
-  StepAtRest S s = (r : Rule) → Contains rules r → step_results r m c S s ≡ []
+  StepAtRest S s = (r : Rule) → Contains early_rules r → step_results r m c S s ≡ []
 
   -- a step with the filters behind it, and what is behind
   abbrev Kept : Shape → List Segment → Pipe → Type 0
@@ -278,16 +228,6 @@ module _ (m : Model) (c : Customs) where
         let behind'' : AtRest S true q = subst (λ U. AtRest U true q) k (rest-behind S before (Step.Filter x) q rest) in
         filter-kept S x q g gs (one-test S before x q rest) (not-passed S g x q ends)
         (pipe_rest q S S' true (with_test g (judged m S x)) gs (ap (λ U. steps_shape m c U q) (sym k) ∙ t.1) behind'' (not-idle S q behind'') (goes-behind S g x q ends))
-    pipe_rest (Pipe.Then (Step.Aggregate as') q) S S' before g gs e rest idle ends =
-        let s = Step.Aggregate as' in
-        let t = typed_first m c S S' s q e in
-        step-kept S s q (g ∷ gs) (ap (λ z. segment m S s ∷ (if z then without_orders gs else g ∷ gs)) (not-dropped S g as' q ends))
-        (pipe_rest q (after m c S s) S' true (segment m S s) (g ∷ gs) t.1 (rest-behind S before s q rest) (not-idle (after m c S s) q (rest-behind S before s q rest)) (inr (begins_here S before s q rest)))
-    pipe_rest (Pipe.Then (Step.TopBy u) q) S S' before g gs e rest idle ends =
-        let s = Step.TopBy u in
-        let t = typed_first m c S S' s q e in
-        step-kept S s q (g ∷ gs) (ap (λ o. elim o [ None ↦ segment m S s ∷ g ∷ gs | Some w ↦ record g { head = Some (Step.TopBy w) } ∷ gs ]) (not-joined S g u q ends))
-        (pipe_rest q (after m c S s) S' true (segment m S s) (g ∷ gs) t.1 (rest-behind S before s q rest) (not-idle (after m c S s) q (rest-behind S before s q rest)) (inr (begins_here S before s q rest)))
     pipe_rest (Pipe.Then s q) S S' before g gs e rest idle ends =
         let t = typed_first m c S S' s q e in
         step-kept S s q (g ∷ gs) (ap (λ s. put_step m S s (g ∷ gs)) (step_rest s S (after m c S s) t.0 (λ r k. (nothing-parts r m c S before s q (rest r k)).1)))
@@ -296,7 +236,7 @@ module _ (m : Model) (c : Customs) where
     inner_rest : (T : OptPipe) (S d S' : Shape) → inner_shape m c S d T ≡ Some S' → InnerAtRest S T → settled_inner m c S T ≡ T
     inner_rest OptPipe.NoPipe S d S' e rest = refl
     inner_rest (OptPipe.SomePipe p) S d S' e rest =
-        let t = if-some (is_long p) (steps_shape m c S p) S' e in
+        let t = if_else-parts (is_long p) (steps_shape m c S p) S' e in
         ap OptPipe.SomePipe (whole-kept S p t.0 (λ r k. map-none OptPipe.SomePipe _ (rest r k)) (λ idle. pipe_rest p S S' false front_segment [] t.1 (λ r k. map-none OptPipe.SomePipe _ (rest r k)) idle (inl (refl, refl))))
 
     branch_rest : (ps : Pipes) (S : Shape) (Ss : List Shape) → all_some (branch_shapes m c S ps) ≡ Some Ss → BranchesAtRest S ps → settled_branches m c S ps ≡ ps
@@ -304,7 +244,7 @@ module _ (m : Model) (c : Customs) where
     branch_rest (Pipes.MorePipes p ps) S Ss e rest =
         let x = if is_long p then steps_shape m c S p else None in
         let t = all_some-head x (branch_shapes m c S ps) Ss e in
-        let v = if-some (is_long p) (steps_shape m c S p) t.0 t.1 in
+        let v = if_else-parts (is_long p) (steps_shape m c S p) t.0 t.1 in
         let more = all_some-tail x (branch_shapes m c S ps) Ss e in
         λ i. Pipes.MorePipes (whole-kept S p v.0 (λ r k. map-none (λ q. Pipes.MorePipes q ps) _ (append-none (map (λ q. Pipes.MorePipes q ps) (pipe_results r m c S false p)) (map (Pipes.MorePipes p) (branch_results r m c S ps)) (rest r k)).0) (λ idle. pipe_rest p S t.0 false front_segment [] v.1 (λ r k. map-none (λ q. Pipes.MorePipes q ps) _ (append-none (map (λ q. Pipes.MorePipes q ps) (pipe_results r m c S false p)) (map (Pipes.MorePipes p) (branch_results r m c S ps)) (rest r k)).0) idle (inl (refl, refl))) i)
         (branch_rest ps S more.0 more.1 (λ r k. map-none (Pipes.MorePipes p) _ (append-none (map (λ q. Pipes.MorePipes q ps) (pipe_results r m c S false p)) (map (Pipes.MorePipes p) (branch_results r m c S ps)) (rest r k)).1) i)
@@ -313,9 +253,9 @@ module _ (m : Model) (c : Customs) where
     key_rest (Key.Plain p) S e rest = refl
     key_rest (Key.Rollup all ps) S e rest = refl
     key_rest (Key.Recursive h p T) S e rest =
-        let x = some_and-holds (λ f. is_some_and (λ R. is_some_and (λ t. t == f.type) (root_type R)) (inner_shape m c (set_shape f.type) (set_shape f.type) T)) (hierarchy_at m h)
+        let x = some_and (λ f. is_some_and (λ R. is_some_and (λ t. t == f.type) (root_type R)) (inner_shape m c (set_shape f.type) (set_shape f.type) T)) (hierarchy_at m h)
         (and-right (is_node_path m S h p) (is_some_and (λ f. is_some_and (λ R. is_some_and (λ t. t == f.type) (root_type R)) (inner_shape m c (set_shape f.type) (set_shape f.type) T)) (hierarchy_at m h)) e) in
-        let y = some_and-holds (λ R. is_some_and (λ t. t == (x.0).type) (root_type R)) (inner_shape m c (set_shape (x.0).type) (set_shape (x.0).type) T) x.2 in
+        let y = some_and (λ R. is_some_and (λ t. t == (x.0).type) (root_type R)) (inner_shape m c (set_shape (x.0).type) (set_shape (x.0).type) T) x.2 in
         let P : Rule → Option HierarchyPlace → Type 0 = λ r o. elim o [ None ↦ [] | Some f ↦ map (Key.Recursive h p) (inner_results r m c (set_shape f.type) T) ] ≡ [] in
         ap (λ o. Key.Recursive h p (elim o [ None ↦ T | Some f ↦ settled_inner m c (set_shape f.type) T ])) x.1
         ∙ ap (Key.Recursive h p) (inner_rest T (set_shape (x.0).type) (set_shape (x.0).type) y.0 y.1 (λ r k. map-none (Key.Recursive h p) _ (subst (P r) x.1 (rest r k))))
@@ -329,24 +269,24 @@ module _ (m : Model) (c : Customs) where
 
     step_rest : (s : Step) (S S' : Shape) → step_shape m c S s ≡ Some S' → StepAtRest S s → settled_step m c S s ≡ s
     step_rest (Step.GroupBy ks T) S S' e rest =
-        let t = if-some (keys_typed m c S ks) (option_and_then (grouped_shape m S (group_keys ks)) (inner_shape m c S no_shape T)) S' e in
-        let v = and_then-some (grouped_shape m S (group_keys ks)) (inner_shape m c S no_shape T) S' t.1 in
+        let t = if_else-parts (keys_typed m c S ks) (option_and_then (grouped_shape m S (group_keys ks)) (inner_shape m c S no_shape T)) S' e in
+        let v = chained (grouped_shape m S (group_keys ks)) (inner_shape m c S no_shape T) S' t.1 in
         λ i. Step.GroupBy
         (keys_rest ks S t.0 (λ r k. map-none (λ ks'. Step.GroupBy ks' T) _ (append-none (map (λ ks'. Step.GroupBy ks' T) (keys_results r m c ks)) (map (Step.GroupBy ks) (inner_results r m c S T)) (rest r k)).0) i)
         (inner_rest T S no_shape v.0 v.1 (λ r k. map-none (Step.GroupBy ks) _ (append-none (map (λ ks'. Step.GroupBy ks' T) (keys_results r m c ks)) (map (Step.GroupBy ks) (inner_results r m c S T)) (rest r k)).1) i)
     step_rest (Step.Concat ps) S S' e rest =
-        let v = and_then-some (concat_shape m) (all_some (branch_shapes m c S ps)) S' e in
+        let v = chained (concat_shape m) (all_some (branch_shapes m c S ps)) S' e in
         ap Step.Concat (branch_rest ps S v.0 v.1 (λ r k. map-none Step.Concat _ (rest r k)))
     step_rest (Step.Join outer n a T) S S' e rest =
-        let v = and_then-some (λ v. option_and_then (λ R. then_some (is_free m S a) (joined_shape outer a S R)) (inner_shape m c (set_shape v.target) (set_shape v.target) T)) (join_navigation m S n) S' e in
-        let x = and_then-some (λ R. then_some (is_free m S a) (joined_shape outer a S R)) (inner_shape m c (set_shape (v.0).target) (set_shape (v.0).target) T) S' v.2 in
+        let v = chained (λ v. option_and_then (λ R. then_some (is_free m S a) (joined_shape outer a S R)) (inner_shape m c (set_shape v.target) (set_shape v.target) T)) (join_navigation m S n) S' e in
+        let x = chained (λ R. then_some (is_free m S a) (joined_shape outer a S R)) (inner_shape m c (set_shape (v.0).target) (set_shape (v.0).target) T) S' v.2 in
         let P : Rule → Option Navigation → Type 0 = λ r o. elim o [ None ↦ [] | Some v ↦ map (Step.Join outer n a) (inner_results r m c (set_shape v.target) T) ] ≡ [] in
         ap (λ o. Step.Join outer n a (elim o [ None ↦ T | Some v ↦ settled_inner m c (set_shape v.target) T ])) v.1
         ∙ ap (Step.Join outer n a) (inner_rest T (set_shape (v.0).target) (set_shape (v.0).target) x.0 x.1 (λ r k. map-none (Step.Join outer n a) _ (subst (P r) v.1 (rest r k))))
     step_rest (Step.Climb up h p T d keep) S S' e rest =
         let b = then_some-holds (is_node_path m S h p && is_distance d && is_long T && is_some_and (λ R. is_node_path m R h p) (steps_shape m c S T)) S S' e in
         let long = and-right (is_node_path m S h p && is_distance d) (is_long T) (and-left (is_node_path m S h p && is_distance d && is_long T) (is_some_and (λ R. is_node_path m R h p) (steps_shape m c S T)) b) in
-        let x = some_and-holds (λ R. is_node_path m R h p) (steps_shape m c S T) (and-right (is_node_path m S h p && is_distance d && is_long T) (is_some_and (λ R. is_node_path m R h p) (steps_shape m c S T)) b) in
+        let x = some_and (λ R. is_node_path m R h p) (steps_shape m c S T) (and-right (is_node_path m S h p && is_distance d && is_long T) (is_some_and (λ R. is_node_path m R h p) (steps_shape m c S T)) b) in
         ap (λ T'. Step.Climb up h p T' d keep) (whole-kept S T long (λ r k. map-none (λ T'. Step.Climb up h p T' d keep) _ (rest r k)) (λ idle. pipe_rest T S x.0 false front_segment [] x.1 (λ r k. map-none (λ T'. Step.Climb up h p T' d keep) _ (rest r k)) idle (inl (refl, refl))))
     step_rest s S S' e rest = refl
 

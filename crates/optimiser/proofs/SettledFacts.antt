@@ -12,12 +12,12 @@ use Rattle.edm_values.proofs.ListFacts.{all-parts}
 use Rattle.edm_values.proofs.OptionFacts.{chained, then_some-parts}
 use Rattle.edm_values.proofs.SearchFacts.{none-all}
 use Rattle.edm_model.specs.Models.{Model}
-use Rattle.apply_ast.specs.Trees.{Expr, Named, OrderItem, Step, TopStep}
+use Rattle.apply_ast.specs.Trees.{Expr, Named, OrderItem, Step}
 use Rattle.apply_ast.specs.declared.expressions.BinOp.{BinOp}
 use Rattle.apply_ast.specs.declared.expressions.UnOp.{UnOp}
 use Rattle.context_typing.specs.Paths.{same_path}
 use Rattle.context_typing.specs.Shapes.{Shape}
-use Rattle.context_typing.specs.Typing.{Customs, after, compute_shape, expr_kind, is_arithmetic, is_risky, is_sure, is_typed, new_column, path_kind, steps_shape, top_typed}
+use Rattle.context_typing.specs.Typing.{Customs, after, compute_shape, expr_kind, is_arithmetic, is_risky, is_sure, is_typed, new_column, path_kind, steps_shape}
 use Rattle.context_typing.proofs.TypingLaw.{computed-paths}
 use Rattle.rewrite_laws.specs.Rewrites.{is_among, paths}
 use Rattle.rewrite_laws.proofs.ComputeFacts.{at-left, computed-kind, is_old, no-entry}
@@ -44,10 +44,6 @@ module _ (m : Model) (c : Customs) (S : Shape) where
   pub after-order : (items : List OrderItem) → after m c S (Step.OrderBy items) ≡ S
   unfolding steps_shape
   after-order items = kept-shape (is_nonempty items && list_all (λ x. is_typed m S x.expr) items) S
-
-  pub after-selection : (t : TopStep) → after m c S (Step.TopBy t) ≡ S
-  unfolding steps_shape
-  after-selection t = kept-shape (top_typed m S t.limit t.expr) S
 
 -- ---- expressions on two shapes
 

@@ -1,34 +1,27 @@
--- A typed pipeline that is settled in one pass is its plan.
+-- Rewriting a typed pipeline reaches what one pass makes of it, and none of the rules that come first applies to that.
 use Rattle.std.proofs.Common.{◌≡◌, refl, sym, ◌∙◌, ap, subst, ℕ, zero, suc, Bool, true, false, List, [], ◌∷◌, ◌++◌, map, Option, Some, None, IsTrue, Contains, arith, ◌⊎◌, inl, inr}
-use Rattle.std.specs.Prelude.{option_and_then, option_to_list, slice_get}
-use Rattle.std.proofs.lemmas.List.Elements.{Contains-append_right}
+use Rattle.std.specs.Prelude.{option_and_then, option_to_list}
+use Rattle.std.proofs.lemmas.List.Elements.{Contains-append_left, Contains-append_right}
 use Rattle.edm_values.specs.Lists.{find_map, first_some}
 use Rattle.edm_values.proofs.EachLemmas.{Each, each-contains}
 use Rattle.edm_values.proofs.OptionFacts.{none_or}
-use Rattle.edm_model.specs.LookUps.{set_type}
 use Rattle.edm_model.specs.Models.{Model}
 use Rattle.apply_ast.specs.Trees.{Pipe, Step, pipe, steps}
-use Rattle.apply_ast.specs.Views.{pipe_of}
-use Rattle.context_typing.specs.Answers.{IsTyping}
 use Rattle.context_typing.specs.Shapes.{Shape}
-use Rattle.context_typing.specs.Typing.{Customs, after, customs_typed, is_lawful, shape_of_set, step_shape, steps_shape}
-use Rattle.context_typing.specs.declared.typed.Typed.{Typed}
-use Rattle.context_typing.proofs.LawfulShapes.{own_is_lawful}
+use Rattle.context_typing.specs.Typing.{Customs, after, customs_typed, is_lawful, step_shape, steps_shape}
 use Rattle.context_typing.proofs.TypingLaw.{typing_keeps_lawful}
 use Rattle.rewrite_laws.specs.RewriteLaws.{IsTypedFrom}
-use Rattle.rewrite_laws.specs.Rewrites.{IsPlanOf, Rule, drop_identity, drop_order, drop_true, first_rewrite, join_counts, next, pass_compute, pass_order, pipe_results, rewrites, rules, split_conjunction, step_results}
+use Rattle.rewrite_laws.specs.Rewrites.{Rule, drop_identity, drop_true, first_rewrite, next, pass_compute, pass_order, pipe_results, rewrites, rewritten, rules, split_conjunction, step_results}
 use Rattle.rewrite_laws.proofs.OneMeaning.{loaded-firsts, loaded-results, loaded-rules}
-use Rattle.rewrite_laws.proofs.PlanEnds.{plan_of_next, plan_of_settled, rewrites_left, rewrites_left-next}
+use Rattle.rewrite_laws.proofs.PlanEnds.{rewrites_left, rewrites_left-next}
+use Rattle.rewrite_laws.proofs.PlanLaws.{no-first}
 use Rattle.rewrite_laws.proofs.PlanMeaning.{find_map-from, first-contains}
-use Rattle.optimiser.specs.Settled.{front, put_steps, settled, whole}
-use Rattle.optimiser.proofs.SettledEnd.{at-aggregate, at-compute, at-count, at-identity, at-order, at-split, at-true, rest-settled}
+use Rattle.optimiser.specs.Settled.{early_rules, front, later_rules, put_steps, settled, whole}
+use Rattle.optimiser.proofs.PlanSteps.{found-append}
+use Rattle.optimiser.proofs.SettledEnd.{at-compute, at-identity, at-order, at-split, at-true, rest-settled}
 use Rattle.optimiser.proofs.SettledPassing.{Unsplit}
 use Rattle.optimiser.proofs.SettledResults.{pipe_put, typed_first}
-use Rattle.optimiser.proofs.SettledRules.{PutsSame, aggregate-put, compute-put, count-put, identity-put, order-put, split-put, true-put}
-
-no-first : {X : Type 0} (xs : List X) → slice_get xs 0 ≡ None → xs ≡ []
-no-first [] e = refl
-no-first (x ∷ xs) e = none_or x (sym e)
+use Rattle.optimiser.proofs.SettledRules.{PutsSame, compute-put, identity-put, order-put, split-put, true-put}
 
 first-of_two : {X : Type 0} (a b : Option X) (x : X) → first_some a b ≡ Some x → (a ≡ Some x) ⊎ ((a ≡ None) × (b ≡ Some x))
 first-of_two None b x e = inr (refl, e)
@@ -81,6 +74,14 @@ steps-alike r k m c S S' s customs law e =
     made : Each P (pipe_results r m c S false (Pipe.Then s Pipe.End))
     made = each-of P _ (λ q h. (loaded-rules r k m c S S' (Pipe.Then s Pipe.End) q typed (subst (λ (l : List Pipe). Contains l q) (sym (loaded-results r k m c S S' (Pipe.Then s Pipe.End) typed)) h)).typed.1)
 
+-- each rule that comes first is one of the rules
+early-rule : (r : Rule) → Contains early_rules r → Contains rules r
+early-rule r k = Contains-append_left early_rules later_rules r k
+
+-- what the first of them makes that applies comes next
+early-next : (f : Rule → Option Pipe) (q : Pipe) → find_map f early_rules ≡ Some q → find_map f rules ≡ Some q
+early-next f q e = found-append f early_rules later_rules ∙ ap (λ o. first_some o (find_map f later_rules)) e
+
 module _ (m : Model) (c : Customs) (S S' : Shape) where
   lawful : (T T' : Shape) (s : Step) → IsTrue (is_lawful m T) → step_shape m c T s ≡ Some T' → IsTrue (is_lawful m T')
   unfolding steps_shape
@@ -117,78 +118,72 @@ module _ (m : Model) (c : Customs) (S S' : Shape) where
     none-needed e = cc
 
     unsplit : First split_conjunction ≡ None → First drop_true ≡ None → true ≡ true → Unsplit m c S false p
-    unsplit a b e = record { split = nothing split_conjunction (at-split m c) a; true' = nothing drop_true (at-true m c) b }
+    unsplit a b e = record { split = nothing split_conjunction (early-rule split_conjunction (at-split m c)) a; true' = nothing drop_true (early-rule drop_true (at-true m c)) b }
 
-    by-count : (q : Pipe) → First split_conjunction ≡ None → First drop_true ≡ None → By join_counts [] q → Alike q
-    by-count q a b (inl h) = made-alike join_counts true (at-count m c) (count-put m c) (unsplit a b) q h
-    by-count q a b (inr h) = none_or q h.1
+    by-order : (q : Pipe) → First split_conjunction ≡ None → First drop_true ≡ None → By pass_order [] q → Alike q
+    by-order q a b (inl h) = made-alike pass_order true (early-rule pass_order (at-order m c)) (order-put m c) (unsplit a b) q h
+    by-order q a b (inr h) = none_or q h.1
 
-    by-aggregate : (q : Pipe) → First split_conjunction ≡ None → First drop_true ≡ None → By drop_order (join_counts ∷ []) q → Alike q
-    by-aggregate q a b (inl h) = made-alike drop_order true (at-aggregate m c) (aggregate-put m c) (unsplit a b) q h
-    by-aggregate q a b (inr h) = by-count q a b (first-of_two (First join_counts) None q h.1)
+    by-compute : (q : Pipe) → First split_conjunction ≡ None → First drop_true ≡ None → By pass_compute (pass_order ∷ []) q → Alike q
+    by-compute q a b (inl h) = made-alike pass_compute true (early-rule pass_compute (at-compute m c)) (compute-put m c) (unsplit a b) q h
+    by-compute q a b (inr h) = by-order q a b (first-of_two (First pass_order) None q h.1)
 
-    by-order : (q : Pipe) → First split_conjunction ≡ None → First drop_true ≡ None → By pass_order (drop_order ∷ join_counts ∷ []) q → Alike q
-    by-order q a b (inl h) = made-alike pass_order true (at-order m c) (order-put m c) (unsplit a b) q h
-    by-order q a b (inr h) = by-aggregate q a b (first-of_two (First drop_order) (find_map First (join_counts ∷ [])) q h.1)
+    by-true : (q : Pipe) → First split_conjunction ≡ None → By drop_true (pass_compute ∷ pass_order ∷ []) q → Alike q
+    by-true q a (inl h) = made-alike drop_true false (early-rule drop_true (at-true m c)) (true-put m c) none-needed q h
+    by-true q a (inr h) = by-compute q a h.0 (first-of_two (First pass_compute) (find_map First (pass_order ∷ [])) q h.1)
 
-    by-compute : (q : Pipe) → First split_conjunction ≡ None → First drop_true ≡ None → By pass_compute (pass_order ∷ drop_order ∷ join_counts ∷ []) q → Alike q
-    by-compute q a b (inl h) = made-alike pass_compute true (at-compute m c) (compute-put m c) (unsplit a b) q h
-    by-compute q a b (inr h) = by-order q a b (first-of_two (First pass_order) (find_map First (drop_order ∷ join_counts ∷ [])) q h.1)
+    by-split : (q : Pipe) → By split_conjunction (drop_true ∷ pass_compute ∷ pass_order ∷ []) q → Alike q
+    by-split q (inl h) = made-alike split_conjunction false (early-rule split_conjunction (at-split m c)) (split-put m c) none-needed q h
+    by-split q (inr h) = by-true q h.0 (first-of_two (First drop_true) (find_map First (pass_compute ∷ pass_order ∷ [])) q h.1)
 
-    by-true : (q : Pipe) → First split_conjunction ≡ None → By drop_true (pass_compute ∷ pass_order ∷ drop_order ∷ join_counts ∷ []) q → Alike q
-    by-true q a (inl h) = made-alike drop_true false (at-true m c) (true-put m c) none-needed q h
-    by-true q a (inr h) = by-compute q a h.0 (first-of_two (First pass_compute) (find_map First (pass_order ∷ drop_order ∷ join_counts ∷ [])) q h.1)
+    by-identity : (q : Pipe) → By drop_identity (split_conjunction ∷ drop_true ∷ pass_compute ∷ pass_order ∷ []) q → Alike q
+    by-identity q (inl h) = made-alike drop_identity false (early-rule drop_identity (at-identity m c)) (identity-put m c) none-needed q h
+    by-identity q (inr h) = by-split q (first-of_two (First split_conjunction) (find_map First (drop_true ∷ pass_compute ∷ pass_order ∷ [])) q h.1)
 
-    by-split : (q : Pipe) → By split_conjunction (drop_true ∷ pass_compute ∷ pass_order ∷ drop_order ∷ join_counts ∷ []) q → Alike q
-    by-split q (inl h) = made-alike split_conjunction false (at-split m c) (split-put m c) none-needed q h
-    by-split q (inr h) = by-true q h.0 (first-of_two (First drop_true) (find_map First (pass_compute ∷ pass_order ∷ drop_order ∷ join_counts ∷ [])) q h.1)
+    -- so is what the first of them makes that applies
+    early-alike : (q : Pipe) → Found early_rules q → Alike q
+    early-alike q e = by-identity q (first-of_two (First drop_identity) (find_map First (split_conjunction ∷ drop_true ∷ pass_compute ∷ pass_order ∷ [])) q e)
 
-    by-identity : (q : Pipe) → By drop_identity (split_conjunction ∷ drop_true ∷ pass_compute ∷ pass_order ∷ drop_order ∷ join_counts ∷ []) q → Alike q
-    by-identity q (inl h) = made-alike drop_identity false (at-identity m c) (identity-put m c) none-needed q h
-    by-identity q (inr h) = by-split q (first-of_two (First split_conjunction) (find_map First (drop_true ∷ pass_compute ∷ pass_order ∷ drop_order ∷ join_counts ∷ [])) q h.1)
-
-    -- so is what comes next
-    next-alike : (q : Pipe) → next m c S p ≡ Some q → settled m c S q ≡ settled m c S p
-    next-alike q e = by-identity q (first-of_two (First drop_identity) (find_map First (split_conjunction ∷ drop_true ∷ pass_compute ∷ pass_order ∷ drop_order ∷ join_counts ∷ [])) q e)
-
-    -- where nothing comes next the pipeline is settled as it stands
-    settled-rest : next m c S p ≡ None → settled m c S p ≡ p
-    settled-rest e = rest-settled m c p S S' t.typed.0 t.typed.1 (λ r k. nothing r k (found-none (λ r. first_rewrite r m c S p) rules e r k))
+    -- where none of them applies the pipeline is settled as it stands
+    settled-rest : find_map First early_rules ≡ None → settled m c S p ≡ p
+    settled-rest e = rest-settled m c p S S' t.typed.0 t.typed.1 (λ r k. nothing r (early-rule r k) (found-none First early_rules e r k))
 
     -- what comes next is typed
     next-typed : (q : Pipe) → next m c S p ≡ Some q → IsTypedFrom m c S S' q
     next-typed q e =
-        let x = find_map-from (λ r. first_rewrite r m c S p) rules q e in
+        let x = find_map-from First rules q e in
         record { customs = t.customs; lawful = t.lawful; typed = (loaded-firsts x.0 x.1 m c S S' p q t x.2).typed }
 
-    -- the plan, where nothing comes next, and where it is the plan of what does
-    plan-rest : next m c S p ≡ None → IsPlanOf m c S p (settled m c S p)
-    plan-rest e = subst (IsPlanOf m c S p) (sym (settled-rest e)) (plan_of_settled m c S p e)
+  -- rewriting reaches a typed pipeline to which none of the rules that come first applies
+  abbrev Pass : Pipe → Pipe → Type 0
+  Pass p q = ((n : ℕ) × (rewritten n m c S p ≡ Some q)) × (find_map (λ r. first_rewrite r m c S q) early_rules ≡ None) × IsTypedFrom m c S S' q
 
-    plan-next : (q : Pipe) → next m c S p ≡ Some q → IsPlanOf m c S q (settled m c S q) → IsPlanOf m c S p (settled m c S p)
-    plan-next q e h = subst (IsPlanOf m c S p) (next-alike q e) (plan_of_next m c S p q (settled m c S q) e h)
+  abbrev pub Reached : Pipe → Type 0
+  Reached p = Pass p (settled m c S p)
 
-  abbrev Planned : Pipe → Type 0
-  Planned p = IsTypedFrom m c S S' p → IsPlanOf m c S p (settled m c S p)
+  reached-rest : (p : Pipe) → IsTypedFrom m c S S' p → find_map (λ r. first_rewrite r m c S p) early_rules ≡ None → Reached p
+  reached-rest p t e =
+      subst (Pass p) (sym (settled-rest p t e)) ((0, refl), e, t)
 
-  at-last : (p : Pipe) (o : Option Pipe) → next m c S p ≡ o → rewrites_left m c S p ≡ 0 → Planned p
-  at-last p None e l t = plan-rest p t e
-  at-last p (Some q) e l t = let k = rewrites_left-next m c S p q e in absurd (omega (arith, k, l))
+  reached-next : (p q : Pipe) → IsTypedFrom m c S S' p → find_map (λ r. first_rewrite r m c S p) early_rules ≡ Some q → next m c S p ≡ Some q → Reached q → Reached p
+  reached-next p q t e n h =
+      subst (Pass p) (early-alike p t q e) ((suc (h.0).0, ap (option_and_then (rewritten (h.0).0 m c S)) n ∙ (h.0).1), h.1, h.2)
 
-  before-last : (n : ℕ) → ((q : Pipe) → rewrites_left m c S q ≡ n → Planned q) → (p : Pipe) (o : Option Pipe) → next m c S p ≡ o → rewrites_left m c S p ≡ suc n → Planned p
-  before-last n f p None e l t = plan-rest p t e
-  before-last n f p (Some q) e l t = let k = rewrites_left-next m c S p q e in plan-next p t q e (f q (omega (arith, k, l)) (next-typed p t q e))
+  by-left : (n : ℕ) (p : Pipe) → rewrites_left m c S p ≡ n → IsTypedFrom m c S S' p → Reached p
+  by-left zero p l t = go (find_map (λ r. first_rewrite r m c S p) early_rules) refl
+    where
+      go : (o : Option Pipe) → find_map (λ r. first_rewrite r m c S p) early_rules ≡ o → Reached p
+      go None e = reached-rest p t e
+      go (Some q) e = let k = rewrites_left-next m c S p q (early-next (λ r. first_rewrite r m c S p) q e) in absurd (omega (arith, k, l))
+  by-left (suc n) p l t = go (by-left n) (find_map (λ r. first_rewrite r m c S p) early_rules) refl
+    where
+      go : ((q : Pipe) → rewrites_left m c S q ≡ n → IsTypedFrom m c S S' q → Reached q) → (o : Option Pipe) → find_map (λ r. first_rewrite r m c S p) early_rules ≡ o → Reached p
+      go f None e = reached-rest p t e
+      go f (Some q) e =
+          let x : next m c S p ≡ Some q = early-next (λ r. first_rewrite r m c S p) q e in
+          let k = rewrites_left-next m c S p q x in
+          reached-next p q t e x (f q (omega (arith, k, l)) (next-typed p t q x))
 
-  by-left : (n : ℕ) (p : Pipe) → rewrites_left m c S p ≡ n → Planned p
-  by-left zero p l = at-last p (next m c S p) refl l
-  by-left (suc n) p l = before-last n (by-left n) p (next m c S p) refl l
-
--- a typed pipeline, settled in one pass, is its plan
-pub settled-is_plan : (m : Model) (c : Customs) (S S' : Shape) (p : Pipe) → IsTypedFrom m c S S' p → IsPlanOf m c S p (settled m c S p)
-settled-is_plan m c S S' p t = by-left m c S S' (rewrites_left m c S p) p refl t
-
--- so it is for the typing of a pipeline over an entity set
-pub typing-settled : (m : Model) (c : Customs) (t : Typed) (S : Shape) (q : Pipe) → IsTrue (customs_typed m c) → IsTyping m c t → S ≡ shape_of_set m t.set → q ≡ settled m c S (pipe_of t.pipe) → IsPlanOf m c (shape_of_set m t.set) (pipe_of t.pipe) q
-typing-settled m c t S q customs typing same e =
-    let law = settled-is_plan m c (shape_of_set m t.set) t.shape (pipe_of t.pipe) (record { customs = customs; lawful = own_is_lawful m (set_type m t.set); typed = typing }) in
-    subst (IsPlanOf m c (shape_of_set m t.set) (pipe_of t.pipe)) (sym (e ∙ ap (λ Z. settled m c Z (pipe_of t.pipe)) same)) law
+-- rewriting a typed pipeline reaches what one pass makes of it
+pub settled-reached : (m : Model) (c : Customs) (S S' : Shape) (p : Pipe) → IsTypedFrom m c S S' p → Reached m c S S' p
+settled-reached m c S S' p t = by-left m c S S' (rewrites_left m c S p) p refl t

@@ -3,7 +3,8 @@ use Rattle.std.proofs.Common.{◌≡◌, ◌==◌, ℕ, if◌then◌else◌, ref
 use Rattle.std.specs.Prelude.{option_and_then, option_to_list, unwrap_or}
 use Rattle.std.specs.Bool.{then_some}
 use Rattle.edm_values.specs.Lists.{all_some, is_some_and}
-use Rattle.edm_values.proofs.EachLemmas.{Each, all_some-head, all_some-tail, and-left, and-right, and_then-some, each-append, each-map, if-some, some_and-holds, then_some-holds}
+use Rattle.edm_values.proofs.EachLemmas.{Each, all_some-head, all_some-tail, and-left, and-right, each-append, each-map, then_some-holds}
+use Rattle.edm_values.proofs.OptionFacts.{chained, if_else-parts, some_and}
 use Rattle.edm_model.specs.Models.{Model, Navigation}
 use Rattle.edm_model.specs.LookUps.{HierarchyPlace}
 use Rattle.edm_values.specs.Names.{Name, Path}
@@ -151,7 +152,7 @@ module _ (m : Model) (c : Customs) (r : Rule) (needs : Bool) (K : PutsSame needs
     inner_put : (T : OptPipe) (S d S' : Shape) → IsTrue (is_lawful m S) → inner_shape m c S d T ≡ Some S' → (needs ≡ true → UnsplitInner m c S T) → Each (λ T'. settled_inner m c S T' ≡ settled_inner m c S T) (inner_results r m c S T)
     inner_put OptPipe.NoPipe S d S' law e u = tt
     inner_put (OptPipe.SomePipe p) S d S' law e u =
-        let t = if-some (is_long p) (steps_shape m c S p) S' e in
+        let t = if_else-parts (is_long p) (steps_shape m c S p) S' e in
         each-map (λ T'. settled_inner m c S T' ≡ settled_inner m c S (OptPipe.SomePipe p)) (Put S front p) OptPipe.SomePipe (λ q h. ap (λ gs. OptPipe.SomePipe (whole gs)) h)
         (pipe_results r m c S false p) (pipe_put p S S' false front law t.1 (λ n. unsplit-inner m c S p (u n)))
 
@@ -161,7 +162,7 @@ module _ (m : Model) (c : Customs) (r : Rule) (needs : Bool) (K : PutsSame needs
     branch_put (Pipes.MorePipes p ps) S Ss law e u =
         let x = if is_long p then steps_shape m c S p else None in
         let t = all_some-head x (branch_shapes m c S ps) Ss e in
-        let v = if-some (is_long p) (steps_shape m c S p) t.0 t.1 in
+        let v = if_else-parts (is_long p) (steps_shape m c S p) t.0 t.1 in
         let more = all_some-tail x (branch_shapes m c S ps) Ss e in
         let w = λ (n : needs ≡ true). unsplit-branches m c S p ps (u n) in
         let R : Pipes → Type 0 = λ qs. settled_branches m c S qs ≡ settled_branches m c S (Pipes.MorePipes p ps) in
@@ -173,9 +174,9 @@ module _ (m : Model) (c : Customs) (r : Rule) (needs : Bool) (K : PutsSame needs
     key_put (Key.Plain p) S e u = tt
     key_put (Key.Rollup all ps) S e u = tt
     key_put (Key.Recursive h p T) S e u =
-        let x = some_and-holds (λ f. is_some_and (λ R. is_some_and (λ t. t == f.type) (root_type R)) (inner_shape m c (set_shape f.type) (set_shape f.type) T)) (hierarchy_at m h)
+        let x = some_and (λ f. is_some_and (λ R. is_some_and (λ t. t == f.type) (root_type R)) (inner_shape m c (set_shape f.type) (set_shape f.type) T)) (hierarchy_at m h)
         (and-right (is_node_path m S h p) (is_some_and (λ f. is_some_and (λ R. is_some_and (λ t. t == f.type) (root_type R)) (inner_shape m c (set_shape f.type) (set_shape f.type) T)) (hierarchy_at m h)) e) in
-        let y = some_and-holds (λ R. is_some_and (λ t. t == (x.0).type) (root_type R)) (inner_shape m c (set_shape (x.0).type) (set_shape (x.0).type) T) x.2 in
+        let y = some_and (λ R. is_some_and (λ t. t == (x.0).type) (root_type R)) (inner_shape m c (set_shape (x.0).type) (set_shape (x.0).type) T) x.2 in
         let P : Option HierarchyPlace → Type 0 = λ o. Each (λ k'. settled_key m c k' ≡ settled_key m c (Key.Recursive h p T)) (elim o [ None ↦ [] | Some f ↦ map (Key.Recursive h p) (inner_results r m c (set_shape f.type) T) ]) in
         subst P (sym x.1)
         (each-map (λ k'. settled_key m c k' ≡ settled_key m c (Key.Recursive h p T)) (λ T'. settled_inner m c (set_shape (x.0).type) T' ≡ settled_inner m c (set_shape (x.0).type) T) (Key.Recursive h p)
@@ -195,20 +196,20 @@ module _ (m : Model) (c : Customs) (r : Rule) (needs : Bool) (K : PutsSame needs
 
     step_put : (s : Step) (S S' : Shape) → IsTrue (is_lawful m S) → step_shape m c S s ≡ Some S' → (needs ≡ true → UnsplitStep m c S s) → Each (λ s'. settled_step m c S s' ≡ settled_step m c S s) (step_results r m c S s)
     step_put (Step.GroupBy ks T) S S' law e u =
-        let t = if-some (keys_typed m c S ks) (option_and_then (grouped_shape m S (group_keys ks)) (inner_shape m c S no_shape T)) S' e in
-        let v = and_then-some (grouped_shape m S (group_keys ks)) (inner_shape m c S no_shape T) S' t.1 in
+        let t = if_else-parts (keys_typed m c S ks) (option_and_then (grouped_shape m S (group_keys ks)) (inner_shape m c S no_shape T)) S' e in
+        let v = chained (grouped_shape m S (group_keys ks)) (inner_shape m c S no_shape T) S' t.1 in
         let w = λ (n : needs ≡ true). unsplit-group m c S ks T (u n) in
         let R : Step → Type 0 = λ s'. settled_step m c S s' ≡ settled_step m c S (Step.GroupBy ks T) in
         each-append R (map (λ ks'. Step.GroupBy ks' T) (keys_results r m c ks)) (map (Step.GroupBy ks) (inner_results r m c S T))
         (each-map R (λ ks'. settled_keys m c ks' ≡ settled_keys m c ks) (λ ks'. Step.GroupBy ks' T) (λ ks' h. ap (λ z. Step.GroupBy z (settled_inner m c S T)) h) (keys_results r m c ks) (keys_put ks S t.0 (λ n. (w n).0)))
         (each-map R (λ T'. settled_inner m c S T' ≡ settled_inner m c S T) (Step.GroupBy ks) (λ T' h. ap (Step.GroupBy (settled_keys m c ks)) h) (inner_results r m c S T) (inner_put T S no_shape v.0 law v.1 (λ n. (w n).1)))
     step_put (Step.Concat ps) S S' law e u =
-        let v = and_then-some (concat_shape m) (all_some (branch_shapes m c S ps)) S' e in
+        let v = chained (concat_shape m) (all_some (branch_shapes m c S ps)) S' e in
         each-map (λ s'. settled_step m c S s' ≡ settled_step m c S (Step.Concat ps)) (λ qs. settled_branches m c S qs ≡ settled_branches m c S ps) Step.Concat (λ qs h. ap Step.Concat h) (branch_results r m c S ps)
         (branch_put ps S v.0 law v.1 (λ n. unsplit-concat m c S ps (u n)))
     step_put (Step.Join outer n a T) S S' law e u =
-        let v = and_then-some (λ v. option_and_then (λ R. then_some (is_free m S a) (joined_shape outer a S R)) (inner_shape m c (set_shape v.target) (set_shape v.target) T)) (join_navigation m S n) S' e in
-        let x = and_then-some (λ R. then_some (is_free m S a) (joined_shape outer a S R)) (inner_shape m c (set_shape (v.0).target) (set_shape (v.0).target) T) S' v.2 in
+        let v = chained (λ v. option_and_then (λ R. then_some (is_free m S a) (joined_shape outer a S R)) (inner_shape m c (set_shape v.target) (set_shape v.target) T)) (join_navigation m S n) S' e in
+        let x = chained (λ R. then_some (is_free m S a) (joined_shape outer a S R)) (inner_shape m c (set_shape (v.0).target) (set_shape (v.0).target) T) S' v.2 in
         let P : Option Navigation → Type 0 = λ o. Each (λ s'. settled_step m c S s' ≡ settled_step m c S (Step.Join outer n a T)) (elim o [ None ↦ [] | Some v ↦ map (Step.Join outer n a) (inner_results r m c (set_shape v.target) T) ]) in
         subst P (sym v.1)
         (each-map (λ s'. settled_step m c S s' ≡ settled_step m c S (Step.Join outer n a T)) (λ T'. settled_inner m c (set_shape (v.0).target) T' ≡ settled_inner m c (set_shape (v.0).target) T) (Step.Join outer n a)
@@ -216,7 +217,7 @@ module _ (m : Model) (c : Customs) (r : Rule) (needs : Bool) (K : PutsSame needs
         (inner_put T (set_shape (v.0).target) (set_shape (v.0).target) x.0 refl x.1 (λ n'. unsplit-join m c S outer n a T v.0 v.1 (u n'))))
     step_put (Step.Climb up h p T d keep) S S' law e u =
         let b = then_some-holds (is_node_path m S h p && is_distance d && is_long T && is_some_and (λ R. is_node_path m R h p) (steps_shape m c S T)) S S' e in
-        let x = some_and-holds (λ R. is_node_path m R h p) (steps_shape m c S T) (and-right (is_node_path m S h p && is_distance d && is_long T) (is_some_and (λ R. is_node_path m R h p) (steps_shape m c S T)) b) in
+        let x = some_and (λ R. is_node_path m R h p) (steps_shape m c S T) (and-right (is_node_path m S h p && is_distance d && is_long T) (is_some_and (λ R. is_node_path m R h p) (steps_shape m c S T)) b) in
         each-map (λ s'. settled_step m c S s' ≡ settled_step m c S (Step.Climb up h p T d keep)) (Put S front T) (λ T'. Step.Climb up h p T' d keep) (λ T' k. ap (λ gs. Step.Climb up h p (whole gs) d keep) k)
         (pipe_results r m c S false T) (pipe_put T S x.0 false front law x.1 (λ n. unsplit-climb m c S up h p T d keep (u n)))
     step_put s S S' law e u = tt

@@ -1,11 +1,13 @@
 -- Plans as their two typings, and one rewrite of a typed pipeline.
-use Rattle.std.specs.Prelude.{◌≡◌, ◌⊎◌, Option, Some, None, unwrap_or}
+use Rattle.std.specs.Prelude.{◌≡◌, ◌⊎◌, ℕ, List, Option, Some, None, unwrap_or}
+use Rattle.edm_values.specs.Lists.{find_map}
 use Rattle.edm_model.specs.Models.{Model}
 use Rattle.apply_ast.specs.Views.{pipe_of}
 use Rattle.context_typing.specs.Answers.{IsTyping}
 use Rattle.context_typing.specs.Typing.{Customs, shape_of_set}
 use Rattle.context_typing.specs.declared.typed.Typed.{Typed}
-use Rattle.rewrite_laws.specs.Rewrites.{IsPlanOf, next}
+use Rattle.rewrite_laws.specs.Rewrites.{Rule, IsPlanOf, first_rewrite, rewritten, rules}
+use Rattle.optimiser.specs.Settled.{early_rules}
 use Rattle.optimiser.specs.declared.plans.Plan.{Plan}
 
 -- the typing of the pipeline that was written
@@ -33,7 +35,27 @@ pub record IsPlan (m : Model) (c : Customs) (p : Plan) : Type 0 where
   pub shape : (own_of p).shape ≡ (written_of p).shape
   pub pipe : (pipe_of (own_of p).pipe ≡ pipe_of (written_of p).pipe) ⊎ IsOptimised m c p
 
--- the typed pipeline after one rewrite, which has the set and the shape of the one before; nothing where no rule applies
+-- the typed pipeline after one rewrite by the first of these rules that applies, which has the set and the shape of the one before; nothing where none of them applies
+abbrev pub IsFirstOf : List Rule → Model → Customs → Typed → Option Typed → Type 0
+IsFirstOf rs m c t None = find_map (λ r. first_rewrite r m c (shape_of_set m t.set) (pipe_of t.pipe)) rs ≡ None
+IsFirstOf rs m c t (Some q) = (q.set ≡ t.set) × (q.shape ≡ t.shape) × (find_map (λ r. first_rewrite r m c (shape_of_set m t.set) (pipe_of t.pipe)) rs ≡ Some (pipe_of q.pipe))
+
+-- the typed pipeline after one rewrite; nothing where no rule applies
 abbrev pub IsNext : Model → Customs → Typed → Option Typed → Type 0
-IsNext m c t None = next m c (shape_of_set m t.set) (pipe_of t.pipe) ≡ None
-IsNext m c t (Some q) = (q.set ≡ t.set) × (q.shape ≡ t.shape) × (next m c (shape_of_set m t.set) (pipe_of t.pipe) ≡ Some (pipe_of q.pipe))
+IsNext = IsFirstOf rules
+
+-- a typed pipeline comes from another by rewrites, and has its set and its shape
+pub record IsReached (m : Model) (c : Customs) (t q : Typed) : Type 0 where
+  pub set : q.set ≡ t.set
+  pub shape : q.shape ≡ t.shape
+  pub pipe : (n : ℕ) × (rewritten n m c (shape_of_set m t.set) (pipe_of t.pipe) ≡ Some (pipe_of q.pipe))
+
+-- none of the rules that come first applies to a typed pipeline
+abbrev pub IsEarlySettled : Model → Customs → Typed → Type 0
+IsEarlySettled m c t = IsFirstOf early_rules m c t None
+
+-- the plan of a typed pipeline, with its set and its shape
+pub record IsTypedPlan (m : Model) (c : Customs) (t q : Typed) : Type 0 where
+  pub set : q.set ≡ t.set
+  pub shape : q.shape ≡ t.shape
+  pub pipe : IsPlanOf m c (shape_of_set m t.set) (pipe_of t.pipe) (pipe_of q.pipe)

@@ -1,6 +1,5 @@
 -- The segments of the program, as the definition of settling has them.
 use Rattle.std.specs.Prelude.{◌≡◌, ℕ, ◌-◌, ◌<◌, false, List, ◌++◌, drop, map, reverse, option_map, slice_index_or, take}
-use Rattle.apply_ast.specs.Trees.{Expr, Limit, TopStep}
 use Rattle.apply_ast.specs.Views.{expr_of, step_of}
 use Rattle.optimiser.specs.Settled as spec
 use Rattle.optimiser.specs.declared.segments.Test.{Test}
@@ -26,7 +25,3 @@ IsPast t gs k = spec.put_test t (segments_of gs) ≡ reverse (map segment_of (dr
 pub record GoesTo (t : spec.Test) (gs : List Segment) (k : ℕ) : Type 0 where
   pub past : IsPast t gs k
   pub stops : (g : Segment) → 0 < k → g ≡ slice_index_or gs (k - 1) g → spec.segment_passed (segment_of g) t ≡ false
-
--- the count of so many from the top by an expression
-abbrev pub counted_by : Expr → ℕ → TopStep
-counted_by e n = record { bottom = false; limit = Limit.Count n; expr = e }

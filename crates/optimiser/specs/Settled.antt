@@ -1,15 +1,21 @@
--- A pipeline settled in one pass over its steps, and in the pipelines inside them. That this is the plan of a typed pipeline is a law; no definition of plans names it.
-use Rattle.std.specs.Prelude.{ℕ, min, Bool, true, false, not, ◌&&◌, ◌||◌, List, [], ◌∷◌, ◌++◌, Option, Some, None, map, option_and_then, option_to_list, if◌then◌else◌}
-use Rattle.std.specs.Bool.{then_some}
+-- A pipeline settled by the rules that come first, in one pass over its steps and in the pipelines inside them. That rewriting reaches this, and that none of these rules applies to it, are laws; no definition of plans names it.
+use Rattle.std.specs.Prelude.{ℕ, Bool, true, false, not, ◌&&◌, ◌||◌, List, [], ◌∷◌, ◌++◌, Option, Some, None, length, drop, map, option_to_list, if◌then◌else◌}
 use Rattle.std.specs.List.{list_any, list_all}
 use Rattle.edm_values.specs.Lists.{is_nonempty}
 use Rattle.edm_model.specs.Models.{Model}
-use Rattle.apply_ast.specs.Trees.{Expr, Limit, TopStep, Pipe, Step, OptPipe, Pipes, Key, Keys, pipe}
+use Rattle.apply_ast.specs.Trees.{Expr, Pipe, Step, OptPipe, Pipes, Key, Keys, pipe}
 use Rattle.apply_ast.specs.declared.expressions.BinOp.TheVariants as BinOp
 use Rattle.context_typing.specs.Shapes.{Shape, set_shape}
 use Rattle.context_typing.specs.Typing.{Customs, after, hierarchy_at, is_sure, join_navigation, order_sure}
-use Rattle.rewrite_laws.specs.Rewrites.{is_among, paths, top_count}
-use Rattle.rewrite_laws.specs.TreeEquality.{expr_same}
+use Rattle.rewrite_laws.specs.Rewrites.{Rule, drop_identity, drop_true, is_among, pass_compute, pass_order, paths, rules, split_conjunction}
+
+-- the rules by which a pipeline is settled in one pass: those that come first
+abbrev pub early_rules : List Rule
+early_rules = drop_identity ∷ split_conjunction ∷ drop_true ∷ pass_compute ∷ pass_order ∷ []
+
+-- the rules that come after them
+abbrev pub later_rules : List Rule
+later_rules = drop (length early_rules) rules
 
 -- a filter, with whether it is sure where it was written
 pub record Test : Type 0 where
@@ -69,31 +75,10 @@ order_flag m S s = false
 abbrev pub segment : Model → Shape → Step → Segment
 segment m S s = record { head = Some s; sure = order_flag m S s; tests = [] }
 
--- without the orders by sure items at the end
-abbrev pub without_orders : List Segment → List Segment
-without_orders [] = []
-without_orders (g ∷ gs) = if g.sure && not (is_nonempty g.tests) then without_orders gs else g ∷ gs
-
--- the count that stands for two, where the first is the step of a segment
-abbrev pub joined_count : Option Step → TopStep → Option TopStep
-joined_count (Some (Step.TopBy u)) t = option_and_then (λ n. option_and_then (λ k. then_some (expr_same u.expr t.expr) (record u { limit = Limit.Count (min n k) })) (top_count t.bottom t.limit)) (top_count u.bottom u.limit)
-joined_count h t = None
-
--- the count that stands for the last step and another
-abbrev pub last_count : Segment → TopStep → Option TopStep
-last_count g t = if is_nonempty g.tests then None else joined_count g.head t
-
--- a selection goes behind, or becomes one with the last step
-abbrev pub put_selection : Model → Shape → TopStep → List Segment → List Segment
-put_selection m S t [] = segment m S (Step.TopBy t) ∷ []
-put_selection m S t (g ∷ gs) = elim (last_count g t) [ None ↦ segment m S (Step.TopBy t) ∷ g ∷ gs | Some u ↦ record g { head = Some (Step.TopBy u) } ∷ gs ]
-
 -- one more step, on the shape before it
 abbrev pub put_step : Model → Shape → Step → List Segment → List Segment
 put_step m S Step.Identity gs = gs
 put_step m S (Step.Filter e) gs = put_tests (map (judged m S) (parts m S e)) gs
-put_step m S (Step.Aggregate as') gs = segment m S (Step.Aggregate as') ∷ without_orders gs
-put_step m S (Step.TopBy t) gs = put_selection m S t gs
 put_step m S s gs = segment m S s ∷ gs
 
 -- ---- pipelines

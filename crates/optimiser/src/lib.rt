@@ -10,8 +10,9 @@
 //! plan of the written one (`own`): it is reached by rewrites in their order, no rule applies to it, and it means the same, refusal
 //! included, and names no other hierarchy (`meaning`).
 //!
-//! The plan is made in one pass over the pipeline, and not rewrite by rewrite: `specs/Settled` says what the pass makes, and
-//! `proofs/SettledPlan` that this is the plan of a typed pipeline. `next_rewrite` makes one rewrite, for comparisons.
+//! The plan is not made rewrite by rewrite. The rules that come first are applied in one pass over the pipeline, as long as one of
+//! them applies: `specs/Settled` says what the pass makes, and `proofs/SettledPlan` that rewriting reaches it. Then comes one rewrite
+//! by another rule, and the pass again, until no rule applies. `next_rewrite` makes one rewrite, for comparisons.
 //!
 //! `plans` has the plan, `settling` the pass over the steps of a pipeline and the pipelines inside them, `segments` puts one step
 //! behind those before it, and `rewriting` has the one rewrite.

@@ -10,8 +10,9 @@ ghost use Rattle.context_typing.specs.Typing.{customs_typed, shape_of_set};
 ghost use Rattle.context_typing.specs.Typing as typing;
 ghost use Rattle.rewrite_laws.specs.RewriteLaws.{MayStandFor};
 ghost use Rattle.rewrite_laws.specs.Rewrites.{IsPlanOf};
-ghost use Rattle.optimiser.specs.Plans.{AreOneTyping, IsPlan, own_of, written_of};
+ghost use Rattle.optimiser.specs.Plans.{AreOneTyping, IsEarlySettled, IsPlan, IsReached, IsTypedPlan, own_of, written_of};
 
+use crate::rewriting::later_rewrite;
 use crate::settling::settled_pipe;
 use apply_ast::Pipe;
 use context_typing::{Customs, Typed, set_shape};
@@ -56,8 +57,45 @@ impl Plan {
     }
 }
 
+/// A typed pipeline after the rules that come first, as long as one of them applies: made in one pass over it.
+fn settled(alloc: Global, m: &Model, c: &Customs, t: &Typed) -> Result<Typed, AllocError>
+    requires set { IsSet m.now t.now.set }
+    requires customs { AreTypedOver m.now c.now }
+    requires whole { IsTrue (customs_typed m.now (readings c.now)) }
+    requires typing { IsTyping m.now (readings c.now) t.now }
+    ensures reached { IfOk result (IsReached m.now (readings c.now) t.now) }
+    ensures typing { IfOk result (IsTyping m.now (readings c.now)) }
+    ensures early { IfOk result (IsEarlySettled m.now (readings c.now)) }
+{
+    let _sets = m.sets();
+    let start = set_shape(alloc, m.set_type(t.set));
+    let pipe = settled_pipe(alloc, m, c, &t.pipe, &start)?;
+    let shape = t.shape.copy(alloc)?;
+    Ok(Typed {
+        set: t.set,
+        pipe,
+        shape,
+    })
+}
+
+/// The plan of a typed pipeline: settled, and settled again behind each rewrite by another rule, until none applies.
+fn planned(alloc: Global, m: &Model, c: &Customs, t: &Typed) -> Result<Typed, AllocError>
+    requires set { IsSet m.now t.now.set }
+    requires customs { AreTypedOver m.now c.now }
+    requires whole { IsTrue (customs_typed m.now (readings c.now)) }
+    requires typing { IsTyping m.now (readings c.now) t.now }
+    ensures { IfOk result (IsTypedPlan m.now (readings c.now) t.now) }
+{
+    let mut current = settled(alloc, m, c, t)?;
+    while let Some(after) = later_rewrite(alloc, m, c, &current)? {
+        let next = settled(alloc, m, c, &after)?;
+        current = next;
+    }
+    Ok(current)
+}
+
 /// The plan that runs what rewriting makes of a pipeline: the first rule that applies, at its first place, and so on until none
-/// applies. What that is is made in one pass over the pipeline.
+/// applies.
 pub fn optimise(alloc: Global, m: &Model, c: &Customs, t: &Typed) -> Result<Plan, AllocError>
     requires set { IsSet m.now t.now.set }
     requires customs { AreTypedOver m.now c.now }
@@ -68,17 +106,10 @@ pub fn optimise(alloc: Global, m: &Model, c: &Customs, t: &Typed) -> Result<Plan
     ensures own { IfOk result (λ p. IsPlanOf m.now (readings c.now) (shape_of_set m.now t.now.set) (pipe_of t.now.pipe) (pipe_of (own_of p).pipe)) }
     ensures meaning { IfOk result (λ p. MayStandFor IsLoaded m.now (readings c.now) (shape_of_set m.now t.now.set) t.now.shape (pipe_of t.now.pipe) (pipe_of (own_of p).pipe)) }
 {
-    let _sets = m.sets();
     let written = t.copy(alloc)?;
-    let start = set_shape(alloc, m.set_type(t.set));
-    let pipe = settled_pipe(alloc, m, c, &t.pipe, &start)?;
-    let shape = t.shape.copy(alloc)?;
+    let own = planned(alloc, m, c, t)?;
     Ok(Plan {
         written,
-        own: Some(Typed {
-            set: t.set,
-            pipe,
-            shape,
-        }),
+        own: Some(own),
     })
 }

@@ -1,5 +1,5 @@
-//! One rewrite of a typed pipeline, by which plans are defined.
-ghost use Rattle.std.specs.Prelude.{IfOk, IfSome, IsTrue};
+//! One rewrite of a typed pipeline by the first of some rules that applies.
+ghost use Rattle.std.specs.Prelude.{◌≡◌, IfOk, IfSome, IsTrue, map};
 ghost use Rattle.edm_model.specs.LookUps.{IsSet};
 ghost use Rattle.apply_ast.specs.Views.{pipe_of};
 ghost use Rattle.apply_meaning.specs.MeaningLaws.{IsLoaded};
@@ -7,12 +7,68 @@ ghost use Rattle.context_typing.specs.Answers.{IsTyping};
 ghost use Rattle.context_typing.specs.Readings.{AreTypedOver, readings};
 ghost use Rattle.context_typing.specs.Typing.{customs_typed, shape_of_set};
 ghost use Rattle.rewrite_laws.specs.RewriteLaws.{MayStandFor};
-ghost use Rattle.optimiser.specs.Plans.{IsNext};
+ghost use Rattle.rewrite_laws.specs.Rewrites.{rules};
+ghost use Rattle.rewrite_rules.specs.Places.{MayStand, rule_of};
+ghost use Rattle.optimiser.specs.Plans.{IsFirstOf, IsNext};
+ghost use Rattle.optimiser.specs.Settled.{later_rules};
 
 use context_typing::{Customs, Typed};
 use edm_model::Model;
-use rewrite_rules::{rule_1, rule_2, rule_3, rule_4, rule_5, rule_13, rule_14};
+use rewrite_rules::{RuleName, first_place};
 use std::alloc::{AllocError, Global};
+
+/// How many rules come first, by which a pipeline is settled in one pass.
+const EARLY: usize = 5;
+
+/// The rules, in their order.
+fn all_rules() -> [RuleName; 18]
+    ensures { map rule_of result ≡ rules }
+{
+    [
+        RuleName::DropIdentity,
+        RuleName::SplitConjunction,
+        RuleName::DropTrue,
+        RuleName::PassCompute,
+        RuleName::PassOrder,
+        RuleName::PassGroups,
+        RuleName::PassRollup,
+        RuleName::FilterBranches,
+        RuleName::FactorBranches,
+        RuleName::PassJoin,
+        RuleName::FilterRelated,
+        RuleName::PassOuterJoin,
+        RuleName::DropOrder,
+        RuleName::JoinCounts,
+        RuleName::PassTraverse,
+        RuleName::PassNodes,
+        RuleName::FilterNodes,
+        RuleName::DropIdle,
+    ]
+}
+
+/// What the first of these rules that applies makes of a typed pipeline at its first place.
+fn first_of(
+    alloc: Global,
+    m: &Model,
+    c: &Customs,
+    among: &[RuleName],
+    t: &Typed,
+) -> Result<Option<Typed>, AllocError>
+    requires set { IsSet m.now t.now.set }
+    requires customs { AreTypedOver m.now c.now }
+    requires whole { IsTrue (customs_typed m.now (readings c.now)) }
+    requires typing { IsTyping m.now (readings c.now) t.now }
+    ensures value { IfOk result (IsFirstOf (map rule_of among.now) m.now (readings c.now) t.now) }
+    ensures typing { IfOk result (λ o. IfSome o (IsTyping m.now (readings c.now))) }
+    ensures meaning { IfOk result (MayStand m.now (readings c.now) t.now) }
+{
+    for rule in among {
+        if let Some(made) = first_place(alloc, m, c, *rule, t)? {
+            return Ok(Some(made));
+        }
+    }
+    Ok(None)
+}
 
 /// What the first rule that applies makes of a typed pipeline at its first place; nothing where the pipeline is its own plan.
 pub fn next_rewrite(
@@ -29,26 +85,24 @@ pub fn next_rewrite(
     ensures typing { IfOk result (λ o. IfSome o (IsTyping m.now (readings c.now))) }
     ensures meaning { IfOk result (λ o. IfSome o (λ q. MayStandFor IsLoaded m.now (readings c.now) (shape_of_set m.now t.now.set) t.now.shape (pipe_of t.now.pipe) (pipe_of q.pipe))) }
 {
-    if let Some(without_identity) = rule_1(alloc, m, c, t)? {
-        return Ok(Some(without_identity));
-    }
-    if let Some(two_filters) = rule_2(alloc, m, c, t)? {
-        return Ok(Some(two_filters));
-    }
-    if let Some(without_true) = rule_3(alloc, m, c, t)? {
-        return Ok(Some(without_true));
-    }
-    if let Some(before_compute) = rule_4(alloc, m, c, t)? {
-        return Ok(Some(before_compute));
-    }
-    if let Some(before_order) = rule_5(alloc, m, c, t)? {
-        return Ok(Some(before_order));
-    }
-    if let Some(without_order) = rule_13(alloc, m, c, t)? {
-        return Ok(Some(without_order));
-    }
-    if let Some(one_count) = rule_14(alloc, m, c, t)? {
-        return Ok(Some(one_count));
-    }
-    Ok(None)
+    let all = all_rules();
+    first_of(alloc, m, c, &all, t)
+}
+
+/// The same of the rules that come after those by which a pipeline is settled in one pass.
+pub(crate) fn later_rewrite(
+    alloc: Global,
+    m: &Model,
+    c: &Customs,
+    t: &Typed,
+) -> Result<Option<Typed>, AllocError>
+    requires set { IsSet m.now t.now.set }
+    requires customs { AreTypedOver m.now c.now }
+    requires whole { IsTrue (customs_typed m.now (readings c.now)) }
+    requires typing { IsTyping m.now (readings c.now) t.now }
+    ensures value { IfOk result (IsFirstOf later_rules m.now (readings c.now) t.now) }
+    ensures typing { IfOk result (λ o. IfSome o (IsTyping m.now (readings c.now))) }
+{
+    let all = all_rules();
+    first_of(alloc, m, c, &all[EARLY..], t)
 }

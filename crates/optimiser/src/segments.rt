@@ -1,18 +1,16 @@
 //! Steps with the filters behind them, the form in which a pipeline is settled in one pass.
 ghost use Rattle.std.specs.Prelude.{◌≡◌, ◌==◌, ◌&&◌, ◌||◌, ◌≤◌, [], ◌∷◌, ◌++◌, length, map, option_map, IfOk, IsTrue, OnOk};
 ghost use Rattle.std.specs.List.{list_all};
-ghost use Rattle.edm_model.specs.Models as seen;
 ghost use Rattle.apply_ast.specs.Trees.Step.{Filter};
-ghost use Rattle.apply_ast.specs.Views.{expr_of, pipe_of, step_of, top_of};
+ghost use Rattle.apply_ast.specs.Views.{expr_of, pipe_of, step_of};
 ghost use Rattle.context_typing.specs.ShapeTypes.{has_types};
-ghost use Rattle.context_typing.specs.Shapes as shapes;
 ghost use Rattle.optimiser.specs.Settled as spec;
-ghost use Rattle.optimiser.specs.SegmentViews.{GoesTo, counted_by, segment_of, segments_of, test_of};
+ghost use Rattle.optimiser.specs.SegmentViews.{GoesTo, segment_of, segments_of, test_of};
 
-use apply_ast::{BinOp, Expr, Limit, Pipe, Step, TopStep};
+use apply_ast::{BinOp, Expr, Pipe, Step};
 use context_typing::{Shape, is_sure};
 use edm_model::Model;
-use rewrite_rules::{count_by, count_from_top, names_any, order_sure, same_expr};
+use rewrite_rules::{names_any, order_sure};
 use std::alloc::{AllocError, Global};
 
 /// A filter, and whether it is sure where it was written.
@@ -167,47 +165,6 @@ fn put_head(
     Ok(())
 }
 
-/// Takes the orders by sure items off the end.
-fn drop_orders(segments: &mut Vec<Segment>)
-    ensures { segments_of segments.new.items ≡ spec.without_orders (segments_of segments.old.items) }
-{
-    while let Some(last) = segments.last() {
-        if !last.sure || !last.tests.is_empty() {
-            return;
-        }
-        segments.pop();
-    }
-}
-
-/// The lesser of two counts from the top by one expression: that of a segment with no filter, and another.
-fn joined(last: &Segment, top: &TopStep) -> Option<u64>
-    ensures { option_map (counted_by (expr_of top.now.expr)) result ≡ spec.last_count (segment_of last.now) (top_of top.now) }
-{
-    if !last.tests.is_empty() {
-        return None;
-    }
-    let (n, by) = count_from_top(last.head.as_ref()?)?;
-    let (k, next) = count_by(top)?;
-    same_expr(by, next).then_some(n.min(k))
-}
-
-/// Puts a selection, or makes one count of the last step and it.
-fn put_selection(segments: &mut Vec<Segment>, alloc: Global, top: TopStep) -> Result<(), AllocError>
-    ensures { (m : seen.Model) (S : shapes.Shape) → OnOk result (segments_of segments.new.items ≡ spec.put_selection m S (top_of top) (segments_of segments.old.items)) }
-{
-    if let Some(last) = segments.last_mut() {
-        if let Some(n) = joined(last, &top) {
-            last.head = Some(Step::TopBy(TopStep {
-                bottom: false,
-                limit: Limit::Count(n),
-                expr: top.expr,
-            }));
-            return Ok(());
-        }
-    }
-    put_head(segments, alloc, false, Step::TopBy(top))
-}
-
 /// Puts a step, on the shape before it, behind the last segment.
 pub(crate) fn put_step(
     segments: &mut Vec<Segment>,
@@ -226,11 +183,6 @@ pub(crate) fn put_step(
             let sure = order_sure(m, shape, items.as_slice());
             put_head(segments, alloc, sure, Step::OrderBy(items))
         }
-        Step::Aggregate(items) => {
-            drop_orders(segments);
-            put_head(segments, alloc, false, Step::Aggregate(items))
-        }
-        Step::TopBy(top) => put_selection(segments, alloc, top),
         other => put_head(segments, alloc, false, other),
     }
 }

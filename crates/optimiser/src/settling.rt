@@ -1,4 +1,4 @@
-//! A pipeline settled in one pass over its steps and those of the pipelines inside them.
+//! A pipeline settled by the rules that come first, in one pass over its steps and those of the pipelines inside them.
 ghost use Rattle.std.specs.Prelude.{◌≡◌, IfOk, IfSome, IsTrue, option_map};
 ghost use Rattle.edm_model.specs.LookUps.{IsType};
 ghost use Rattle.edm_model.specs.Soundness.{IsSound};

@@ -11,7 +11,7 @@ use Rattle.edm_values.specs.Literals.{same_kind}
 use Rattle.edm_values.specs.Names.{Path}
 use Rattle.edm_values.specs.Values.{is_beyond}
 use Rattle.edm_values.proofs.OptionFacts.{none_or, some_and, chained, then_some-parts}
-use Rattle.edm_values.proofs.Reorderings.{Reorders, reorders-map, any-reorders}
+use Rattle.edm_values.proofs.Reorderings.{Reorders, reorders-map, any-reorders, reorders-after, reorders-filter_map}
 use Rattle.edm_model.specs.LookUps.{HierarchyPlace}
 use Rattle.edm_data.specs.Worlds.{World}
 use Rattle.edm_data.specs.Nodes.{parents_of}
@@ -27,7 +27,6 @@ use Rattle.apply_meaning.proofs.InstanceOrders.{reorders-ordered_by}
 use Rattle.apply_ast.specs.NamedHierarchies.{hierarchies}
 use Rattle.rewrite_laws.specs.Rewrites.{drop_idle, is_idle, all_but_last, pipe_or_identity}
 use Rattle.rewrite_laws.specs.RewriteLaws.{SameMeaning, KeepsMeaningInPlace}
-use Rattle.rewrite_laws.proofs.ListOrders.{reorders-after, reorders-filter_map}
 use Rattle.rewrite_laws.proofs.FilterRuns.{chains_agree}
 use Rattle.rewrite_laws.proofs.RuleLemmas.{Laws, chain-assoc}
 use Rattle.context_typing.proofs.WalkFacts.{pipe-steps, shape-append}

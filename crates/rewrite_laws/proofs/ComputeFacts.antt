@@ -6,7 +6,7 @@ use Rattle.std.proofs.lemmas.Bool.{or_parts, not-true, false_from_ne_true, trueâ
 use Rattle.edm_values.specs.Lists.{all_some, first_some}
 use Rattle.edm_values.specs.Names.{Path}
 use Rattle.edm_values.specs.declared.Value.{Value}
-use Rattle.edm_values.proofs.OptionFacts.{chained, then_some-parts}
+use Rattle.edm_values.proofs.OptionFacts.{chained, then_some-parts, first_some-None}
 use Rattle.edm_values.proofs.SearchFacts.{find-joined}
 use Rattle.edm_model.specs.Models.{Model}
 use Rattle.edm_data.specs.Worlds.{World}
@@ -18,7 +18,6 @@ use Rattle.context_typing.proofs.PathLemmas.{same_paths, path-self}
 use Rattle.context_typing.proofs.TypingLaw.{computed-paths, names_paths}
 use Rattle.apply_meaning.specs.Instances.{extended, Instance, val, lookup, prefix_value}
 use Rattle.apply_meaning.specs.Meaning.{column}
-use Rattle.edm_data.proofs.KeyOrderLemmas.{first_some-None}
 use Rattle.rewrite_laws.specs.Rewrites.{is_among}
 
 -- a table without a path has no entry there

@@ -10,7 +10,7 @@ use Rattle.edm_values.specs.Values.{is_value, same_value}
 use Rattle.edm_values.specs.OrderLaws.{same_value_is, same_value_itself}
 use Rattle.edm_values.specs.declared.Value.{Value}
 use Rattle.edm_values.proofs.OptionFacts.{option_cases, map-there}
-use Rattle.edm_values.proofs.ListFacts.{all-filter, all-map, all-any, all-each}
+use Rattle.edm_values.proofs.ListFacts.{all-filter, all-map, all-any, all-each, filter-passes}
 use Rattle.edm_values.proofs.SearchFacts.{IsAmong, find-joined, all-distinct}
 use Rattle.edm_values.proofs.SameTexts.{same_lists}
 use Rattle.edm_values.proofs.Reorderings.{filter-swapped}
@@ -20,7 +20,6 @@ use Rattle.context_typing.specs.Paths.{same_path, at_path}
 use Rattle.context_typing.specs.Shapes.{Shape}
 use Rattle.context_typing.specs.Typing.{column_at}
 use Rattle.context_typing.proofs.PathLemmas.{same_paths, path-self}
-use Rattle.context_typing.proofs.TableLemmas.{filter-passes}
 use Rattle.apply_meaning.specs.Instances.{extended, Instance, val, fits, lookup}
 use Rattle.apply_meaning.specs.Meaning.{Outcome, key_list, same_keys, keys, group, grouped, keyed}
 use Rattle.apply_meaning.specs.MeaningLaws.{AllFit}

@@ -9,8 +9,8 @@ use Rattle.edm_values.specs.Names.{Path}
 use Rattle.edm_values.specs.Values.{is_value}
 use Rattle.edm_values.specs.declared.EdmType.{EdmType}
 use Rattle.edm_values.specs.declared.Value.{Value}
-use Rattle.edm_values.proofs.OptionFacts.{and_7, none_or, some_value, option_cases, chained, then_some-parts, if_else-parts}
-use Rattle.edm_values.proofs.ListFacts.{all-append, all-filter, all-map, all-any, all-each, all-take, all-parts}
+use Rattle.edm_values.proofs.OptionFacts.{and_7, none_or, some_value, option_cases, chained, then_some-parts, if_else-parts, first_some-None}
+use Rattle.edm_values.proofs.ListFacts.{all-append, all-filter, all-map, all-any, all-each, all-take, all-parts, flat_map-agree}
 use Rattle.edm_values.proofs.SearchFacts.{chosen, found-all, find-joined, member-self, none-all}
 use Rattle.edm_values.proofs.Reorderings.{filter-swapped}
 use Rattle.edm_model.specs.Models.{Model}
@@ -32,9 +32,8 @@ use Rattle.rewrite_laws.specs.Rewrites.{paths, over, is_among, passing, pass_gro
 use Rattle.rewrite_laws.specs.RewriteLaws.{KeepsMeaningInPlace, SameMeaning}
 use Rattle.rewrite_laws.proofs.RuleLemmas.{Laws, Commutes, passing-keeps_meaning, sure-filter, step-fits}
 use Rattle.rewrite_laws.proofs.ExprPaths.{lookup-same, val-same, kind-same, sure-same}
-use Rattle.edm_data.proofs.KeyOrderLemmas.{first_some-None}
 use Rattle.context_typing.proofs.PathOrders.{none-is}
-use Rattle.rewrite_laws.proofs.TraverseRule.{filter-flat, flat-same}
+use Rattle.rewrite_laws.proofs.TraverseRule.{filter-flat}
 use Rattle.rewrite_laws.proofs.JoinedResults.{joined-whole, filter-mapped}
 use Rattle.rewrite_laws.proofs.InnerLaws.{inner-runs, inner-fits, keys-none}
 use Rattle.rewrite_laws.proofs.GroupRules.{level-is, level-filter}
@@ -152,7 +151,7 @@ module _ (w : World) (S G : Shape) (f : List Instance → Outcome) (total : (l :
       nodes None = refl
       nodes (Some t) =
           some-filtered _ _ _ _ (joined-whole (one t l) shown (all-any _ shown (λ x. ap is_some (is t l a x).1))) (joined-whole (one t (filter passes l)) shown (all-any _ shown (λ x. ap is_some (is t (filter passes l) (all-filter (fits w S) passes l a) x).1)))
-          (filter-flat passes (λ x. unwrap_or (one t l x) []) shown ∙ flat-same _ _ (same t) shown)
+          (filter-flat passes (λ x. unwrap_or (one t l x) []) shown ∙ flat_map-agree _ _ (same t) shown)
 
 -- the keys are ready for the filter
 over-wider : (K L : List Path) (b : Expr) → ((p : Path) → is_among K p ≡ true → is_among L p ≡ true) → over K b ≡ true → over L b ≡ true

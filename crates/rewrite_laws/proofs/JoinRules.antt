@@ -6,6 +6,7 @@ use Rattle.std.specs.List.{list_all, list_any}
 use Rattle.std.proofs.lemmas.List.{map-append}
 use Rattle.std.proofs.lemmas.List.Folds.{list_any-append}
 use Rattle.std.proofs.lemmas.Bool.{and_parts, or_parts, or_from, not-true, both_ways}
+use Rattle.std.proofs.Math.Bool.{and-false}
 use Rattle.edm_values.specs.Lists.{is_nonempty, is_some_and}
 use Rattle.edm_values.specs.Literals.{is_boolean_kind}
 use Rattle.edm_values.specs.Names.{Name, Path}
@@ -153,10 +154,6 @@ module _ (w : World) (c : Customs) (S S1 : Shape) (outer : Bool) (n a : Name) (T
         let t = or_parts (is_beyond (val w i b)) _ f in
         ap (list_any is_beyond) (map-append (λ j. val w j b) (block i) (flat_map block l)) ∙ list_any-append is_beyond (map (λ j. val w j b) (block i)) (map (λ j. val w j b) (flat_map block l))
         ∙ or_from _ _ (any-block i b h ∙ ap (λ z. is_nonempty (block i) && z) t.0 ∙ and-false (is_nonempty (block i))) (none-blocks b h l t.1)
-      where
-        and-false : (z : Bool) → (z && false) ≡ false
-        and-false true = refl
-        and-false false = refl
 
 -- ---- the rules
 

@@ -1,6 +1,7 @@
 mod MeasureRows
 mod PlanRows
 mod RuleRows
+pub mod AliasPaths
 pub mod BranchRule
 pub mod Branches
 pub mod ClimbRule
@@ -16,7 +17,6 @@ pub mod GroupingRules
 pub mod InnerLaws
 pub mod JoinRules
 pub mod JoinedResults
-pub mod ListOrders
 pub mod NodeKeys
 pub mod NodeLookups
 pub mod NodeRule
@@ -44,4 +44,5 @@ pub mod SplitRule
 pub mod StepLists
 pub mod TraverseRule
 pub mod TypedBranches
+pub mod TypedPaths
 pub mod WorldForms

@@ -1,8 +1,9 @@
 -- Keys among which one stands for the nodes of a hierarchy: what they show, and their typing, is that of this key alone.
-use Rattle.std.proofs.Common.{◌≡◌, refl, sym, ◌∙◌, ap, ℕ, suc, Bool, true, false, ◌&&◌, List, [], ◌∷◌, ◌++◌, length, Option, Some, None, arith}
+use Rattle.std.proofs.Common.{◌≡◌, refl, sym, ◌∙◌, ap, ℕ, suc, true, ◌&&◌, List, [], ◌∷◌, ◌++◌, length, Option, Some, None, arith}
 use Rattle.std.specs.Prelude.{nat_le, option_and_then, option_map}
 use Rattle.std.proofs.lemmas.Bool.{leb-true, true≢false}
 use Rattle.std.proofs.lemmas.List.{append-nil}
+use Rattle.std.proofs.Math.Bool.{and-true}
 use Rattle.edm_values.specs.Names.{Path}
 use Rattle.edm_data.specs.Worlds.{World}
 use Rattle.apply_ast.specs.Trees.{Expr, HierName, OptPipe, Key, Keys, Step}
@@ -97,10 +98,6 @@ node-key w c (Keys.MoreKeys (Key.Recursive g p U) ks) n h =
     alone : (o : Option (List ℕ)) → option_and_then (λ xs. option_map (λ ys. xs ++ ys) (Some [])) o ≡ o
     alone None = refl
     alone (Some xs) = ap (λ z. Some z) (append-nil xs)
-
-    and-true : (b : Bool) → (b && true) ≡ b
-    and-true true = refl
-    and-true false = refl
 
 -- a filter in the pipeline that chooses the nodes names no hierarchy
 pub ended_keys-hierarchies : (ks : Keys) (b : Expr) → keys_hierarchies (ended_keys (Step.Filter b) ks) ≡ keys_hierarchies ks

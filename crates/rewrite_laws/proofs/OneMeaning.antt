@@ -1,8 +1,9 @@
 -- What a rule makes of a typed pipeline, and so its plan, may stand for it in every world that is loaded.
-use Rattle.std.proofs.Common.{◌≡◌, refl, sym, ◌∙◌, ap, cond, Bool, true, false, List, [], ◌∷◌, ◌++◌, filter, Some, Contains}
+use Rattle.std.proofs.Common.{◌≡◌, sym, ◌∙◌, ap, true, false, [], ◌++◌, Some, Contains}
 use Rattle.std.specs.Prelude.{option_and_then, option_map, slice_get, unwrap_or, is_some}
-use Rattle.edm_values.proofs.EachLemmas.{Each, each-append, each-contains}
+use Rattle.edm_values.proofs.EachLemmas.{Each, each-append, each-contains, each-weaker}
 use Rattle.edm_values.proofs.OptionFacts.{mapped}
+use Rattle.edm_values.proofs.TopPlaces.{filter-each}
 use Rattle.edm_model.specs.Models.{EntityType}
 use Rattle.edm_model.specs.LookUps.{key_at, type_at}
 use Rattle.edm_data.specs.Worlds.{World}
@@ -11,11 +12,11 @@ use Rattle.context_typing.proofs.TypingLaw.{typing_keeps_lawful}
 use Rattle.apply_meaning.specs.MeaningLaws.{IsLoaded}
 use Rattle.apply_meaning.proofs.MeaningProved.{loaded-mean_fits, loaded-sure, loaded-quiet, loaded-nodes, loaded-related}
 use Rattle.apply_meaning.proofs.NodeLemmas.{named-parts}
-use Rattle.rewrite_laws.specs.Rewrites.{Rule, all_rules, rules, rewrites, pipe_results, IsRewrite, IsPlanOf}
-use Rattle.rewrite_laws.specs.RewriteLaws.{KeepsMeaningInPlace, ReplacementKeepsMeaning, ResultsAreTyped, RulesKeepMeaning, EveryRuleKeepsMeaning, FirstRewritesKeepMeaning, PlanKeepsMeaning}
+use Rattle.rewrite_laws.specs.Rewrites.{Rule, rules, rewrites, pipe_results, IsRewrite, IsPlanOf}
+use Rattle.rewrite_laws.specs.RewriteLaws.{KeepsMeaningInPlace, ReplacementKeepsMeaning, ResultsAreTyped, RulesKeepMeaning, FirstRewritesKeepMeaning, PlanKeepsMeaning}
 use Rattle.rewrite_laws.proofs.Replacement.{every_result, replacement}
 use Rattle.rewrite_laws.proofs.PlanMeaning.{plan_law, first-contains}
-use Rattle.rewrite_laws.proofs.RewritesSmaller.{each-imply, first_rules, middle_rules, last_rules}
+use Rattle.rewrite_laws.proofs.RewritesSmaller.{first_rules, middle_rules, last_rules}
 use Rattle.rewrite_laws.proofs.WorldForms.{KeepsMeaningInWorlds, over_models}
 use Rattle.rewrite_laws.proofs.RuleLemmas.{Laws, KeysNamed}
 use Rattle.rewrite_laws.proofs.RulesInPlace.{drop_identity-keeps_meaning, drop_true-keeps_meaning}
@@ -49,15 +50,8 @@ loaded-laws = record { typing = typing_keeps_lawful; fitting = loaded-mean_fits;
 
 -- ---- the rules
 
-filter-each : {X : Type 0} (t : X → Bool) (xs : List X) → Each (λ x. t x ≡ true) xs → filter t xs ≡ xs
-filter-each t [] a = refl
-filter-each t (x ∷ xs) a = ap (λ b. cond b (x ∷ filter t xs) (filter t xs)) a.0 ∙ ap (λ l. x ∷ l) (filter-each t xs a.1)
-
 module _ (A : World → Type 0) (L : Laws A) where
-  -- the rules that are applied, and then all, in their order
-  rules_in_place : Each (KeepsMeaningInPlace A) rules
-  rules_in_place = (drop_identity-keeps_meaning A, (split_conjunction-keeps_meaning A L, (drop_true-keeps_meaning A, (pass_compute-keeps_meaning A L, (pass_order-keeps_meaning A L, (drop_order-keeps_meaning A L, (join_counts-keeps_meaning A, tt)))))))
-
+  -- the rules, in three parts
   first_in_place : Each (KeepsMeaningInPlace A) first_rules
   first_in_place = (drop_identity-keeps_meaning A, (split_conjunction-keeps_meaning A L, (drop_true-keeps_meaning A, (pass_compute-keeps_meaning A L, (pass_order-keeps_meaning A L, (pass_groups-keeps_meaning A L, (pass_rollup-keeps_meaning A L, tt)))))))
 
@@ -67,8 +61,8 @@ module _ (A : World → Type 0) (L : Laws A) where
   last_in_place : Each (KeepsMeaningInPlace A) last_rules
   last_in_place = (drop_order-keeps_meaning A L, (join_counts-keeps_meaning A, (pass_traverse-keeps_meaning A L, (pass_nodes-keeps_meaning A L, (filter_nodes-keeps_meaning A L, (drop_idle-keeps_meaning A L, tt))))))
 
-  every_rule_in_place : Each (KeepsMeaningInPlace A) all_rules
-  every_rule_in_place = each-append (KeepsMeaningInPlace A) first_rules (middle_rules ++ last_rules) first_in_place (each-append (KeepsMeaningInPlace A) middle_rules last_rules middle_in_place last_in_place)
+  rules_in_place : Each (KeepsMeaningInPlace A) rules
+  rules_in_place = each-append (KeepsMeaningInPlace A) first_rules (middle_rules ++ last_rules) first_in_place (each-append (KeepsMeaningInPlace A) middle_rules last_rules middle_in_place last_in_place)
 
   -- what is made of a typed pipeline in each world: by a rule, and by a plan
   rule-in_worlds : (r : Rule) → Contains rules r → KeepsMeaningInWorlds A (IsRewrite r)
@@ -80,15 +74,12 @@ module _ (A : World → Type 0) (L : Laws A) where
   pub rules_keep_meaning : RulesKeepMeaning A
   rules_keep_meaning r k = over_models A (IsRewrite r) (rule-in_worlds r k)
 
-  pub every_rule_keeps_meaning : EveryRuleKeepsMeaning A
-  every_rule_keeps_meaning r k = replacement_keeps_meaning r (each-contains (KeepsMeaningInPlace A) all_rules r every_rule_in_place k)
-
   -- each result of a rule has the typing of the pipeline
   pub results_are_typed : ResultsAreTyped
   results_are_typed r k m c S S' p t =
       let w : World = record { model = m; entities = [] } in
       filter-each (λ q. is_some (steps_shape m c S q)) (pipe_results r m c S false p)
-      (each-imply _ (λ q. is_some (steps_shape m c S q) ≡ true) (pipe_results r m c S false p) (λ q h. ap is_some (h.1.1 ∙ t.typed.1))
+      (each-weaker _ (λ q. is_some (steps_shape m c S q) ≡ true) (pipe_results r m c S false p) (λ q h. ap is_some (h.1.1 ∙ t.typed.1))
       (every_result A L.typing L.fitting L.nodes L.related r (each-contains (KeepsMeaningInPlace A) rules r rules_in_place k) w c S S' p t.customs t.lawful t.typed))
 
   pub first_rewrites_keep_meaning : FirstRewritesKeepMeaning A
@@ -105,9 +96,6 @@ loaded-replacement = replacement_keeps_meaning IsLoaded loaded-laws
 
 pub loaded-rules : RulesKeepMeaning IsLoaded
 loaded-rules = rules_keep_meaning IsLoaded loaded-laws
-
-pub loaded-every_rule : EveryRuleKeepsMeaning IsLoaded
-loaded-every_rule = every_rule_keeps_meaning IsLoaded loaded-laws
 
 pub loaded-firsts : FirstRewritesKeepMeaning IsLoaded
 loaded-firsts = first_rewrites_keep_meaning IsLoaded loaded-laws

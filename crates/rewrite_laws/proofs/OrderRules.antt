@@ -8,10 +8,11 @@ use Rattle.std.proofs.lemmas.List.Folds.{list_any-append}
 use Rattle.edm_values.specs.Lists.{is_nonempty, sorted}
 use Rattle.edm_values.specs.Literals.{is_boolean_kind}
 use Rattle.edm_values.specs.Values.{is_beyond, is_value}
-use Rattle.edm_values.proofs.EachLemmas.{all-filter, map-agree}
+use Rattle.edm_values.proofs.EachLemmas.{map-agree}
 use Rattle.edm_values.proofs.OptionFacts.{none_or, chained, then_some-parts}
 use Rattle.edm_values.proofs.Reorderings.{reorders-map, any-reorders}
 use Rattle.edm_values.proofs.SortedLists.{filter-sorted}
+use Rattle.edm_values.proofs.ListFacts.{all-filter}
 use Rattle.edm_data.specs.Worlds.{World}
 use Rattle.apply_ast.specs.Trees.{Expr, OrderItem, AggItem, Step, pipe, is_long}
 use Rattle.context_typing.specs.Shapes.{Shape}

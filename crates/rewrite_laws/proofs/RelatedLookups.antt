@@ -20,7 +20,7 @@ use Rattle.context_typing.specs.Shapes.{RootShape, PrefixShape, ColumnShape, Sha
 use Rattle.context_typing.specs.Typing.{all_prefixes, prefix_at, column_at, path_property, path_kind, is_member, is_free, joined_shape, prefix_under, column_under, widened}
 use Rattle.context_typing.proofs.PathLemmas.{same_paths, entry-path, longest, longest-cons, longest-same, longest-map}
 use Rattle.context_typing.proofs.TableLemmas.{under-nil, under-cons}
-use Rattle.context_typing.proofs.ShapeLemmas.{Law, split-behind}
+use Rattle.context_typing.proofs.ShapeLemmas.{Law, begins-behind}
 use Rattle.context_typing.proofs.ShapeSteps.{free-prefix, free-column, free-member, no-property, root-prefix, prefix-joined, prefix-under}
 use Rattle.apply_meaning.specs.Instances.{Instance, root_of, value_behind, lookup, column_value, prefix_value, leads_on, prefix_fits, prefix_fits_at, column_fits, entity_fits}
 use Rattle.apply_meaning.specs.Meaning.{beneath, beside}
@@ -29,11 +29,6 @@ use Rattle.context_typing.proofs.PathOrders.{none-is}
 use Rattle.rewrite_laws.proofs.ComputeFacts.{at-left}
 
 -- ---- tables without a name
-
--- a path behind one that begins with a name begins with it
-begins-behind : (a : Name) (p q : Path) → begins a p ≡ true → is_proper_prefix p q ≡ true → begins a q ≡ true
-begins-behind a [] q h k = absurd (true≢false (sym h))
-begins-behind a (n ∷ p) q h k = let t = split-behind (n ∷ p) q k in ap (begins a) t.2 ∙ h
 
 -- no path of the table begins with the name
 none-behind : {A : Type 0} (path : A → Path) (a : Name) (xs : List A) → list_all (λ x. not (begins a (path x))) xs ≡ true → (q : Path) → at_path path xs (a ∷ q) ≡ None

@@ -22,10 +22,11 @@ use Rattle.apply_meaning.specs.MeaningLaws.{AllFit, MeanFits, NodesFit, RelatedF
 use Rattle.context_typing.specs.TypingLaws.{TypingKeepsLawful}
 use Rattle.rewrite_laws.specs.RewriteLaws.{SameMeaning, KeepsMeaningInPlace}
 use Rattle.context_typing.proofs.WalkFacts.{pipe-steps}
-use Rattle.edm_values.proofs.OptionFacts.{some_value}
+use Rattle.edm_values.proofs.OptionFacts.{some_value, chained, some_and, if_else-parts}
 use Rattle.rewrite_laws.proofs.FilterRuns.{chains_agree, each-place}
 use Rattle.rewrite_laws.proofs.WorldForms.{KeepsMeaningInWorlds}
-use Rattle.edm_values.proofs.EachLemmas.{Each, each-append, each-map, each-filter, each-contains, and_then-some, if-some, then_some-holds, and-left, and-right, some_and-holds, all_some-head, all_some-tail, all-filter}
+use Rattle.edm_values.proofs.EachLemmas.{Each, each-append, each-map, each-filter, each-contains, then_some-holds, and-left, and-right, all_some-head, all_some-tail}
+use Rattle.edm_values.proofs.ListFacts.{all-filter}
 
 abbrev IsLawful : World → Shape → Type 0
 IsLawful w S = IsTrue (is_lawful w.model S)
@@ -272,7 +273,7 @@ module _ (A : World → Type 0) (w : World) (c : Customs) (r : Rule) (K : InPlac
     inner_each : (T : OptPipe) (S d S' : Shape) → IsLawful w S → inner_shape w.model c S d T ≡ Some S' → Each (SameInner A w c S T) (inner_results r w.model c S T)
     inner_each OptPipe.NoPipe S d S' law e = tt
     inner_each (OptPipe.SomePipe p) S d S' law e =
-        let t = if-some (is_long p) (steps_shape w.model c S p) S' e in
+        let t = if_else-parts (is_long p) (steps_shape w.model c S p) S' e in
         each-map (SameInner A w c S (OptPipe.SomePipe p)) (Kept S false p) OptPipe.SomePipe
         (λ q h. (h.1.0, (λ d. λ i. if (h.0 ∙ sym t.0) i then h.1.1 i else None), λ a f l k. h.1.2 a l k))
         (pipe_results r w.model c S false p) (pipe_each p S S' false law t.1)
@@ -282,7 +283,7 @@ module _ (A : World → Type 0) (w : World) (c : Customs) (r : Rule) (K : InPlac
     branch_each (Pipes.MorePipes p ps) S Ss law e =
         let x = if is_long p then steps_shape w.model c S p else None in
         let t = all_some-head x (branch_shapes w.model c S ps) Ss e in
-        let u = if-some (is_long p) (steps_shape w.model c S p) t.0 t.1 in
+        let u = if_else-parts (is_long p) (steps_shape w.model c S p) t.0 t.1 in
         let v = all_some-tail x (branch_shapes w.model c S ps) Ss e in
         each-append (SameBranches A w c S (Pipes.MorePipes p ps)) (map (λ q. Pipes.MorePipes q ps) (pipe_results r w.model c S false p)) (map (Pipes.MorePipes p) (branch_results r w.model c S ps))
         (each-map (SameBranches A w c S (Pipes.MorePipes p ps)) (Kept S false p) (λ q. Pipes.MorePipes q ps)
@@ -304,9 +305,9 @@ module _ (A : World → Type 0) (w : World) (c : Customs) (r : Rule) (K : InPlac
     key_each (Key.Plain p) S e = tt
     key_each (Key.Rollup all ps) S e = tt
     key_each (Key.Recursive h p T) S e =
-        let x = some_and-holds (λ f. is_some_and (λ R. is_some_and (λ t. t == f.type) (root_type R)) (inner_shape w.model c (set_shape f.type) (set_shape f.type) T)) (hierarchy_at w.model h)
+        let x = some_and (λ f. is_some_and (λ R. is_some_and (λ t. t == f.type) (root_type R)) (inner_shape w.model c (set_shape f.type) (set_shape f.type) T)) (hierarchy_at w.model h)
         (and-right (is_node_path w.model S h p) (is_some_and (λ f. is_some_and (λ R. is_some_and (λ t. t == f.type) (root_type R)) (inner_shape w.model c (set_shape f.type) (set_shape f.type) T)) (hierarchy_at w.model h)) e) in
-        let y = some_and-holds (λ R. is_some_and (λ t. t == (x.0).type) (root_type R)) (inner_shape w.model c (set_shape (x.0).type) (set_shape (x.0).type) T) x.2 in
+        let y = some_and (λ R. is_some_and (λ t. t == (x.0).type) (root_type R)) (inner_shape w.model c (set_shape (x.0).type) (set_shape (x.0).type) T) x.2 in
         let P : Option HierarchyPlace → Type 0 = λ o. Each (SameKey A w c (Key.Recursive h p T)) (elim o [ None ↦ [] | Some f ↦ map (Key.Recursive h p) (inner_results r w.model c (set_shape f.type) T) ]) in
         subst P (sym x.1)
         (each-map (SameKey A w c (Key.Recursive h p T)) (SameInner A w c (set_shape (x.0).type) T) (Key.Recursive h p) (λ T' k. with_recursive A w c N h x.0 p T T' x.1 k)
@@ -323,17 +324,17 @@ module _ (A : World → Type 0) (w : World) (c : Customs) (r : Rule) (K : InPlac
 
     step_each : (s : Step) (S S' : Shape) → IsLawful w S → step_shape w.model c S s ≡ Some S' → Each (SameStep A w c S s) (step_results r w.model c S s)
     step_each (Step.GroupBy ks T) S S' law e =
-        let t = if-some (keys_typed w.model c S ks) (option_and_then (grouped_shape w.model S (group_keys ks)) (inner_shape w.model c S no_shape T)) S' e in
-        let u = and_then-some (grouped_shape w.model S (group_keys ks)) (inner_shape w.model c S no_shape T) S' t.1 in
+        let t = if_else-parts (keys_typed w.model c S ks) (option_and_then (grouped_shape w.model S (group_keys ks)) (inner_shape w.model c S no_shape T)) S' e in
+        let u = chained (grouped_shape w.model S (group_keys ks)) (inner_shape w.model c S no_shape T) S' t.1 in
         each-append (SameStep A w c S (Step.GroupBy ks T)) (map (λ ks'. Step.GroupBy ks' T) (keys_results r w.model c ks)) (map (Step.GroupBy ks) (inner_results r w.model c S T))
         (each-map (SameStep A w c S (Step.GroupBy ks T)) (SameKeys A w c ks) (λ ks'. Step.GroupBy ks' T) (λ ks' h. with_group_keys A w c S ks ks' T h) (keys_results r w.model c ks) (keys_each ks S t.0))
         (each-map (SameStep A w c S (Step.GroupBy ks T)) (SameInner A w c S T) (Step.GroupBy ks) (λ T' h. with_group_inner A w c S ks T T' h) (inner_results r w.model c S T) (inner_each T S no_shape u.0 law u.1))
     step_each (Step.Concat ps) S S' law e =
-        let u = and_then-some (concat_shape w.model) (all_some (branch_shapes w.model c S ps)) S' e in
+        let u = chained (concat_shape w.model) (all_some (branch_shapes w.model c S ps)) S' e in
         each-map (SameStep A w c S (Step.Concat ps)) (SameBranches A w c S ps) Step.Concat (λ qs h. with_branches A w c S ps qs h) (branch_results r w.model c S ps) (branch_each ps S u.0 law u.1)
     step_each (Step.Join outer n a T) S S' law e =
-        let u = and_then-some (λ v. option_and_then (λ R. then_some (is_free w.model S a) (joined_shape outer a S R)) (inner_shape w.model c (set_shape v.target) (set_shape v.target) T)) (join_navigation w.model S n) S' e in
-        let x = and_then-some (λ R. then_some (is_free w.model S a) (joined_shape outer a S R)) (inner_shape w.model c (set_shape (u.0).target) (set_shape (u.0).target) T) S' u.2 in
+        let u = chained (λ v. option_and_then (λ R. then_some (is_free w.model S a) (joined_shape outer a S R)) (inner_shape w.model c (set_shape v.target) (set_shape v.target) T)) (join_navigation w.model S n) S' e in
+        let x = chained (λ R. then_some (is_free w.model S a) (joined_shape outer a S R)) (inner_shape w.model c (set_shape (u.0).target) (set_shape (u.0).target) T) S' u.2 in
         let P : Option Navigation → Type 0 = λ o. Each (SameStep A w c S (Step.Join outer n a T)) (elim o [ None ↦ [] | Some v ↦ map (Step.Join outer n a) (inner_results r w.model c (set_shape v.target) T) ]) in
         subst P (sym u.1)
         (each-map (SameStep A w c S (Step.Join outer n a T)) (SameInner A w c (set_shape (u.0).target) T) (Step.Join outer n a) (λ T' h. with_join A w c J S outer n a u.0 T T' u.1 h)
@@ -341,7 +342,7 @@ module _ (A : World → Type 0) (w : World) (c : Customs) (r : Rule) (K : InPlac
     step_each (Step.Climb up h p T d keep) S S' law e =
         let b = then_some-holds (is_node_path w.model S h p && is_distance d && is_long T && is_some_and (λ R. is_node_path w.model R h p) (steps_shape w.model c S T)) S S' e in
         let long = and-right (is_node_path w.model S h p && is_distance d) (is_long T) (and-left (is_node_path w.model S h p && is_distance d && is_long T) (is_some_and (λ R. is_node_path w.model R h p) (steps_shape w.model c S T)) b) in
-        let x = some_and-holds (λ R. is_node_path w.model R h p) (steps_shape w.model c S T) (and-right (is_node_path w.model S h p && is_distance d && is_long T) (is_some_and (λ R. is_node_path w.model R h p) (steps_shape w.model c S T)) b) in
+        let x = some_and (λ R. is_node_path w.model R h p) (steps_shape w.model c S T) (and-right (is_node_path w.model S h p && is_distance d && is_long T) (is_some_and (λ R. is_node_path w.model R h p) (steps_shape w.model c S T)) b) in
         each-map (SameStep A w c S (Step.Climb up h p T d keep)) (Kept S false T) (λ T'. Step.Climb up h p T' d keep) (λ T' k. with_climb A w c S up h p T T' d keep long k.0 k.1)
         (pipe_results r w.model c S false T) (pipe_each T S x.0 false law x.1)
     step_each s S S' law e = tt

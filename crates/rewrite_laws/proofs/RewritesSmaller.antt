@@ -1,14 +1,15 @@
 -- Each rewrite makes a pipeline smaller.
-use Rattle.std.proofs.Common.{◌≡◌, refl, Bool, true, false, List, [], ◌∷◌, ◌++◌, Option, Some, None, filter, cond}
+use Rattle.std.proofs.Common.{◌≡◌, refl, Bool, true, false, List, [], ◌∷◌, ◌++◌, filter, cond}
 use Rattle.std.specs.Prelude.{is_some}
 use Rattle.edm_model.specs.Models.{Model}
 use Rattle.apply_ast.specs.Trees.{Pipe}
 use Rattle.context_typing.specs.Shapes.{Shape}
 use Rattle.context_typing.specs.Typing.{Customs, is_nodes, steps_shape}
 use Rattle.rewrite_laws.specs.Measures.{IsSmaller}
-use Rattle.rewrite_laws.specs.Rewrites.{Rule, rules, all_rules, is_no_rollup, is_levels, drop_identity, split_conjunction, drop_true, pass_compute, pass_order, pass_groups, pass_rollup, filter_branches, factor_branches, pass_join, filter_related, pass_outer_join, drop_order, join_counts, pass_traverse, pass_nodes, filter_nodes, drop_idle, pipe_results, IsRewrite}
-use Rattle.rewrite_laws.specs.RewriteLaws.{EveryRewriteIsSmaller, RewritesAreSmaller}
-use Rattle.edm_values.proofs.EachLemmas.{Each, each-append, each-contains}
+use Rattle.rewrite_laws.specs.Rewrites.{Rule, rules, is_no_rollup, is_levels, drop_identity, split_conjunction, drop_true, pass_compute, pass_order, pass_groups, pass_rollup, filter_branches, factor_branches, pass_join, filter_related, pass_outer_join, drop_order, join_counts, pass_traverse, pass_nodes, filter_nodes, drop_idle, pipe_results, IsRewrite}
+use Rattle.rewrite_laws.specs.RewriteLaws.{RewritesAreSmaller}
+use Rattle.edm_values.proofs.EachLemmas.{Each, each-append, each-contains, each-weaker}
+use Rattle.edm_values.proofs.OptionFacts.{some_there}
 use Rattle.rewrite_laws.proofs.SmallerPlaces.{LowersInPlace, pipe_smaller}
 use Rattle.rewrite_laws.proofs.SmallerNeighbours.{drop_identity-lowers, split_conjunction-lowers, drop_true-lowers, pass_compute-lowers, pass_order-lowers, drop_order-lowers, join_counts-lowers}
 use Rattle.rewrite_laws.proofs.SmallerInside.{pass_grouping-lowers, filter_branches-lowers, factor_branches-lowers, pass_join-lowers, filter_related-lowers, pass_outer_join-lowers}
@@ -24,23 +25,15 @@ each-kept : {X : Type 0} (P : X → Type 0) (t : X → Bool) (xs : List X) → E
 each-kept P t [] a = tt
 each-kept P t (x ∷ xs) a = kept P t (t x) x (filter t xs) refl a.0 (each-kept P t xs a.1)
 
-some-is : {X : Type 0} (o : Option X) → is_some o ≡ true → (x : X) × (o ≡ Some x)
-some-is None e = cc
-some-is (Some x) e = (x, refl)
-
-pub each-imply : {X : Type 0} (P Q : X → Type 0) (xs : List X) → ((x : X) → P x → Q x) → Each P xs → Each Q xs
-each-imply P Q [] f a = tt
-each-imply P Q (x ∷ xs) f a = (f x a.0, each-imply P Q xs f a.1)
-
 -- a rule that lowers in place makes a pipeline smaller wherever it applies
 pub rewrite_smaller : (r : Rule) → LowersInPlace r → (m : Model) (c : Customs) (S : Shape) (p q : Pipe) → IsRewrite r m c S p q → IsSmaller q p
 rewrite_smaller r K m c S p q h =
     let typed = λ (q : Pipe). is_some (steps_shape m c S q) in
     let qs = pipe_results r m c S false p in
-    let a = each-imply _ (λ q. typed q ≡ true → IsSmaller q p) qs (λ q f e. let t = some-is (steps_shape m c S q) e in f (typed-branched m c q S t.0 t.1)) (pipe_smaller r K m c p S false) in
+    let a = each-weaker _ (λ q. typed q ≡ true → IsSmaller q p) qs (λ q f e. let t = some_there (steps_shape m c S q) e in f (typed-branched m c q S t.0 t.1)) (pipe_smaller r K m c p S false) in
     each-contains (λ q. IsSmaller q p) (filter typed qs) q (each-kept (λ q. IsSmaller q p) typed qs a) h
 
--- every rule, in three parts
+-- the rules, in three parts
 abbrev pub first_rules : List Rule
 first_rules = drop_identity ∷ split_conjunction ∷ drop_true ∷ pass_compute ∷ pass_order ∷ pass_groups ∷ pass_rollup ∷ []
 
@@ -60,15 +53,8 @@ middle_lower = (filter_branches-lowers, (factor_branches-lowers, (pass_join-lowe
 last_lower : Each LowersInPlace last_rules
 last_lower = (drop_order-lowers, (join_counts-lowers, (pass_traverse-lowers, (pass_grouping-lowers is_nodes, (filter_nodes-lowers, (drop_idle-lowers, tt))))))
 
-every_rule_lowers : Each LowersInPlace all_rules
-every_rule_lowers = each-append LowersInPlace first_rules (middle_rules ++ last_rules) first_lower (each-append LowersInPlace middle_rules last_rules middle_lower last_lower)
-
-pub every_rewrite_is_smaller : EveryRewriteIsSmaller
-every_rewrite_is_smaller r k m c S p q h = rewrite_smaller r (each-contains LowersInPlace all_rules r every_rule_lowers k) m c S p q h
-
--- the same of the rules that are applied
 rules_lower : Each LowersInPlace rules
-rules_lower = (drop_identity-lowers, (split_conjunction-lowers, (drop_true-lowers, (pass_compute-lowers, (pass_order-lowers, (drop_order-lowers, (join_counts-lowers, tt)))))))
+rules_lower = each-append LowersInPlace first_rules (middle_rules ++ last_rules) first_lower (each-append LowersInPlace middle_rules last_rules middle_lower last_lower)
 
 pub rewrites_are_smaller : RewritesAreSmaller
 rewrites_are_smaller r k m c S p q h = rewrite_smaller r (each-contains LowersInPlace rules r rules_lower k) m c S p q h

@@ -9,8 +9,8 @@ use Rattle.edm_values.specs.Lists.{is_nonempty, is_some_and}
 use Rattle.edm_values.specs.Literals.{is_boolean_kind}
 use Rattle.edm_values.specs.Values.{is_beyond, is_value}
 use Rattle.edm_values.specs.declared.EdmType.{EdmType}
-use Rattle.edm_values.proofs.EachLemmas.{Each, all-filter}
-use Rattle.edm_values.proofs.ListFacts.{none-map}
+use Rattle.edm_values.proofs.EachLemmas.{Each}
+use Rattle.edm_values.proofs.ListFacts.{none-map, all-filter}
 use Rattle.edm_values.proofs.OptionFacts.{mapped, chained, then_some-parts}
 use Rattle.edm_values.proofs.SearchFacts.{found-passes}
 use Rattle.edm_values.proofs.Reorderings.{filter-swapped}

@@ -1,28 +1,12 @@
--- Worked plans over the sample model where every rule is applied.
-use Rattle.std.specs.Prelude.{◌≡◌, refl, ℕ, zero, suc, pos, true, false, [], ◌∷◌, Option, Some, None, option_and_then, codes}
-use Rattle.edm_values.specs.Lists.{find_map}
+-- Worked plans over the sample model by the rules through groups, concatenations, joins and hierarchies.
+use Rattle.std.specs.Prelude.{refl, pos, true, false, [], ◌∷◌, None, codes}
 use Rattle.edm_values.specs.declared.Method.{Method}
 use Rattle.apply_ast.specs.Trees.{Expr, AggItem, Pipe, Step, OptPipe, Pipes, Key, Keys}
-use Rattle.context_typing.specs.Shapes.{set_shape}
-use Rattle.rewrite_laws.specs.Rewrites.{all_rules, first_rewrite, pipe_results}
+use Rattle.rewrite_laws.specs.Rewrites.{pipe_results}
 use Rattle.apply_ast.proofs.TreeWords.{item, named, hier, traverse_step}
-use Rattle.edm_model.specs.SampleModel.{sample_model}
-use Rattle.context_typing.proofs.SampleCustoms.{sample_customs}
 use Rattle.context_typing.specs.Typing.{steps_shape, is_quiet}
+use Rattle.rewrite_laws.proofs.PlanRows.{Plans}
 use Rattle.apply_ast.specs.declared.expressions.BinOp.TheVariants as BinOp
-
--- the result of the first rule of all that applies
-abbrev next_of_all : ℕ → Pipe → Option Pipe
-next_of_all s p = find_map (λ r. first_rewrite r sample_model sample_customs (set_shape s) p) all_rules
-
--- the pipeline after n rewrites
-abbrev rewritten_by_all : ℕ → ℕ → Pipe → Option Pipe
-rewritten_by_all zero s p = Some p
-rewritten_by_all (suc n) s p = option_and_then (rewritten_by_all n s) (next_of_all s p)
-
--- the plan of a pipeline on instances of an entity type of the sample, which is told by its number
-abbrev pub Plans : ℕ → Pipe → Pipe → Type 0
-Plans s p q = ((n : ℕ) × (rewritten_by_all n s p ≡ Some q)) × (next_of_all s q ≡ None)
 
 node_filter : Plans 2 (Pipe.Then (Step.GroupBy (Keys.MoreKeys (Key.Recursive (hier (codes "Orgs") (codes "OrgTree")) ((codes "OrgID") ∷ []) OptPipe.NoPipe) Keys.NoKeys) (OptPipe.SomePipe (Pipe.Then (Step.Aggregate ((AggItem.Standard (Expr.Path' ((codes "Amount") ∷ [])) Method.Sum (codes "T")) ∷ [])) Pipe.End))) (Pipe.Then (Step.Filter (Expr.Binary BinOp.Eq (Expr.Path' ((codes "OrgID") ∷ [])) (Expr.Text (codes "US")))) Pipe.End)) (Pipe.Then (Step.GroupBy (Keys.MoreKeys (Key.Recursive (hier (codes "Orgs") (codes "OrgTree")) ((codes "OrgID") ∷ []) (OptPipe.SomePipe (Pipe.Then (Step.Filter (Expr.Binary BinOp.Eq (Expr.Path' ((codes "ID") ∷ [])) (Expr.Text (codes "US")))) Pipe.End))) Keys.NoKeys) (OptPipe.SomePipe (Pipe.Then (Step.Aggregate ((AggItem.Standard (Expr.Path' ((codes "Amount") ∷ [])) Method.Sum (codes "T")) ∷ [])) Pipe.End))) Pipe.End)
 unfolding pipe_results steps_shape is_quiet

@@ -1,5 +1,6 @@
 -- Two rules keep typing and meaning in place.
 use Rattle.std.proofs.Common.{◌≡◌, refl, sym, ◌∙◌, ap, subst, Bool, true, false, not, ◌||◌, List, [], ◌∷◌, Some, IsTrue, filter}
+use Rattle.std.proofs.Math.Bool.{or-true}
 use Rattle.std.specs.Prelude.{option_and_then}
 use Rattle.std.specs.List.{list_any}
 use Rattle.std.specs.Bool.{then_some}
@@ -56,9 +57,5 @@ pub drop_true-keeps_meaning : (A : World → Type 0) → KeepsMeaningInPlace A d
 unfolding mean steps_shape
 drop_true-keeps_meaning A w c S S' before (Step.Filter (Expr.Bool' true)) ss ss' t k d e =
     let P : List Step → Type 0 = λ x. IsTrue (before || is_long (pipe x)) × SameMeaning A w c S (pipe (Step.Filter (Expr.Bool' true) ∷ ss)) (pipe x) in
-    subst P (some_value e) (long_pipe before (Step.Identity ∷ ss) (either_true before), true_same A w c S (pipe ss))
-  where
-    either_true : (b : Bool) → (b || true) ≡ true
-    either_true true = refl
-    either_true false = refl
+    subst P (some_value e) (long_pipe before (Step.Identity ∷ ss) (or-true before), true_same A w c S (pipe ss))
 drop_true-keeps_meaning A w c S S' before s ss ss' t k d e = absurd (none_is_not_some ss' e)

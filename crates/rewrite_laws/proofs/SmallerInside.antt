@@ -2,6 +2,7 @@
 use Rattle.std.proofs.Common.{◌≡◌, refl, sym, ◌∙◌, ap, subst, ℕ, ◌+◌, ◌*◌, ◌^◌, ◌-◌, ◌≤◌, ◌<◌, inl, inr, Bool, true, false, not, ◌&&◌, [], ◌∷◌, ◌++◌, drop, map, arith}
 use Rattle.std.specs.List.{list_all, list_any}
 use Rattle.std.proofs.lemmas.Nat.{mul-le}
+use Rattle.std.proofs.lemmas.Bool.{not-true}
 use Rattle.edm_values.specs.Lists.{is_nonempty, is_some_and}
 use Rattle.edm_values.specs.Literals.{is_boolean_kind}
 use Rattle.edm_values.specs.Names.{Name, Path}
@@ -13,14 +14,14 @@ use Rattle.context_typing.proofs.WalkFacts.{pipe-steps}
 use Rattle.rewrite_laws.specs.Measures.{size, weight, inner_weight, branches_weight, step_weight, identity_count, branch_identities, step_identities, IsSmaller}
 use Rattle.rewrite_laws.specs.TreeEquality.{step_same}
 use Rattle.rewrite_laws.specs.Rewrites.{paths, over, passing, branches, concat, ended, pipe_or_identity, is_identity, ended_inner, with_paths, grouping_quiet, rollup_keys_in_every_row, join_quiet, pass_grouping, filter_branches, factor_branches, pass_join, filter_related, pass_outer_join}
-use Rattle.edm_values.proofs.EachLemmas.{none_is_not_some, if-some, then_some-holds, and-left, and-right}
+use Rattle.edm_values.proofs.EachLemmas.{none_is_not_some, then_some-holds, and-left, and-right}
 use Rattle.rewrite_laws.proofs.Rising.{rising-mono}
 use Rattle.rewrite_laws.proofs.Branches.{Branched, BranchedAll, branch_count, pipe_rising, step_rising}
 use Rattle.rewrite_laws.proofs.RunWeights.{weight-append, doubles, group_passable, join_passable, passing_lowers, taking_lowers}
 use Rattle.rewrite_laws.proofs.SameTrees.{same-steps, Begin, rest}
 use Rattle.rewrite_laws.proofs.Smaller.{Measure, step_measure, few_identities, few_inner, few_branches, few_keys, few_step}
 use Rattle.rewrite_laws.proofs.SmallerPlaces.{LowersInPlace}
-use Rattle.edm_values.proofs.OptionFacts.{then_some-parts}
+use Rattle.edm_values.proofs.OptionFacts.{then_some-parts, if_else-parts}
 
 -- ---- rules 6, 7 and 16: groupings
 
@@ -29,7 +30,7 @@ unfolding weight
 pass_grouping-lowers kind m c S before (Step.GroupBy ks T) ss ss' e b =
     let S' = after m c S (Step.GroupBy ks T) in
     let test = λ (b : Expr). over (plain_paths ks ++ rollup_keys_in_every_row (rollup_part (group_keys ks))) b && is_sure m S' b in
-    passing_lowers m S' test (Step.GroupBy ks T) ss ss' (if-some (kind (rollup_part (group_keys ks)) && grouping_quiet m c S ks T) (passing m S' test (Step.GroupBy ks T) ss) ss' e).1 b (group_passable ks T)
+    passing_lowers m S' test (Step.GroupBy ks T) ss ss' (if_else-parts (kind (rollup_part (group_keys ks)) && grouping_quiet m c S ks T) (passing m S' test (Step.GroupBy ks T) ss) ss' e).1 b (group_passable ks T)
 pass_grouping-lowers kind m c S before s ss ss' e b = absurd (none_is_not_some ss' e)
 
 pub with_paths-size : (f : Path → Path) (e : Expr) → size (with_paths f e) ≡ size e
@@ -136,10 +137,6 @@ acts (Step.Join outer n a T) h = let f = few_inner T in omega (arith, f)
 acts (Step.Climb up n p T d keep) h = let f = few_identities T in omega (arith, f)
 acts x h = omega arith
 
-not_false : (b : Bool) → not b ≡ true → b ≡ false
-not_false true e = cc
-not_false false e = refl
-
 factored-smaller : (x : Step) (ps : Pipes) (p : Pipe) → Begin x ps ≡ true → is_identity x ≡ false → Branched (Pipe.Then x (Pipe.Then (Step.Concat (each_branch rest ps)) p))
     → IsSmaller (Pipe.Then x (Pipe.Then (Step.Concat (each_branch rest ps)) p)) (Pipe.Then (Step.Concat ps) p)
 unfolding weight step_count
@@ -170,7 +167,7 @@ factor_branches-lowers m c S before (Step.Concat (Pipes.MorePipes (Pipe.Then x p
     let t' = sym (ap (λ s. x ∷ s ∷ ss) (concat-each rest qs)) ∙ t in
     let b' = subst (λ z. Branched (pipe z)) (sym t') b in
     subst (λ z. IsSmaller (pipe z) (pipe (Step.Concat qs ∷ ss))) t'
-    (factored-smaller x qs (pipe ss) (and-right (not (is_identity x)) (Begin x qs) h) (not_false (is_identity x) (and-left (not (is_identity x)) (Begin x qs) h)) b')
+    (factored-smaller x qs (pipe ss) (and-right (not (is_identity x)) (Begin x qs) h) (not-true (is_identity x) (and-left (not (is_identity x)) (Begin x qs) h)) b')
 factor_branches-lowers m c S before s ss ss' e b = absurd (none_is_not_some ss' e)
 
 -- ---- rules 10 to 12: joins
@@ -180,7 +177,7 @@ unfolding weight
 pass_join-lowers m c S before (Step.Join false n a T) ss ss' e b =
     let S' = after m c S (Step.Join false n a T) in
     let test = λ (b : Expr). not (list_any (begins a) (paths b)) && is_sure m S' b in
-    passing_lowers m S' test (Step.Join false n a T) ss ss' (if-some (join_quiet m c S n T) (passing m S' test (Step.Join false n a T) ss) ss' e).1 b (join_passable false n a T)
+    passing_lowers m S' test (Step.Join false n a T) ss ss' (if_else-parts (join_quiet m c S n T) (passing m S' test (Step.Join false n a T) ss) ss' e).1 b (join_passable false n a T)
 pass_join-lowers m c S before s ss ss' e b = absurd (none_is_not_some ss' e)
 
 related-less : (e : Expr) (n a : Name) (T : OptPipe) (v : ℕ) → step_weight (Step.Join false n a (ended_inner T (Step.Filter (with_paths (drop 1) e)))) v < step_weight (Step.Join false n a T) v * 2 ^ size e
@@ -203,5 +200,5 @@ unfolding weight
 pass_outer_join-lowers m c S before (Step.Join true n a T) ss ss' e b =
     let S' = after m c S (Step.Join true n a T) in
     let test = λ (b : Expr). not (list_any (begins a) (paths b)) in
-    passing_lowers m S' test (Step.Join true n a T) ss ss' (if-some (join_quiet m c S n T) (passing m S' test (Step.Join true n a T) ss) ss' e).1 b (join_passable true n a T)
+    passing_lowers m S' test (Step.Join true n a T) ss ss' (if_else-parts (join_quiet m c S n T) (passing m S' test (Step.Join true n a T) ss) ss' e).1 b (join_passable true n a T)
 pass_outer_join-lowers m c S before s ss ss' e b = absurd (none_is_not_some ss' e)

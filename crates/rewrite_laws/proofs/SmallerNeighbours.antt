@@ -9,11 +9,11 @@ use Rattle.apply_ast.specs.Counts.{step_count}
 use Rattle.apply_ast.specs.Trees.{Expr, Step, Limit, pipe}
 use Rattle.apply_ast.specs.declared.expressions.BinOp.TheVariants as BinOp
 use Rattle.context_typing.specs.Typing.{after, is_sure, order_sure}
-use Rattle.edm_values.proofs.OptionFacts.{then_some-parts}
+use Rattle.edm_values.proofs.OptionFacts.{then_some-parts, chained, if_else-parts}
 use Rattle.rewrite_laws.specs.Measures.{size, weight, IsSmaller}
 use Rattle.rewrite_laws.specs.TreeEquality.{expr_same}
 use Rattle.rewrite_laws.specs.Rewrites.{is_among, paths, passing, drop_identity, split_conjunction, drop_true, pass_compute, pass_order, drop_order, top_count, join_counts}
-use Rattle.edm_values.proofs.EachLemmas.{none_is_not_some, and_then-some, if-some}
+use Rattle.edm_values.proofs.EachLemmas.{none_is_not_some}
 use Rattle.rewrite_laws.proofs.Branches.{Branched}
 use Rattle.rewrite_laws.proofs.RunWeights.{less_before, doubles, passing_lowers}
 use Rattle.rewrite_laws.proofs.Smaller.{few_identities}
@@ -63,7 +63,7 @@ pass_compute-lowers m c S before s ss ss' e b = absurd (none_is_not_some ss' e)
 pub pass_order-lowers : LowersInPlace pass_order
 unfolding weight
 pass_order-lowers m c S before (Step.OrderBy items) ss ss' e b =
-    passing_lowers m S (λ b. true) (Step.OrderBy items) ss ss' (if-some (order_sure m S items) (passing m S (λ b. true) (Step.OrderBy items) ss) ss' e).1 b (λ x v n h. omega arith)
+    passing_lowers m S (λ b. true) (Step.OrderBy items) ss ss' (if_else-parts (order_sure m S items) (passing m S (λ b. true) (Step.OrderBy items) ss) ss' e).1 b (λ x v n h. omega arith)
 pass_order-lowers m c S before s ss ss' e b = absurd (none_is_not_some ss' e)
 
 pub drop_order-lowers : LowersInPlace drop_order
@@ -78,8 +78,8 @@ pub join_counts-lowers : LowersInPlace join_counts
 unfolding weight
 join_counts-lowers m c S before (Step.TopBy t) (Step.TopBy u ∷ ss) ss' e b =
     let new = λ (n k : ℕ). Step.TopBy (record t { limit = Limit.Count (min n k) }) in
-    let x = and_then-some (λ n. option_and_then (λ k. then_some (expr_same t.expr u.expr) (new n k ∷ ss)) (top_count u.bottom u.limit)) (top_count t.bottom t.limit) ss' e in
-    let y = and_then-some (λ k. then_some (expr_same t.expr u.expr) (new x.0 k ∷ ss)) (top_count u.bottom u.limit) ss' x.2 in
+    let x = chained (λ n. option_and_then (λ k. then_some (expr_same t.expr u.expr) (new n k ∷ ss)) (top_count u.bottom u.limit)) (top_count t.bottom t.limit) ss' e in
+    let y = chained (λ k. then_some (expr_same t.expr u.expr) (new x.0 k ∷ ss)) (top_count u.bottom u.limit) ss' x.2 in
     let z = (then_some-parts (expr_same t.expr u.expr) (new x.0 y.0 ∷ ss) ss' y.2).1 in
     let b' = subst (λ z. Branched (pipe z)) (sym z) b in
     subst (λ z. IsSmaller (pipe z) (pipe (Step.TopBy t ∷ Step.TopBy u ∷ ss))) z (less_before (new x.0 y.0 ∷ []) (Step.TopBy t ∷ Step.TopBy u ∷ []) ss b'.1 (λ v o. omega arith))

@@ -1,8 +1,6 @@
 -- Rules on hierarchies make a pipeline smaller: the fifteenth, the seventeenth and the eighteenth.
-use Rattle.std.proofs.Common.{◌≡◌, refl, sym, ◌∙◌, ap, subst, ℕ, ◌+◌, ◌*◌, ◌^◌, ◌<◌, Bool, true, false, ◌&&◌, List, [], ◌∷◌, ◌++◌, drop, reverse, Option, Some, None, arith}
-use Rattle.std.specs.Prelude.{if◌then◌else◌}
+use Rattle.std.proofs.Common.{◌≡◌, refl, sym, ◌∙◌, ap, subst, ℕ, ◌+◌, ◌*◌, ◌^◌, ◌<◌, true, ◌&&◌, List, [], ◌∷◌, drop, reverse, None, arith}
 use Rattle.std.specs.List.{last_or}
-use Rattle.std.proofs.lemmas.List.{reverse-reverse, reverse-append}
 use Rattle.std.proofs.lemmas.Nat.{mul-le}
 use Rattle.edm_model.specs.Models.{Model}
 use Rattle.edm_values.specs.Lists.{is_some_and}
@@ -13,21 +11,18 @@ use Rattle.context_typing.specs.Typing.{after, is_risky, is_sure, steps_shape, r
 use Rattle.context_typing.proofs.WalkFacts.{pipe-steps}
 use Rattle.rewrite_laws.specs.Measures.{size, weight, inner_weight, key_weight, keys_weight, step_weight, IsSmaller}
 use Rattle.rewrite_laws.specs.Rewrites.{passing, pipe_or_identity, ended_key, ended_keys, is_idle, with_paths, grouping_quiet, node_shape, pass_traverse, filter_nodes, drop_idle}
-use Rattle.edm_values.proofs.EachLemmas.{none_is_not_some, and_then-some, if-some, then_some-holds, some_and-holds}
+use Rattle.edm_values.proofs.EachLemmas.{none_is_not_some, then_some-holds}
 use Rattle.rewrite_laws.proofs.Branches.{Branched}
 use Rattle.rewrite_laws.proofs.RunWeights.{weight-append, less_before, doubles, passing_lowers, taking_lowers}
 use Rattle.rewrite_laws.proofs.SmallerPlaces.{LowersInPlace}
-use Rattle.edm_values.proofs.OptionFacts.{then_some-parts}
+use Rattle.edm_values.proofs.OptionFacts.{then_some-parts, chained, some_and, if_else-parts, if_some}
 use Rattle.rewrite_laws.proofs.SmallerInside.{with_paths-size, ended_inner-weight}
-
-else-some : {X : Type 0} (b : Bool) (o : Option X) (y : X) → (if b then None else o) ≡ Some y → o ≡ Some y
-else-some true o y e = absurd (none_is_not_some y e)
-else-some false o y e = e
+use Rattle.rewrite_laws.proofs.StepLists.{last-split}
 
 pub pass_traverse-lowers : LowersInPlace pass_traverse
 unfolding weight
 pass_traverse-lowers m c S before (Step.Traverse t) ss ss' e b =
-    passing_lowers m S (is_sure m S) (Step.Traverse t) ss ss' (else-some (is_risky S t.path) (passing m S (is_sure m S) (Step.Traverse t) ss) ss' e) b (λ x v n h. omega arith)
+    passing_lowers m S (is_sure m S) (Step.Traverse t) ss ss' (if_some (is_risky S t.path) (passing m S (is_sure m S) (Step.Traverse t) ss) ss' e).1 b (λ x v n h. omega arith)
 pass_traverse-lowers m c S before s ss ss' e b = absurd (none_is_not_some ss' e)
 
 ended_key-weight : (e : Expr) (k : Key) → key_weight (ended_key (Step.Filter e) k) ≡ key_weight k * 2 ^ size e
@@ -53,28 +48,13 @@ pub filter_nodes-lowers : LowersInPlace filter_nodes
 unfolding weight
 filter_nodes-lowers m c S before (Step.GroupBy ks T) ss ss' e b =
     let S' = after m c S (Step.GroupBy ks T) in
-    let t = and_then-some _ (node_shape m c ks) ss' e in
-    let u = if-some (is_nodes (rollup_part (group_keys ks)) && grouping_quiet m c S ks T) _ ss' t.2 in
+    let t = chained _ (node_shape m c ks) ss' e in
+    let u = if_else-parts (is_nodes (rollup_part (group_keys ks)) && grouping_quiet m c S ks T) _ ss' t.2 in
     taking_lowers m S' _ (λ r. Step.GroupBy (ended_keys (Step.Filter (with_paths (λ p. (t.0).1 ∷ []) r.last)) ks) T) (Step.GroupBy ks T) ss ss' u.1 b
     (λ r. group-less r.last (with_paths (λ p. (t.0).1 ∷ []) r.last) ks T (with_paths-size (λ p. (t.0).1 ∷ []) r.last))
 filter_nodes-lowers m c S before s ss ss' e b = absurd (none_is_not_some ss' e)
 
 -- ---- the rule
-
--- a list with a last element is what stands before it, and the element
-last-splits : {X : Type 0} (d : X) (xs : List X) → (ys : List X) × (y : X) × (d ∷ xs ≡ ys ++ y ∷ []) × (last_or (Some d) xs ≡ Some y)
-last-splits d [] = ([], d, refl, refl)
-last-splits d (x ∷ xs) = let t = last-splits x xs in (d ∷ t.0, t.1, ap (λ z. d ∷ z) t.2, t.3)
-
-without_last : {X : Type 0} (xs ys : List X) (y : X) → xs ≡ ys ++ y ∷ [] → reverse (drop 1 (reverse xs)) ≡ ys
-without_last xs ys y e = ap (λ z. reverse (drop 1 (reverse z))) e ∙ ap (λ z. reverse (drop 1 z)) (reverse-append ys (y ∷ [])) ∙ reverse-reverse ys
-
-split_last : {X : Type 0} (xs : List X) (x : X) → last_or None xs ≡ Some x → xs ≡ reverse (drop 1 (reverse xs)) ++ x ∷ []
-split_last [] x e = absurd (none_is_not_some x e)
-split_last (d ∷ xs) x e =
-    let t = last-splits d xs in
-    let i : t.1 ≡ x = (let k = sym t.3 ∙ e in cc) in
-    t.2 ∙ (λ j. sym (without_last (d ∷ xs) t.0 t.1 t.2) j ++ i j ∷ [])
 
 idle-weight : (m : Model) (S : Shape) (p : Path) (x : Step) → is_idle m S p x ≡ true → (v : ℕ) → step_weight x v ≡ v + 1
 unfolding weight
@@ -91,12 +71,12 @@ pub drop_idle-lowers : LowersInPlace drop_idle
 unfolding weight
 drop_idle-lowers m c S before (Step.Climb up h p T d keep) ss ss' e b =
     let front = reverse (drop 1 (reverse (steps T))) in
-    let x = and_then-some _ (last_or None (steps T)) ss' e in
+    let x = chained _ (last_or None (steps T)) ss' e in
     let new = Step.Climb up h p (pipe_or_identity front) d keep in
     let test = is_some_and (λ S'. is_idle m S' p x.0) (steps_shape m c S (pipe front)) in
     let t = (then_some-parts test (new ∷ ss) ss' x.2).1 in
-    let i = some_and-holds (λ S'. is_idle m S' p x.0) (steps_shape m c S (pipe front)) (then_some-holds test (new ∷ ss) ss' x.2) in
-    let l = split_last (steps T) x.0 x.1 in
+    let i = some_and (λ S'. is_idle m S' p x.0) (steps_shape m c S (pipe front)) (then_some-holds test (new ∷ ss) ss' x.2) in
+    let l = last-split (steps T) x.0 x.1 in
     let b' = subst (λ z. Branched (pipe z)) (sym t) b in
     subst (λ z. IsSmaller (pipe z) (pipe (Step.Climb up h p T d keep ∷ ss))) t
     (less_before (new ∷ []) (Step.Climb up h p T d keep ∷ []) ss b'.1 (λ v o.

@@ -9,8 +9,8 @@ use Rattle.edm_values.specs.Literals.{is_boolean_kind}
 use Rattle.edm_values.specs.Values.{is_beyond, is_value, both}
 use Rattle.edm_values.specs.declared.EdmType.{EdmType}
 use Rattle.edm_values.specs.declared.Value.{Value}
-use Rattle.edm_values.proofs.EachLemmas.{all-filter}
 use Rattle.edm_values.proofs.OptionFacts.{none_or, chained, then_some-parts}
+use Rattle.edm_values.proofs.ListFacts.{all-filter}
 use Rattle.edm_data.specs.Worlds.{World}
 use Rattle.apply_ast.specs.Trees.{Expr, Pipe, Step, pipe, is_long}
 use Rattle.apply_ast.specs.declared.expressions.BinOp.{BinOp}

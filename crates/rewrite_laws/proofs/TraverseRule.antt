@@ -11,9 +11,10 @@ use Rattle.edm_values.specs.Lists.{at_places, places, is_some_and}
 use Rattle.edm_values.specs.Literals.{is_boolean_kind, same_kind}
 use Rattle.edm_values.specs.Names.{Path}
 use Rattle.edm_values.specs.Values.{is_beyond, is_value}
-use Rattle.edm_values.proofs.EachLemmas.{all-filter}
 use Rattle.edm_values.proofs.OptionFacts.{none_or, chained, some_and, then_some-parts}
 use Rattle.edm_values.proofs.Reorderings.{filter-swapped}
+use Rattle.edm_values.proofs.ListFacts.{all-filter, flat_map-agree}
+use Rattle.edm_values.proofs.TopPlaces.{at_places-filter}
 use Rattle.std.proofs.lemmas.Option.{slice_get-map}
 use Rattle.edm_model.specs.LookUps.{HierarchyPlace}
 use Rattle.edm_data.specs.Worlds.{World}
@@ -28,7 +29,6 @@ use Rattle.apply_meaning.specs.MeaningLaws.{AllFit}
 use Rattle.apply_meaning.proofs.RootLemmas.{all-at_places}
 use Rattle.rewrite_laws.specs.Rewrites.{passing, pass_traverse}
 use Rattle.rewrite_laws.specs.RewriteLaws.{KeepsMeaningInPlace, SameMeaning}
-use Rattle.rewrite_laws.proofs.ListOrders.{at_places-filter}
 use Rattle.rewrite_laws.proofs.RuleLemmas.{Laws, Commutes, passing-keeps_meaning, sure-filter, sure-none}
 
 -- ---- lists
@@ -40,10 +40,6 @@ filter_map-flat h f (x ∷ xs) = filter_map-append h (f x) (flat_map f xs) ∙ a
 pub filter-flat : {X Y : Type 0} (t : Y → Bool) (f : X → List Y) (xs : List X) → filter t (flat_map f xs) ≡ flat_map (λ x. filter t (f x)) xs
 filter-flat t f [] = refl
 filter-flat t f (x ∷ xs) = filter-append t (f x) (flat_map f xs) ∙ ap (λ z. filter t (f x) ++ z) (filter-flat t f xs)
-
-pub flat-same : {X Y : Type 0} (f g : X → List Y) → ((x : X) → f x ≡ g x) → (xs : List X) → flat_map f xs ≡ flat_map g xs
-flat-same f g h [] = refl
-flat-same f g h (x ∷ xs) = λ i. h x i ++ flat-same f g h xs i
 
 -- the instances at the places of those whose node passes
 pub rows-filter : {X : Type 0} (g : X → Option ℕ) (test : ℕ → Bool) (l : List X) → at_places l (rows_whose test (map g l)) ≡ filter (λ i. unwrap_or (option_map test (g i)) false) l
@@ -61,12 +57,12 @@ module _ (w : World) (f : HierarchyPlace) (t : TraverseStep) where
   walk-filters : (l : List Instance) → traversed w f t l ≡ flat_map (λ x. filter (λ i. is_node x (node w f t.path i)) l) walked
   walk-filters l =
       filter_map-flat (slice_get l) (λ x. rows_whose (nat_eq x) (map (node w f t.path) l)) walked
-      ∙ flat-same (λ x. at_places l (rows_whose (nat_eq x) (map (node w f t.path) l))) (λ x. filter (λ i. is_node x (node w f t.path i)) l) (λ x. rows-filter (node w f t.path) (nat_eq x) l) walked
+      ∙ flat_map-agree (λ x. at_places l (rows_whose (nat_eq x) (map (node w f t.path) l))) (λ x. filter (λ i. is_node x (node w f t.path i)) l) (λ x. rows-filter (node w f t.path) (nat_eq x) l) walked
 
   kept-walk : (p : Instance → Bool) (l : List Instance) → filter p (traversed w f t l) ≡ traversed w f t (filter p l)
   kept-walk p l =
       ap (filter p) (walk-filters l) ∙ filter-flat p (λ x. filter (λ i. is_node x (node w f t.path i)) l) walked
-      ∙ flat-same (λ x. filter p (filter (λ i. is_node x (node w f t.path i)) l)) (λ x. filter (λ i. is_node x (node w f t.path i)) (filter p l)) (λ x. filter-swapped p (λ i. is_node x (node w f t.path i)) l) walked
+      ∙ flat_map-agree (λ x. filter p (filter (λ i. is_node x (node w f t.path i)) l)) (λ x. filter (λ i. is_node x (node w f t.path i)) (filter p l)) (λ x. filter-swapped p (λ i. is_node x (node w f t.path i)) l) walked
       ∙ sym (walk-filters (filter p l))
 
 -- a node path is typed

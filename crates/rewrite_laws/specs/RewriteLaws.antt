@@ -10,7 +10,7 @@ use Rattle.apply_meaning.specs.Instances.{Instance}
 use Rattle.apply_meaning.specs.Meaning.{mean}
 use Rattle.apply_meaning.specs.MeaningLaws.{AllFit}
 use Rattle.rewrite_laws.specs.Measures.{IsSmaller}
-use Rattle.rewrite_laws.specs.Rewrites.{Rule, IsRewrite, IsPlanOf, first_rewrite, next, pipe_results, rewrites, all_rules, rules}
+use Rattle.rewrite_laws.specs.Rewrites.{Rule, IsRewrite, IsPlanOf, first_rewrite, next, pipe_results, rewrites, rules}
 
 -- ---- typing and meaning
 
@@ -33,10 +33,6 @@ RuleKeepsMeaning IsAccepted r = (m : Model) (c : Customs) (S S' : Shape) (p q : 
 -- what each of the rules makes of a typed pipeline, at whatever place, may stand for it
 abbrev pub RulesKeepMeaning : (World → Type 0) → Type 0
 RulesKeepMeaning IsAccepted = (r : Rule) → Contains rules r → RuleKeepsMeaning IsAccepted r
-
--- what every rule makes of a typed pipeline, at whatever place, may stand for it, whether it is applied or not
-abbrev pub EveryRuleKeepsMeaning : (World → Type 0) → Type 0
-EveryRuleKeepsMeaning IsAccepted = (r : Rule) → Contains all_rules r → RuleKeepsMeaning IsAccepted r
 
 -- what a rule makes of a typed pipeline has a typing, so that no result of it is left out
 abbrev pub ResultsAreTyped : Type 0
@@ -75,10 +71,6 @@ ReplacementKeepsMeaning IsAccepted = (r : Rule) → KeepsMeaningInPlace IsAccept
 -- each rewrite makes a pipeline smaller
 abbrev pub RewritesAreSmaller : Type 0
 RewritesAreSmaller = (r : Rule) → Contains rules r → (m : Model) (c : Customs) (S : Shape) (p q : Pipe) → IsRewrite r m c S p q → IsSmaller q p
-
--- each rewrite by every rule makes a pipeline smaller, whether the rule is applied or not
-abbrev pub EveryRewriteIsSmaller : Type 0
-EveryRewriteIsSmaller = (r : Rule) → Contains all_rules r → (m : Model) (c : Customs) (S : Shape) (p q : Pipe) → IsRewrite r m c S p q → IsSmaller q p
 
 -- rewriting from a pipeline ends, by whatever rules and at whatever places
 pub data Ends (m : Model) (c : Customs) (S : Shape) : Pipe → Type 0 where

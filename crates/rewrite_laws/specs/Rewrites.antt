@@ -273,14 +273,10 @@ drop_idle m c S before (Step.Climb up h p T d keep) ss =
     (last_or None (steps T))
 drop_idle m c S before x ss = None
 
--- every rule, in their order
-abbrev pub all_rules : List Rule
-all_rules = drop_identity ∷ split_conjunction ∷ drop_true ∷ pass_compute ∷ pass_order ∷ pass_groups ∷ pass_rollup ∷ filter_branches ∷ factor_branches ∷ pass_join
-    ∷ filter_related ∷ pass_outer_join ∷ drop_order ∷ join_counts ∷ pass_traverse ∷ pass_nodes ∷ filter_nodes ∷ drop_idle ∷ []
-
--- the rules that are applied, in their order
+-- the rules, in their order
 abbrev pub rules : List Rule
-rules = drop_identity ∷ split_conjunction ∷ drop_true ∷ pass_compute ∷ pass_order ∷ drop_order ∷ join_counts ∷ []
+rules = drop_identity ∷ split_conjunction ∷ drop_true ∷ pass_compute ∷ pass_order ∷ pass_groups ∷ pass_rollup ∷ filter_branches ∷ factor_branches ∷ pass_join
+    ∷ filter_related ∷ pass_outer_join ∷ drop_order ∷ join_counts ∷ pass_traverse ∷ pass_nodes ∷ filter_nodes ∷ drop_idle ∷ []
 
 unfoldable mutual
   -- what a rule makes of a pipeline at each place, in the order in which the places are printed

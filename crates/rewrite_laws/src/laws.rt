@@ -1,7 +1,7 @@
 //! The laws of rewriting. Those of the meaning hold in every world of a sound model whose lists have the form that the model says,
 //! as every loaded one. None of them asks that a hierarchy has no cycle.
 ghost use Rattle.apply_meaning.specs.MeaningLaws.{IsLoaded};
-ghost use Rattle.rewrite_laws.specs.RewriteLaws.{EveryRewriteIsSmaller, EveryRuleKeepsMeaning, FirstRewritesKeepMeaning, PlanExists, PlanIsSettled, PlanIsUnique, PlanKeepsMeaning, ReplacementKeepsMeaning, ResultsAreTyped, RewritesAreCounted, RewritesAreSmaller, RewritingEnds, RulesKeepMeaning};
+ghost use Rattle.rewrite_laws.specs.RewriteLaws.{FirstRewritesKeepMeaning, PlanExists, PlanIsSettled, PlanIsUnique, PlanKeepsMeaning, ReplacementKeepsMeaning, ResultsAreTyped, RewritesAreCounted, RewritesAreSmaller, RewritingEnds, RulesKeepMeaning};
 
 /// What may be replaced in place may be replaced wherever the place is, inner pipelines included. The law names no rule.
 pub fn replacement_keeps_meaning()
@@ -11,11 +11,6 @@ pub fn replacement_keeps_meaning()
 /// What a rule makes of a typed pipeline, at whatever place, may stand for it.
 pub fn rules_keep_meaning()
     ensures law { RulesKeepMeaning IsLoaded }
-{}
-
-/// What every rule makes of a typed pipeline, at whatever place, may stand for it, whether it is applied or not.
-pub fn every_rule_keeps_meaning()
-    ensures law { EveryRuleKeepsMeaning IsLoaded }
 {}
 
 /// What a rule makes of a typed pipeline has a typing, so that no result is left out for want of one.
@@ -31,11 +26,6 @@ pub fn first_rewrites_keep_meaning()
 /// Each rewrite makes a pipeline smaller.
 pub fn rewrites_are_smaller()
     ensures law { RewritesAreSmaller }
-{}
-
-/// Each rewrite by every rule makes a pipeline smaller, whether the rule is applied or not.
-pub fn every_rewrite_is_smaller()
-    ensures law { EveryRewriteIsSmaller }
 {}
 
 /// Rewriting ends, by whatever rules and at whatever places.

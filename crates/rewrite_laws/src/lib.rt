@@ -14,8 +14,7 @@
 mod laws;
 
 pub use laws::{
-    every_rewrite_is_smaller, every_rule_keeps_meaning, first_rewrites_keep_meaning, plan_exists,
-    plan_is_settled, plan_is_unique, plan_keeps_meaning, replacement_keeps_meaning,
-    results_are_typed, rewrites_are_counted, rewrites_are_smaller, rewriting_ends,
-    rules_keep_meaning,
+    first_rewrites_keep_meaning, plan_exists, plan_is_settled, plan_is_unique, plan_keeps_meaning,
+    replacement_keeps_meaning, results_are_typed, rewrites_are_counted, rewrites_are_smaller,
+    rewriting_ends, rules_keep_meaning,
 };

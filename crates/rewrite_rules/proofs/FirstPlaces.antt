@@ -60,14 +60,14 @@ pub dropped-next : {X Y : Type 0} (f : X → Y) (xs : List X) (i : ℕ) (d : X) 
 dropped-next f xs i d h is = ap (map f) (drop-cons xs i d h) ∙ ap (λ k. f (get_or xs i d) ∷ map f (drop k xs)) (sym (add-one i)) ∙ ap (λ x. f x ∷ map f (drop (i + 1) xs)) (sym is)
 
 -- a list is what stands before a place, what is there, and what stands behind it
-mapped-whole : {X Y : Type 0} (f : X → Y) (xs : List X) (i : ℕ) (d : X) → i < length xs → d ≡ get_or xs i d → map f xs ≡ map f (take i xs) ++ f d ∷ map f (drop (i + 1) xs)
+pub mapped-whole : {X Y : Type 0} (f : X → Y) (xs : List X) (i : ℕ) (d : X) → i < length xs → d ≡ get_or xs i d → map f xs ≡ map f (take i xs) ++ f d ∷ map f (drop (i + 1) xs)
 mapped-whole f xs i d h is = ap (map f) (sym (take-append-drop i xs)) ∙ map-append f (take i xs) (drop i xs) ∙ ap (λ l. map f (take i xs) ++ l) (dropped-next f xs i d h is)
 
 -- what stands behind a place, as a slice has it
 abbrev pub rest_at : {X : Type 0} → List X → ℕ → List X
 rest_at xs i = take (length xs - (i + 1)) (drop (i + 1) xs)
 
-rest-is : {X : Type 0} (xs : List X) (i : ℕ) → rest_at xs i ≡ drop (i + 1) xs
+pub rest-is : {X : Type 0} (xs : List X) (i : ℕ) → rest_at xs i ≡ drop (i + 1) xs
 rest-is xs i = let n = length-drop (i + 1) xs in take_all (length xs - (i + 1)) (drop (i + 1) xs) (omega (arith, n))
 
 -- ---- each form of tree

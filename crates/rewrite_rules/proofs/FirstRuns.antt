@@ -14,7 +14,7 @@ use Rattle.apply_ast.specs.Trees.{Expr, Step}
 use Rattle.context_typing.specs.Shapes.{Shape}
 use Rattle.context_typing.specs.Typing.{is_sure}
 use Rattle.rewrite_laws.specs.Rewrites.{FilterRun, behind, longer, runs, movable, passing}
-use Rattle.rewrite_rules.specs.Conditions.{moved}
+use Rattle.rewrite_rules.specs.Conditions.{entered, moved, nearest, place_and_filter}
 use Rattle.rewrite_rules.specs.Forms.{filtered_by}
 use Rattle.rewrite_laws.proofs.FilterRuns.{IsRunOf, runs-each, found-each}
 use Rattle.rewrite_rules.proofs.FirstPlaces.{dropped-next, mapped-next}
@@ -118,11 +118,11 @@ module _ (m : Model) (S : Shape) (test : Expr → Bool) where
     may-pass (e ∷ es) z h = ap (λ a. a && z) h
 
     -- the next filter passes
-    pub searched-here : (not (is_nonempty (filter_exprs passed)) || is_sure m S b) ≡ true → test b ≡ true → option_map (λ r. length r.between) (find (λ r. test r.last) (movable m S all)) ≡ Some (length passed)
+    pub searched-here : (not (is_nonempty (filter_exprs passed)) || is_sure m S b) ≡ true → test b ≡ true → nearest m S test all ≡ Some (length passed, b)
     searched-here h t =
-        ap (option_map (λ r. length r.between)) (s.found ∙ found-next (filter_exprs passed) b left
+        ap (option_map place_and_filter) (s.found ∙ found-next (filter_exprs passed) b left
         ∙ (λ i. cond ((may-pass (filter_exprs passed) (is_sure m S b) s.sure ∙ h) i && t i) (Some run) (found_behind (filter_exprs passed ++ b ∷ []) left)))
-        ∙ ap Some s.filters
+        ∙ ap (λ n. Some (n, b)) s.filters
 
     searched-not : ((not (is_nonempty (filter_exprs passed)) || is_sure m S b) && test b) ≡ false → find (λ r. test r.last) (movable m S all) ≡ found_behind (filter_exprs passed ++ b ∷ []) left
     searched-not h =
@@ -148,10 +148,6 @@ module _ (m : Model) (S : Shape) (test : Expr → Bool) where
 
   -- ---- the search over the steps that the program has, one after another
 
-  -- how many filters stand before the nearest that may pass
-  abbrev pub nearest_of : List Step → Option ℕ
-  nearest_of ss = option_map (λ r. length r.between) (find (λ r. test r.last) (movable m S ss))
-
   filter-is : (s : Step) (b : Expr) → filtered_by s ≡ Some b → s ≡ Step.Filter b
   filter-is (Step.Filter e) b h = ap Step.Filter (some_value h)
   filter-is s b h = none_or b h
@@ -174,18 +170,18 @@ module _ (m : Model) (S : Shape) (test : Expr → Bool) where
     first-here : (i == 0) ≡ not (is_nonempty (filter_exprs (map f (take i xs))))
     first-here = none-before (filter_exprs (map f (take i xs))) i (w.filters ∙ passed-length)
 
-    pub search-other : filtered_by (f d) ≡ None → None ≡ nearest_of (map f xs)
-    search-other e = sym (ap (option_map (λ r. length r.between)) (searched-other (map f xs) (map f (take i xs)) (map f (drop (i + 1) xs)) (f d) here e))
+    pub search-other : filtered_by (f d) ≡ None → None ≡ nearest m S test (map f xs)
+    search-other e = sym (ap (option_map place_and_filter) (searched-other (map f xs) (map f (take i xs)) (map f (drop (i + 1) xs)) (f d) here e))
 
-    pub search-here : (b : Expr) → filtered_by (f d) ≡ Some b → (((i == 0) || is_sure m S b) && test b) ≡ true → Some i ≡ nearest_of (map f xs)
+    pub search-here : (b : Expr) → filtered_by (f d) ≡ Some b → (((i == 0) || is_sure m S b) && test b) ≡ true → Some (i, b) ≡ nearest m S test (map f xs)
     search-here b e u =
         let p = and_parts ((i == 0) || is_sure m S b) (test b) u in
-        ap Some (sym passed-length)
+        ap (λ n. Some (n, b)) (sym passed-length)
         ∙ sym (searched-here (map f xs) (map f (take i xs)) (map f (drop (i + 1) xs)) b (here_by b e) (ap (λ a. a || is_sure m S b) (sym first-here) ∙ p.0) p.1)
 
-    pub search-stop : (b : Expr) → filtered_by (f d) ≡ Some b → (((i == 0) || is_sure m S b) && test b) ≡ false → is_sure m S b ≡ false → None ≡ nearest_of (map f xs)
+    pub search-stop : (b : Expr) → filtered_by (f d) ≡ Some b → (((i == 0) || is_sure m S b) && test b) ≡ false → is_sure m S b ≡ false → None ≡ nearest m S test (map f xs)
     search-stop b e u v =
-        sym (ap (option_map (λ r. length r.between)) (searched-stop (map f xs) (map f (take i xs)) (map f (drop (i + 1) xs)) b (here_by b e) (ap (λ a. (a || is_sure m S b) && test b) (sym first-here) ∙ u) v))
+        sym (ap (option_map place_and_filter) (searched-stop (map f xs) (map f (take i xs)) (map f (drop (i + 1) xs)) b (here_by b e) (ap (λ a. (a || is_sure m S b) && test b) (sym first-here) ∙ u) v))
 
     pub search-past : (b : Expr) → filtered_by (f d) ≡ Some b → (((i == 0) || is_sure m S b) && test b) ≡ false → is_sure m S b ≡ true → Searched (map f xs) (map f (take (i + 1) xs)) (map f (drop (i + 1) xs))
     search-past b e u v =
@@ -193,10 +189,10 @@ module _ (m : Model) (S : Shape) (test : Expr → Bool) where
         subst (λ l. Searched (map f xs) l (map f (drop (i + 1) xs))) (ap (λ s. map f (take i xs) ++ s ∷ []) (sym (filter-is (f d) b e)) ∙ sym (mapped-next f xs i d h is)) t
 
   -- the search is at its end
-  pub search-end : {X : Type 0} (f : X → Step) (xs : List X) (i : ℕ) → length xs ≤ i → Searched (map f xs) (map f (take i xs)) (map f (drop i xs)) → None ≡ nearest_of (map f xs)
+  pub search-end : {X : Type 0} (f : X → Step) (xs : List X) (i : ℕ) → length xs ≤ i → Searched (map f xs) (map f (take i xs)) (map f (drop i xs)) → None ≡ nearest m S test (map f xs)
   search-end f xs i h w =
       let w' = subst (λ l. Searched (map f xs) (map f (take i xs)) (map f l)) (drop_of_length-le xs h) w in
-      sym (ap (option_map (λ r. length r.between)) w'.found)
+      sym (ap (option_map place_and_filter) w'.found)
 
 -- ---- the steps after a filter has passed a step
 
@@ -242,17 +238,43 @@ module _ (m : Model) (S : Shape) (test : Expr → Bool) (x : Step) (ss : List St
   moved-by r e = ap (λ l. moved x l (length r.between)) e ∙ moved-run x r.between r.last r.rest
 
   -- the nearest filter passes
-  pub nearest-moved : (k : ℕ) → Some k ≡ nearest_of m S test ss → Some (moved x ss k) ≡ passing m S test x ss
-  nearest-moved k e = go (find (λ r. test r.last) (movable m S ss)) refl e
+  pub nearest-moved : (k : ℕ) (b : Expr) → Some (k, b) ≡ nearest m S test ss → Some (moved x ss k) ≡ passing m S test x ss
+  nearest-moved k b e = go (find (λ r. test r.last) (movable m S ss)) refl e
     where
-      go : (o : Option FilterRun) → find (λ r. test r.last) (movable m S ss) ≡ o → Some k ≡ option_map (λ r. length r.between) o → Some (moved x ss k) ≡ option_map (λ r. Step.Filter r.last ∷ behind x r) o
-      go None is e = none_or k (sym e)
-      go (Some r) is e = ap (λ n. Some (moved x ss n)) (some_value e) ∙ ap Some (moved-by r (run-of r is))
+      go : (o : Option FilterRun) → find (λ r. test r.last) (movable m S ss) ≡ o → Some (k, b) ≡ option_map place_and_filter o → Some (moved x ss k) ≡ option_map (λ r. Step.Filter r.last ∷ behind x r) o
+      go None is e = none_or (k, b) (sym e)
+      go (Some r) is e = ap (λ n. Some (moved x ss n)) (ap (λ y. y.0) (some_value e)) ∙ ap Some (moved-by r (run-of r is))
 
-  -- there is none
-  pub nearest-none : None ≡ nearest_of m S test ss → None ≡ passing m S test x ss
-  nearest-none e = go (find (λ r. test r.last) (movable m S ss)) e
-    where
-      go : (o : Option FilterRun) → ◌≡◌ {A = Option ℕ} None (option_map (λ r. length r.between) o) → ◌≡◌ {A = Option (List Step)} None (option_map (λ r. Step.Filter r.last ∷ behind x r) o)
-      go None e = refl
-      go (Some r) e = none_or (length r.between) e
+-- there is none
+pub nearest-none : (m : Model) (S : Shape) (test : Expr → Bool) (ss : List Step) → None ≡ nearest m S test ss → (made : FilterRun → List Step) → None ≡ option_map made (find (λ r. test r.last) (movable m S ss))
+nearest-none m S test ss e made = go (find (λ r. test r.last) (movable m S ss)) e
+  where
+    go : (o : Option FilterRun) → ◌≡◌ {A = Option (ℕ × Expr)} None (option_map place_and_filter o) → ◌≡◌ {A = Option (List Step)} None (option_map made o)
+    go None e = refl
+    go (Some r) e = none_or (place_and_filter r) e
+
+-- ---- the steps after a filter has gone into a step
+
+-- the steps that the program puts together
+pub entered-parts : {X : Type 0} (f : X → Step) (s : Step) (xs : List X) (k : ℕ) → k < length xs
+    → s ∷ map f (take k xs) ++ map f (take (length xs - (k + 1)) (drop (k + 1) xs)) ≡ entered s (map f xs) k
+entered-parts f s xs k h =
+    let n = length-drop (k + 1) xs in
+    ap (λ l. s ∷ map f (take k xs) ++ map f l) (take_all (length xs - (k + 1)) (drop (k + 1) xs) (omega (arith, n)))
+    ∙ sym (λ i. s ∷ take-map f k xs i ++ (ap (λ n. drop n (map f xs)) (sym (add-one k)) ∙ drop-map f (k + 1) xs) i)
+
+-- a filter behind others goes in
+entered-run : (x : Step) (es : List Expr) (b : Expr) (ss : List Step) → entered x (map Step.Filter es ++ Step.Filter b ∷ ss) (length es) ≡ x ∷ map Step.Filter es ++ ss
+entered-run x es b ss = λ i. x ∷ taken-filters es (Step.Filter b ∷ ss) i ++ dropped-one_more es (Step.Filter b) ss i
+
+-- the nearest filter goes in: what is made of the step depends on what the filter tests
+pub nearest-entered : (m : Model) (S : Shape) (test : Expr → Bool) (ss : List Step) (k : ℕ) (b : Expr) → Some (k, b) ≡ nearest m S test ss → (made : Expr → Step)
+    → Some (entered (made b) ss k) ≡ option_map (λ r. behind (made r.last) r) (find (λ r. test r.last) (movable m S ss))
+nearest-entered m S test ss k b e made = go (find (λ r. test r.last) (movable m S ss)) refl e
+  where
+    go : (o : Option FilterRun) → find (λ r. test r.last) (movable m S ss) ≡ o → Some (k, b) ≡ option_map place_and_filter o → Some (entered (made b) ss k) ≡ option_map (λ r. behind (made r.last) r) o
+    go None is e = none_or (k, b) (sym e)
+    go (Some r) is e =
+        let y = some_value e in
+        ap (λ y. Some (entered (made y.1) ss y.0)) y
+        ∙ ap Some (ap (λ l. entered (made r.last) l (length r.between)) (run-of m S test (made r.last) ss r is) ∙ entered-run (made r.last) r.between r.last r.rest)

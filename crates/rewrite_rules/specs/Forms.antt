@@ -1,5 +1,6 @@
 -- The forms of steps and expressions that the rules look for, as functions that the code has.
 use Rattle.std.specs.Prelude.{ℕ, Bool, true, false, List, [], ◌∷◌, Option, Some, None, is_some, option_map}
+use Rattle.edm_values.specs.Names.{Path}
 use Rattle.apply_ast.specs.Trees.{Expr, Limit, Named, OrderItem, Step, TopStep}
 use Rattle.apply_ast.specs.declared.expressions.BinOp.TheVariants as BinOp
 use Rattle.rewrite_laws.specs.Rewrites.{top_count}
@@ -57,6 +58,11 @@ computed_by s = None
 abbrev pub ordered_by : Step → Option (List OrderItem)
 ordered_by (Step.OrderBy items) = Some items
 ordered_by s = None
+
+-- the path of the nodes that a step walks over
+abbrev pub walked_by : Step → Option Path
+walked_by (Step.Traverse t) = Some t.path
+walked_by s = None
 
 -- what the first step counts by, from the top
 abbrev pub first_count : List Step → Option (ℕ × Expr)

@@ -8,7 +8,7 @@ use Rattle.context_typing.specs.declared.typed.Typed.{Typed}
 use Rattle.context_typing.specs.Typing.{Customs, after, shape_of_set}
 use Rattle.apply_meaning.specs.MeaningLaws.{IsLoaded}
 use Rattle.rewrite_laws.specs.RewriteLaws.{MayStandFor}
-use Rattle.rewrite_laws.specs.Rewrites.{Rule, pipe_results, inner_results, branch_results, key_results, keys_results, step_results, rewrites, first_rewrite, drop_identity, split_conjunction, drop_true, pass_compute, pass_order, drop_order, join_counts}
+use Rattle.rewrite_laws.specs.Rewrites.{Rule, pipe_results, inner_results, branch_results, key_results, keys_results, step_results, rewrites, first_rewrite, drop_identity, split_conjunction, drop_true, pass_compute, pass_order, pass_groups, pass_rollup, filter_branches, factor_branches, pass_join, filter_related, pass_outer_join, drop_order, join_counts, pass_traverse, pass_nodes, filter_nodes, drop_idle}
 use Rattle.rewrite_rules.specs.declared.rules.RuleName.{RuleName}
 use Rattle.rewrite_rules.specs.declared.rules.RuleName.TheVariants as name
 
@@ -19,8 +19,19 @@ rule_of name.SplitConjunction = split_conjunction
 rule_of name.DropTrue = drop_true
 rule_of name.PassCompute = pass_compute
 rule_of name.PassOrder = pass_order
+rule_of name.PassGroups = pass_groups
+rule_of name.PassRollup = pass_rollup
+rule_of name.FilterBranches = filter_branches
+rule_of name.FactorBranches = factor_branches
+rule_of name.PassJoin = pass_join
+rule_of name.FilterRelated = filter_related
+rule_of name.PassOuterJoin = pass_outer_join
 rule_of name.DropOrder = drop_order
 rule_of name.JoinCounts = join_counts
+rule_of name.PassTraverse = pass_traverse
+rule_of name.PassNodes = pass_nodes
+rule_of name.FilterNodes = filter_nodes
+rule_of name.DropIdle = drop_idle
 
 -- the shape behind steps
 abbrev pub shape_behind : Model → Customs → Shape → List Step → Shape

@@ -5,7 +5,7 @@ ghost use Rattle.context_typing.specs.Answers.{IsTyping};
 ghost use Rattle.context_typing.specs.Readings.{readings, AreTypedOver};
 ghost use Rattle.context_typing.specs.Typing.{customs_typed};
 ghost use Rattle.rewrite_rules.specs.Places.{IsFirst, MayStand, rule_of};
-ghost use Rattle.rewrite_laws.specs.Rewrites.{drop_identity, drop_order, drop_true, join_counts, pass_compute, pass_order, split_conjunction};
+ghost use Rattle.rewrite_laws.specs.Rewrites.{drop_identity, drop_idle, drop_order, drop_true, factor_branches, filter_branches, filter_nodes, filter_related, join_counts, pass_compute, pass_groups, pass_join, pass_nodes, pass_order, pass_outer_join, pass_rollup, pass_traverse, split_conjunction};
 
 use crate::places::in_pipe;
 use crate::rules::RuleName;
@@ -15,7 +15,7 @@ use rewrite_laws::{first_rewrites_keep_meaning, results_are_typed};
 use std::alloc::{AllocError, Global};
 
 /// What a rule makes of a typed pipeline at its first place.
-fn first_place(
+pub fn first_place(
     alloc: Global,
     m: &Model,
     c: &Customs,
@@ -104,6 +104,105 @@ pub fn rule_5(alloc: Global, m: &Model, c: &Customs, t: &Typed) -> Result<Option
     first_place(alloc, m, c, RuleName::PassOrder, t)
 }
 
+/// A sure filter on the keys passes a grouping by plain keys alone.
+pub fn rule_6(alloc: Global, m: &Model, c: &Customs, t: &Typed) -> Result<Option<Typed>, AllocError>
+    requires set { IsSet m.now t.now.set }
+    requires customs { AreTypedOver m.now c.now }
+    requires whole { IsTrue (customs_typed m.now (readings c.now)) }
+    requires typing { IsTyping m.now (readings c.now) t.now }
+    ensures value { IfOk result (IsFirst pass_groups m.now (readings c.now) t.now) }
+    ensures meaning { IfOk result (MayStand m.now (readings c.now) t.now) }
+{
+    first_place(alloc, m, c, RuleName::PassGroups, t)
+}
+
+/// A sure filter on keys that stand in every row passes a grouping with a rollup by levels.
+pub fn rule_7(alloc: Global, m: &Model, c: &Customs, t: &Typed) -> Result<Option<Typed>, AllocError>
+    requires set { IsSet m.now t.now.set }
+    requires customs { AreTypedOver m.now c.now }
+    requires whole { IsTrue (customs_typed m.now (readings c.now)) }
+    requires typing { IsTyping m.now (readings c.now) t.now }
+    ensures value { IfOk result (IsFirst pass_rollup m.now (readings c.now) t.now) }
+    ensures meaning { IfOk result (MayStand m.now (readings c.now) t.now) }
+{
+    first_place(alloc, m, c, RuleName::PassRollup, t)
+}
+
+/// A filter that has a typing on each branch of a concatenation goes to the end of every branch.
+pub fn rule_8(alloc: Global, m: &Model, c: &Customs, t: &Typed) -> Result<Option<Typed>, AllocError>
+    requires set { IsSet m.now t.now.set }
+    requires customs { AreTypedOver m.now c.now }
+    requires whole { IsTrue (customs_typed m.now (readings c.now)) }
+    requires typing { IsTyping m.now (readings c.now) t.now }
+    ensures value { IfOk result (IsFirst filter_branches m.now (readings c.now) t.now) }
+    ensures meaning { IfOk result (MayStand m.now (readings c.now) t.now) }
+{
+    first_place(alloc, m, c, RuleName::FilterBranches, t)
+}
+
+/// A step with which all branches of a concatenation begin, but `identity`, goes before it.
+pub fn rule_9(alloc: Global, m: &Model, c: &Customs, t: &Typed) -> Result<Option<Typed>, AllocError>
+    requires set { IsSet m.now t.now.set }
+    requires customs { AreTypedOver m.now c.now }
+    requires whole { IsTrue (customs_typed m.now (readings c.now)) }
+    requires typing { IsTyping m.now (readings c.now) t.now }
+    ensures value { IfOk result (IsFirst factor_branches m.now (readings c.now) t.now) }
+    ensures meaning { IfOk result (MayStand m.now (readings c.now) t.now) }
+{
+    first_place(alloc, m, c, RuleName::FactorBranches, t)
+}
+
+/// A sure filter with no path under the alias passes a join.
+pub fn rule_10(
+    alloc: Global,
+    m: &Model,
+    c: &Customs,
+    t: &Typed,
+) -> Result<Option<Typed>, AllocError>
+    requires set { IsSet m.now t.now.set }
+    requires customs { AreTypedOver m.now c.now }
+    requires whole { IsTrue (customs_typed m.now (readings c.now)) }
+    requires typing { IsTyping m.now (readings c.now) t.now }
+    ensures value { IfOk result (IsFirst pass_join m.now (readings c.now) t.now) }
+    ensures meaning { IfOk result (MayStand m.now (readings c.now) t.now) }
+{
+    first_place(alloc, m, c, RuleName::PassJoin, t)
+}
+
+/// A filter whose paths all lie under the alias of a join goes to the end of the pipeline of the join.
+pub fn rule_11(
+    alloc: Global,
+    m: &Model,
+    c: &Customs,
+    t: &Typed,
+) -> Result<Option<Typed>, AllocError>
+    requires set { IsSet m.now t.now.set }
+    requires customs { AreTypedOver m.now c.now }
+    requires whole { IsTrue (customs_typed m.now (readings c.now)) }
+    requires typing { IsTyping m.now (readings c.now) t.now }
+    ensures value { IfOk result (IsFirst filter_related m.now (readings c.now) t.now) }
+    ensures meaning { IfOk result (MayStand m.now (readings c.now) t.now) }
+{
+    first_place(alloc, m, c, RuleName::FilterRelated, t)
+}
+
+/// A filter with no path under the alias passes an outer join.
+pub fn rule_12(
+    alloc: Global,
+    m: &Model,
+    c: &Customs,
+    t: &Typed,
+) -> Result<Option<Typed>, AllocError>
+    requires set { IsSet m.now t.now.set }
+    requires customs { AreTypedOver m.now c.now }
+    requires whole { IsTrue (customs_typed m.now (readings c.now)) }
+    requires typing { IsTyping m.now (readings c.now) t.now }
+    ensures value { IfOk result (IsFirst pass_outer_join m.now (readings c.now) t.now) }
+    ensures meaning { IfOk result (MayStand m.now (readings c.now) t.now) }
+{
+    first_place(alloc, m, c, RuleName::PassOuterJoin, t)
+}
+
 /// An order by sure expressions directly before an aggregation is dropped.
 pub fn rule_13(
     alloc: Global,
@@ -136,4 +235,72 @@ pub fn rule_14(
     ensures meaning { IfOk result (MayStand m.now (readings c.now) t.now) }
 {
     first_place(alloc, m, c, RuleName::JoinCounts, t)
+}
+
+/// A sure filter passes a walk over the nodes of a sure path.
+pub fn rule_15(
+    alloc: Global,
+    m: &Model,
+    c: &Customs,
+    t: &Typed,
+) -> Result<Option<Typed>, AllocError>
+    requires set { IsSet m.now t.now.set }
+    requires customs { AreTypedOver m.now c.now }
+    requires whole { IsTrue (customs_typed m.now (readings c.now)) }
+    requires typing { IsTyping m.now (readings c.now) t.now }
+    ensures value { IfOk result (IsFirst pass_traverse m.now (readings c.now) t.now) }
+    ensures meaning { IfOk result (MayStand m.now (readings c.now) t.now) }
+{
+    first_place(alloc, m, c, RuleName::PassTraverse, t)
+}
+
+/// A sure filter on the plain keys passes a grouping with a recursive rollup.
+pub fn rule_16(
+    alloc: Global,
+    m: &Model,
+    c: &Customs,
+    t: &Typed,
+) -> Result<Option<Typed>, AllocError>
+    requires set { IsSet m.now t.now.set }
+    requires customs { AreTypedOver m.now c.now }
+    requires whole { IsTrue (customs_typed m.now (readings c.now)) }
+    requires typing { IsTyping m.now (readings c.now) t.now }
+    ensures value { IfOk result (IsFirst pass_nodes m.now (readings c.now) t.now) }
+    ensures meaning { IfOk result (MayStand m.now (readings c.now) t.now) }
+{
+    first_place(alloc, m, c, RuleName::PassNodes, t)
+}
+
+/// A sure filter on the node of a recursive rollup goes to the end of the pipeline that chooses the nodes.
+pub fn rule_17(
+    alloc: Global,
+    m: &Model,
+    c: &Customs,
+    t: &Typed,
+) -> Result<Option<Typed>, AllocError>
+    requires set { IsSet m.now t.now.set }
+    requires customs { AreTypedOver m.now c.now }
+    requires whole { IsTrue (customs_typed m.now (readings c.now)) }
+    requires typing { IsTyping m.now (readings c.now) t.now }
+    ensures value { IfOk result (IsFirst filter_nodes m.now (readings c.now) t.now) }
+    ensures meaning { IfOk result (MayStand m.now (readings c.now) t.now) }
+{
+    first_place(alloc, m, c, RuleName::FilterNodes, t)
+}
+
+/// The last step of the pipeline that chooses the start nodes of a climb is dropped where it changes none of them.
+pub fn rule_18(
+    alloc: Global,
+    m: &Model,
+    c: &Customs,
+    t: &Typed,
+) -> Result<Option<Typed>, AllocError>
+    requires set { IsSet m.now t.now.set }
+    requires customs { AreTypedOver m.now c.now }
+    requires whole { IsTrue (customs_typed m.now (readings c.now)) }
+    requires typing { IsTyping m.now (readings c.now) t.now }
+    ensures value { IfOk result (IsFirst drop_idle m.now (readings c.now) t.now) }
+    ensures meaning { IfOk result (MayStand m.now (readings c.now) t.now) }
+{
+    first_place(alloc, m, c, RuleName::DropIdle, t)
 }

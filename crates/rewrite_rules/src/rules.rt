@@ -1,5 +1,5 @@
 //! The rules at one place.
-ghost use Rattle.std.specs.Prelude.{◌≡◌, ◌<◌, ◌+◌, Bool, IfOk, IfSome, IsTrue, length, map, option_map};
+ghost use Rattle.std.specs.Prelude.{◌≡◌, ◌<◌, ◌+◌, Bool, IfOk, IfSome, IsTrue, is_some, length, map, option_map};
 ghost use Rattle.edm_model.specs.Models as seen;
 ghost use Rattle.edm_model.specs.Soundness.{IsSound};
 ghost use Rattle.edm_values.specs.Lists.{is_nonempty};
@@ -8,23 +8,30 @@ ghost use Rattle.context_typing.specs.Readings.{readings, AreTypedOver};
 ghost use Rattle.context_typing.specs.Shapes as shapes;
 ghost use Rattle.context_typing.specs.ShapeTypes.{has_types};
 ghost use Rattle.context_typing.specs.Typing as typing;
+ghost use Rattle.context_typing.specs.Typing.{step_shape};
+ghost use Rattle.rewrite_rules.specs.Joins.{IsTypedFrom};
 ghost use Rattle.rewrite_rules.specs.Places.{rule_of, shape_behind};
 ghost use Rattle.rewrite_laws.specs.Rewrites as rule;
 
+use crate::branches::{factor_branches, filter_branches};
+use crate::climbs::drop_idle;
 use crate::filters::{Condition, order_sure, passed_by};
 use crate::forms::{
     begins_with_aggregate, begins_with_filter, computed_by, count_from_top, first_count,
     is_identity, operands, ordered_by, passes_all,
 };
+use crate::groups::{Grouping, filter_nodes, pass_grouping};
+use crate::joins::{filter_related, pass_join, pass_outer_join};
 use crate::made::{before_copies, copies, count_before_copies, two_before_copies};
 use crate::same::same_expr;
 use crate::shapes::{shape_after, shape_behind};
+use crate::walks::pass_traverse;
 use apply_ast::Step;
 use context_typing::{Customs, Shape, is_sure};
 use edm_model::Model;
 use std::alloc::{AllocError, Global};
 
-/// A rule.
+/// A rule by its name, in the order in which the rules come.
 #[derive(Clone, Copy, Debug, Drop)]
 pub enum RuleName {
     DropIdentity,
@@ -32,8 +39,19 @@ pub enum RuleName {
     DropTrue,
     PassCompute,
     PassOrder,
+    PassGroups,
+    PassRollup,
+    FilterBranches,
+    FactorBranches,
+    PassJoin,
+    FilterRelated,
+    PassOuterJoin,
     DropOrder,
     JoinCounts,
+    PassTraverse,
+    PassNodes,
+    FilterNodes,
+    DropIdle,
 }
 
 /// `identity` beside another step is dropped.
@@ -224,6 +242,8 @@ pub(crate) fn at_place(
     requires types { IsTrue (has_types m.now start.now) }
     requires customs { AreTypedOver m.now c.now }
     requires sound { IsSound m.now }
+    requires typed { IsTrue (is_some (step_shape m.now (readings c.now) (shape_behind m.now (readings c.now) start.now (map step_of before.now)) (step_of step.now))) }
+    requires onward { IsTypedFrom m.now (readings c.now) (shape_behind m.now (readings c.now) start.now (map step_of before.now)) (step_of step.now) (map step_of rest.now) }
     ensures value { IfOk result (λ o. option_map (λ v. map step_of v.items) o ≡ rule_of rule m.now (readings c.now) (shape_behind m.now (readings c.now) start.now (map step_of before.now)) (is_nonempty (map step_of before.now)) (step_of step.now) (map step_of rest.now)) }
     ensures some { IfOk result (λ o. IfSome o (λ v. 0 < length before.now + length v.items)) }
 {
@@ -233,7 +253,45 @@ pub(crate) fn at_place(
         RuleName::DropTrue => drop_true(alloc, step, rest),
         RuleName::PassCompute => pass_compute(alloc, m, c, start, before, step, rest),
         RuleName::PassOrder => pass_order(alloc, m, c, start, before, step, rest),
+        RuleName::PassGroups => pass_grouping(
+            alloc,
+            m,
+            c,
+            Grouping::Plain,
+            start,
+            before,
+            step,
+            rest,
+        ),
+        RuleName::PassRollup => pass_grouping(
+            alloc,
+            m,
+            c,
+            Grouping::Levels,
+            start,
+            before,
+            step,
+            rest,
+        ),
+        RuleName::FilterBranches => filter_branches(alloc, m, c, start, before, step, rest),
+        RuleName::FactorBranches => factor_branches(alloc, step, rest),
+        RuleName::PassJoin => pass_join(alloc, m, c, start, before, step, rest),
+        RuleName::FilterRelated => filter_related(alloc, m, c, start, before, step, rest),
+        RuleName::PassOuterJoin => pass_outer_join(alloc, m, c, start, before, step, rest),
         RuleName::DropOrder => drop_order(alloc, m, c, start, before, step, rest),
         RuleName::JoinCounts => join_counts(alloc, step, rest),
+        RuleName::PassTraverse => pass_traverse(alloc, m, c, start, before, step, rest),
+        RuleName::PassNodes => pass_grouping(
+            alloc,
+            m,
+            c,
+            Grouping::Nodes,
+            start,
+            before,
+            step,
+            rest,
+        ),
+        RuleName::FilterNodes => filter_nodes(alloc, m, c, start, before, step, rest),
+        RuleName::DropIdle => drop_idle(alloc, m, c, start, before, step, rest),
     }
 }

@@ -2,11 +2,12 @@
 ghost use Rattle.std.specs.Prelude.{◌≡◌, IfOk, IfSome, IsTrue, map, option_map};
 ghost use Rattle.edm_model.specs.LookUps.{IsType};
 ghost use Rattle.edm_model.specs.Soundness.{IsSound};
+ghost use Rattle.apply_ast.specs.Trees.{pipe};
 ghost use Rattle.apply_ast.specs.Views.{step_of};
 ghost use Rattle.context_typing.specs.Readings.{readings, AreTypedOver};
 ghost use Rattle.context_typing.specs.Nodes.{nodes_pair};
 ghost use Rattle.context_typing.specs.ShapeTypes.{has_types};
-ghost use Rattle.context_typing.specs.Typing.{after};
+ghost use Rattle.context_typing.specs.Typing.{after, steps_shape};
 ghost use Rattle.rewrite_rules.specs.Places.{shape_behind};
 
 use apply_ast::Step;
@@ -54,6 +55,30 @@ pub(crate) fn shape_behind(
         shape = next;
     }
     Ok(shape)
+}
+
+/// The shape behind steps, where they have a typing.
+pub(crate) fn steps_shape(
+    alloc: Global,
+    m: &Model,
+    c: &Customs,
+    start: &Shape,
+    steps: &[Step],
+) -> Result<Option<Shape>, AllocError>
+    requires types { IsTrue (has_types m.now start.now) }
+    requires customs { AreTypedOver m.now c.now }
+    requires sound { IsSound m.now }
+    ensures value { IfOk result (λ o. o ≡ steps_shape m.now (readings c.now) start.now (pipe (map step_of steps.now))) }
+    ensures types { IfOk result (λ o. IfSome o (λ S. IsTrue (has_types m.now S))) }
+{
+    let mut shape = start.copy(alloc)?;
+    for step in steps {
+        match type_step(alloc, m, c, shape, step)? {
+            Some(outcome) => shape = outcome.shape,
+            None => return Ok(None),
+        }
+    }
+    Ok(Some(shape))
 }
 
 /// The entity type of nodes.

@@ -3,8 +3,11 @@ use Rattle.std.specs.Prelude.{option_map}
 use Rattle.apply_ast.specs.Views.{pipe_of}
 use Rattle.context_typing.specs.Readings.{readings}
 use Rattle.context_typing.specs.Shapes.{set_shape}
-use Rattle.rewrite_rules.proofs.FirstRules.{place-found, place-none, place-means}
+use Rattle.rewrite_rules.proofs.FirstRules.{place-found, place-none, place-means, typed-start}
 use Rattle.rewrite_rules.proofs.first.first_place.Goals as goal
+
+pub in_pipe-requires-clause-typed : goal.in_pipe-requires-clause-typed
+in_pipe-requires-clause-typed c = typed-start c.args.m.now (readings c.args.c.now) c.args.t.now c.set_shape-start.result (c.set_shape-start.ensures ∙ ap set_shape c.set_type.ensures.value) c.requires.typing
 
 pub returns-in-Some-clause-value : goal.returns-in-Some-clause-value
 returns-in-Some-clause-value c =

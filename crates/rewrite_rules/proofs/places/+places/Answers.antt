@@ -147,3 +147,17 @@ pub in_climb-returns : goal.in_climb-returns
 in_climb-returns t c =
     let k = c.args.climb.now in
     climb-answer (rule_of c.args.rule) c.args.m.now (readings c.args.c.now) step_of (shape_behind c.args.m.now (readings c.args.c.now) c.args.start.now (map step_of c.args.before.now)) _ k.up (hier_of k.hier) k.path (pipe_of k.inner) k.distance k.keep (option_map pipe_of c.in_ok-made.made) (climb_of k) c.with_starts.result (climb_of-is k) c.in_ok-shape.ensures.value c.in_ok-made.ensures c.with_starts.ensures
+
+-- ---- what is typed at each place
+
+pub in_step-grouping_is_typed-requires-clause-grouping : goal.in_step-grouping_is_typed-requires-clause-grouping
+in_step-grouping_is_typed-requires-clause-grouping t c = ap step_of c.in-GroupBy.is ∙ step_of-GroupBy c.in-GroupBy.keys c.in-GroupBy.inner
+
+pub in_keys-key_is_typed-requires-clause-whole : goal.in_keys-key_is_typed-requires-clause-whole
+in_keys-key_is_typed-requires-clause-whole t c = keys_of-is c.args.keys.now ∙ ap (λ l. keys_from (map key_of l)) (sym c.as_slice-all.ensures)
+
+pub in_nodes-nodes_are_typed-requires-clause-of : goal.in_nodes-nodes_are_typed-requires-clause-of
+in_nodes-nodes_are_typed-requires-clause-of t c = c.type_of-of.ensures.value ∙ ap (option_map (λ x. x.0)) c.nodes_of.ensures.value
+
+pub in_branches-branch_is_typed-requires-clause-whole : goal.in_branches-branch_is_typed-requires-clause-whole
+in_branches-branch_is_typed-requires-clause-whole t c = pipes_of-is c.args.branches.now ∙ ap (λ l. pipes_from (map pipe_of l)) (sym c.as_slice-all.ensures)

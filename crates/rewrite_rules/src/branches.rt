@@ -1,0 +1,215 @@
+//! The rules of concatenations: a filter goes into the branches, and a step with which all begin goes before them.
+ghost use Rattle.std.specs.Prelude.{◌≡◌, ◌<◌, Bool, IfOk, IfSome, IsTrue, Some, length, map, option_map, slice_get};
+ghost use Rattle.std.specs.List.{list_all};
+ghost use Rattle.edm_values.specs.Lists.{all_some};
+ghost use Rattle.edm_model.specs.Models as seen;
+ghost use Rattle.edm_model.specs.Soundness.{IsSound};
+ghost use Rattle.apply_ast.specs.Trees.{steps};
+ghost use Rattle.apply_ast.specs.Views.{expr_of, pipe_of, pipes_from, pipes_of, step_of};
+ghost use Rattle.context_typing.specs.Readings.{readings, AreTypedOver};
+ghost use Rattle.context_typing.specs.Shapes as shapes;
+ghost use Rattle.context_typing.specs.ShapeTypes.{has_types};
+ghost use Rattle.context_typing.specs.Typing as typing;
+ghost use Rattle.rewrite_rules.specs.Branches as spec;
+ghost use Rattle.rewrite_rules.specs.Places.{shape_behind};
+ghost use Rattle.rewrite_laws.specs.Rewrites as rule;
+
+use crate::filters::{Condition, entered, nearest};
+use crate::forms::{begins_with_filter, is_identity};
+use crate::made::two_before_copies;
+use crate::pipelines::{ended, pipe_or_identity};
+use crate::same_steps::same_step;
+use crate::shapes::{shape_after, shape_behind, steps_shape};
+use crate::step_forms::branches_of;
+use apply_ast::{Expr, Pipe, PipeList, Step};
+use context_typing::{Customs, Shape, is_test};
+use edm_model::Model;
+use std::alloc::{AllocError, Global};
+
+/// Whether an expression is a test on each of these shapes.
+pub(crate) fn is_test_on(m: &Model, shapes: &[Shape], e: &Expr) -> bool
+    requires { IsTrue (list_all (has_types m.now) shapes.now) }
+    ensures { result ≡ spec.is_test_on m.now shapes.now (expr_of e.now) }
+{
+    for shape in shapes {
+        if !is_test(m, shape, e) {
+            return false;
+        }
+    }
+    true
+}
+
+/// The shape behind each branch, where all of them have a typing.
+fn branch_shapes(
+    alloc: Global,
+    m: &Model,
+    c: &Customs,
+    shape: &Shape,
+    branches: &[Pipe],
+) -> Result<Option<Vec<Shape>>, AllocError>
+    requires types { IsTrue (has_types m.now shape.now) }
+    requires customs { AreTypedOver m.now c.now }
+    requires sound { IsSound m.now }
+    ensures value { IfOk result (λ o. option_map (λ v. v.items) o ≡ all_some (map (typing.steps_shape m.now (readings c.now) shape.now) (map pipe_of branches.now))) }
+    ensures types { IfOk result (λ o. IfSome o (λ v. IsTrue (list_all (has_types m.now) v.items))) }
+{
+    let mut shapes = Vec::new(alloc);
+    for branch in branches {
+        match steps_shape(alloc, m, c, shape, branch.steps())? {
+            Some(next) => shapes.push(next)?,
+            None => return Ok(None),
+        }
+    }
+    Ok(Some(shapes))
+}
+
+/// The branches with a step more at the end of each.
+fn ended_branches(alloc: Global, branches: &[Pipe], step: &Step) -> Result<PipeList, AllocError>
+    ensures { IfOk result (λ l. pipes_of l ≡ pipes_from (map (λ p. rule.ended p (step_of step.now)) (map pipe_of branches.now))) }
+{
+    let mut made = Vec::new(alloc);
+    for branch in branches {
+        made.push(ended(alloc, branch, step)?)?;
+    }
+    Ok(PipeList::new(made))
+}
+
+/// The steps after the nearest filter that is a test on the shape behind each branch has gone to the end of every branch.
+fn into_branches(
+    alloc: Global,
+    m: &Model,
+    shape: &Shape,
+    shapes: &[Shape],
+    branches: &[Pipe],
+    rest: &[Step],
+) -> Result<Option<Vec<Step>>, AllocError>
+    requires types { IsTrue (has_types m.now shape.now) }
+    requires branch_types { IsTrue (list_all (has_types m.now) shapes.now) }
+    ensures value { IfOk result (λ o. option_map (λ v. map step_of v.items) o ≡ spec.into_branches m.now shape.now shapes.now (map pipe_of branches.now) (map step_of rest.now)) }
+    ensures some { IfOk result (λ o. IfSome o (λ v. 0 < length v.items)) }
+{
+    match nearest(alloc, m, shape, &Condition::TypedOn(shapes), rest)? {
+        Some((k, e)) => {
+            let filter = Step::Filter(e.copy(alloc)?);
+            let made = Step::Concat(ended_branches(alloc, branches, &filter)?);
+            Ok(Some(entered(alloc, made, rest, k)?))
+        }
+        None => Ok(None),
+    }
+}
+
+/// A filter that is typed on each branch goes to the end of every branch.
+pub(crate) fn filter_branches(
+    alloc: Global,
+    m: &Model,
+    c: &Customs,
+    start: &Shape,
+    before: &[Step],
+    step: &Step,
+    rest: &[Step],
+) -> Result<Option<Vec<Step>>, AllocError>
+    requires types { IsTrue (has_types m.now start.now) }
+    requires customs { AreTypedOver m.now c.now }
+    requires sound { IsSound m.now }
+    ensures value { (b : Bool) → IfOk result (λ o. option_map (λ v. map step_of v.items) o ≡ rule.filter_branches m.now (readings c.now) (shape_behind m.now (readings c.now) start.now (map step_of before.now)) b (step_of step.now) (map step_of rest.now)) }
+    ensures some { IfOk result (λ o. IfSome o (λ v. 0 < length v.items)) }
+{
+    match branches_of(step) {
+        Some(branches) => {
+            if !begins_with_filter(rest) {
+                return Ok(None);
+            }
+            let branches = branches.as_slice();
+            let there = shape_behind(alloc, m, c, start, before)?;
+            match branch_shapes(alloc, m, c, &there, branches)? {
+                Some(shapes) => {
+                    let shape = shape_after(alloc, m, c, there, step)?;
+                    into_branches(alloc, m, &shape, shapes.as_slice(), branches, rest)
+                }
+                None => Ok(None),
+            }
+        }
+        None => Ok(None),
+    }
+}
+
+/// The first step of a pipeline.
+fn first_step(pipe: &Pipe) -> &Step
+    ensures { Some (step_of result.now) ≡ slice_get (steps (pipe_of pipe.now)) 0 }
+{
+    &pipe.steps()[0]
+}
+
+/// Whether a pipeline begins with a step.
+fn begins_with(step: &Step, pipe: &Pipe) -> bool
+    ensures { result ≡ spec.begins_with (step_of step.now) (pipe_of pipe.now) }
+{
+    same_step(step, first_step(pipe))
+}
+
+/// Whether all branches begin with a step.
+fn all_begin_with(step: &Step, branches: &[Pipe]) -> bool
+    ensures { result ≡ list_all (spec.begins_with (step_of step.now)) (map pipe_of branches.now) }
+{
+    each_begins_with(step, branches)
+}
+
+/// Whether each branch begins with a step.
+fn each_begins_with(step: &Step, branches: &[Pipe]) -> bool
+    ensures { result ≡ list_all (λ p. spec.begins_with (step_of step.now) (pipe_of p)) branches.now }
+{
+    branches.iter().all(|branch| begins_with(step, branch))
+}
+
+/// The step with which all branches begin, but `identity`.
+fn common_first(branches: &[Pipe]) -> Option<&Step>
+    ensures { option_map (λ s. step_of s.now) result ≡ spec.common_first (map pipe_of branches.now) }
+{
+    match branches.first() {
+        Some(branch) => {
+            let step = first_step(branch);
+            if is_identity(step) || !all_begin_with(step, branches) {
+                None
+            } else {
+                Some(step)
+            }
+        }
+        None => None,
+    }
+}
+
+/// The branches without the first step of each: `identity` where it was the only one.
+fn without_first(alloc: Global, branches: &[Pipe]) -> Result<PipeList, AllocError>
+    ensures { IfOk result (λ l. pipes_of l ≡ pipes_from (map spec.without_first (map pipe_of branches.now))) }
+{
+    let mut made = Vec::new(alloc);
+    for branch in branches {
+        made.push(pipe_or_identity(alloc, &branch.steps()[1..])?)?;
+    }
+    Ok(PipeList::new(made))
+}
+
+/// A step with which all branches begin goes before the concatenation.
+pub(crate) fn factor_branches(
+    alloc: Global,
+    step: &Step,
+    rest: &[Step],
+) -> Result<Option<Vec<Step>>, AllocError>
+    ensures value { (m : seen.Model) (c : typing.Customs) (S : shapes.Shape) (before : Bool) → IfOk result (λ o. option_map (λ v. map step_of v.items) o ≡ rule.factor_branches m c S before (step_of step.now) (map step_of rest.now)) }
+    ensures some { IfOk result (λ o. IfSome o (λ v. 0 < length v.items)) }
+{
+    match branches_of(step) {
+        Some(branches) => {
+            let branches = branches.as_slice();
+            match common_first(branches) {
+                Some(first) => {
+                    let first = first.copy(alloc)?;
+                    let others = Step::Concat(without_first(alloc, branches)?);
+                    Ok(Some(two_before_copies(alloc, first, others, rest)?))
+                }
+                None => Ok(None),
+            }
+        }
+        None => Ok(None),
+    }
+}
