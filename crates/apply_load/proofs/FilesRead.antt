@@ -6,7 +6,7 @@ use Rattle.std.proofs.lemmas.List.{take_all, length-take}
 use Rattle.std.proofs.lemmas.Bool.Decides.{nat_tests}
 use Rattle.apply_io.specs.Files.{Files, content, KeepsFiles}
 use Rattle.edm_model.specs.Models.{Model}
-use Rattle.edm_model.specs.ModelFile.{ModelReading, model_limit, model_reading}
+use Rattle.edm_model.specs.ModelFile.{ModelReading}
 use Rattle.edm_values.specs.declared.Value.{Value}
 use Rattle.edm_model.specs.JsonTrees.{Member, json_of, is_object, members_in}
 use Rattle.serde_json.specs.Data.{Data}
@@ -21,10 +21,6 @@ use Rattle.apply_load.proofs.Fronts.{kept_files}
 -- ---- a file that was read up to its limit is judged as the whole file
 
 module _ (limit : ℕ) where
-  long_model : (file : List ℕ) → limit ≡ model_limit → limit < length file → model_reading file ≡ ModelReading.TooLong
-  long_model file is long =
-      let past : nat_lt model_limit (length file) ≡ true = grind (arith, nat_tests) in rw past refl
-
   long_data : (m : Model) (file : List ℕ) → limit ≡ data_limit → limit < length file → data_reading m file ≡ DataReading.TooLong
   long_data m file is long =
       let past : nat_lt data_limit (length file) ≡ true = grind (arith, nat_tests) in rw past refl

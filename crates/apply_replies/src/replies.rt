@@ -45,8 +45,8 @@ use std::alloc::{AllocError, Global};
 use std::sync::ledger::Ledger;
 use std::thread::Threads;
 
-/// Into how many pieces the folds of a run are cut at most.
-const WORKERS: u32 = 1;
+/// The most workers that a run may have.
+const MOST: u32 = 64;
 
 /// The bytes of a response that was made, or that memory was wanting.
 fn made(response: Result<Output, AllocError>) -> Output
@@ -96,6 +96,7 @@ fn body_of<R: Threads + Sync, G: Gate, L: Ledger>(
     alloc: Global,
     store: &Store,
     plan: &Plan,
+    workers: u32,
     gate: &G,
     steps: &mut Steps<L>,
 ) -> Result<Vec<u8>, RunRefused>
@@ -117,7 +118,7 @@ fn body_of<R: Threads + Sync, G: Gate, L: Ledger>(
         store.customs(),
         store.hiers(),
         plan,
-        WORKERS,
+        workers.min(MOST).max(1),
         gate,
         steps,
     )?;
@@ -164,6 +165,7 @@ fn typed_response<R: Threads + Sync, G: Gate, L: Ledger>(
     is_optimised: bool,
     request: &Request,
     typed: Typed,
+    workers: u32,
     gate: &G,
     steps: &mut Steps<L>,
 ) -> Result<Output, AllocError>
@@ -182,7 +184,7 @@ fn typed_response<R: Threads + Sync, G: Gate, L: Ledger>(
         return cycle_response(alloc, store, node);
     }
     let plan = plan_for(alloc, store, typed, is_optimised)?;
-    match body_of(rt, alloc, store, &plan, gate, steps) {
+    match body_of(rt, alloc, store, &plan, workers, gate, steps) {
         Ok(body) => answered(alloc, body),
         Err(RunRefused::Range) => Ok(Output::Made(past_range(alloc)?)),
         Err(RunRefused::Memory) => Err(AllocError),
@@ -196,6 +198,7 @@ fn response_to<R: Threads + Sync, G: Gate, L: Ledger>(
     store: &Store,
     is_optimised: bool,
     request: &Request,
+    workers: u32,
     gate: &G,
     steps: &mut Steps<L>,
 ) -> Result<Output, AllocError>
@@ -208,7 +211,17 @@ fn response_to<R: Threads + Sync, G: Gate, L: Ledger>(
         return Ok(Output::Made(not_found(alloc, set_name)?));
     };
     match type_pipe(alloc, store.model(), store.customs(), set, &request.pipe) {
-        Ok(typed) => typed_response(rt, alloc, store, is_optimised, request, typed, gate, steps),
+        Ok(typed) => typed_response(
+            rt,
+            alloc,
+            store,
+            is_optimised,
+            request,
+            typed,
+            workers,
+            gate,
+            steps,
+        ),
         Err(TypeRefused::At(k)) => Ok(Output::Made(untyped(alloc, k)?)),
         Err(TypeRefused::Memory) => Err(AllocError),
     }
@@ -221,13 +234,14 @@ fn no_request(alloc: Global, step: u32) -> Result<Output, AllocError>
     Ok(Output::Made(no_pipeline(alloc, step)?))
 }
 
-/// The reply to a line that is not empty, whose pipeline is rewritten before it runs or runs as it was written.
+/// The reply to a line that is not empty, whose pipeline is rewritten before it runs or runs as it was written, by so many workers.
 pub fn reply_to<R: Threads + Sync, G: Gate, L: Ledger>(
     rt: &R,
     alloc: Global,
     store: &Store,
     is_optimised: bool,
     line: &[u8],
+    workers: u32,
     gate: &G,
     steps: &mut Steps<L>,
 ) -> Output
@@ -236,7 +250,16 @@ pub fn reply_to<R: Threads + Sync, G: Gate, L: Ledger>(
     ensures grown { steps.old ≤ steps.new }
 {
     match read_request(alloc, line) {
-        Ok(request) => made(response_to(rt, alloc, store, is_optimised, &request, gate, steps)),
+        Ok(request) => made(response_to(
+            rt,
+            alloc,
+            store,
+            is_optimised,
+            &request,
+            workers,
+            gate,
+            steps,
+        )),
         Err(GrammarRefused::TooLong) => Output::Constant(too_long()),
         Err(GrammarRefused::Syntax(k)) => made(no_request(alloc, k)),
         Err(GrammarRefused::Memory) => Output::Constant(out_of_memory()),

@@ -13,14 +13,15 @@ use std::alloc::Global;
 use std::sync::ledger::Ledger;
 use std::thread::Threads;
 
-/// Answers lines over a store, whose pipelines are rewritten before they run or run as they were written. The gate is told of
-/// each piece of a fold that begins.
+/// Answers lines over a store, whose pipelines are rewritten before they run or run as they were written, by so many workers.
+/// The gate is told of each piece of a fold that begins.
 #[derive(Drop)]
 pub struct Replies<'a, R, G> {
     rt: &'a R,
     alloc: Global,
     store: &'a Store,
     is_optimised: bool,
+    workers: u32,
     gate: &'a G,
 }
 
@@ -31,6 +32,7 @@ impl<'a, R: Threads + Sync, G: Gate> Replies<'a, R, G> {
         alloc: Global,
         store: &'a Store,
         is_optimised: bool,
+        workers: u32,
         gate: &'a G,
     ) -> Replies<'a, R, G>
         ensures store { result.store ≡ store.entry }
@@ -41,6 +43,7 @@ impl<'a, R: Threads + Sync, G: Gate> Replies<'a, R, G> {
             alloc,
             store,
             is_optimised,
+            workers,
             gate,
         }
     }
@@ -57,6 +60,7 @@ impl<'a, R: Threads + Sync, G: Gate> Replies<'a, R, G> {
             self.store,
             self.is_optimised,
             line,
+            self.workers,
             self.gate,
             steps,
         )

@@ -10,6 +10,7 @@
 #![tactic(auto)]
 
 ghost use Rattle.std.specs.Prelude.{◌≡◌, ℕ, ◌<◌};
+ghost use Rattle.apply_io.specs.Reads.{EndsInOneRead};
 ghost use Rattle.serve_options.specs.Command.{texts_of};
 ghost use Rattle.apply_service.specs.ExitCodes.{exit_code};
 ghost use Rattle.apply_service.specs.Runs.{Run, FolderSeen, SourceSeen, SinkSeen, StepsSeen};
@@ -81,7 +82,7 @@ fn run<R: Threads + Sync, F: Folder, S: Source, K: Sink, L: Ledger>(
     ensures says { (counted : ℕ) × Says (record {
       words = texts_of words.now;
       folder = record { files = F.files folder.old; faults = F.fault_count folder.old; faults_after = F.fault_count folder.new };
-      input = record { left = S.left input.old; left_after = S.left input.new; faults = S.fault_count input.old; faults_after = S.fault_count input.new };
+      input = record { left = S.left input.old; left_after = S.left input.new; faults = S.fault_count input.old; faults_after = S.fault_count input.new; ends_in_one_read = EndsInOneRead S.left S.reads_once input.old input.new };
       output = record { held = K.held output.old; held_after = K.held output.new; faults = K.fault_count output.old; faults_after = K.fault_count output.new };
       steps = record { count = 0; count_after = counted };
       status = result.status;

@@ -57,16 +57,16 @@ module _ (optimised given : Bool) (chosen : given ≡ optimised) (f : FolderSeen
         subst S chosen (subst R at (subst Q same h));
   }
 
-  pub breaks-of : (limit room : ℕ) (store over : Store) (held : Option (List ℕ)) → room ≡ read_limit → over ≡ store → held ≡ o.held → FilesMake f.files names (Loaded store.world (readings store.customs)) → stream.RespondsInPart (IsReplyOf over) (BoundsLineOf given over) room limit i.left i.left_after held o.held_after t.count t.count_after → BreaksOffInReplies optimised f i o t names limit
+  pub breaks-of : (limit room : ℕ) (store over : Store) (held : Option (List ℕ)) → room ≡ read_limit → over ≡ store → held ≡ o.held → FilesMake f.files names (Loaded store.world (readings store.customs)) → stream.RespondsInPart (IsReplyOf over) (BoundsLineOf given over) i.ends_in_one_read room limit i.left i.left_after held o.held_after t.count t.count_after → BreaksOffInReplies optimised f i o t names limit
   breaks-of limit room store over held most same at made h = record {
     world = store.world;
     customs = readings store.customs;
     loaded = made;
     front =
-        let Q : Store → Type 0 = λ s. stream.RespondsInPart (IsReplyOf s) (BoundsLineOf given s) room limit i.left i.left_after held o.held_after t.count t.count_after in
-        let R : Option (List ℕ) → Type 0 = λ x. stream.RespondsInPart (IsReplyOf store) (BoundsLineOf given store) room limit i.left i.left_after x o.held_after t.count t.count_after in
-        let S : ℕ → Type 0 = λ n. stream.RespondsInPart (IsReplyOf store) (BoundsLineOf given store) n limit i.left i.left_after o.held o.held_after t.count t.count_after in
-        let T : Bool → Type 0 = λ b. stream.RespondsInPart (IsReplyOf store) (BoundsLineOf b store) read_limit limit i.left i.left_after o.held o.held_after t.count t.count_after in
+        let Q : Store → Type 0 = λ s. stream.RespondsInPart (IsReplyOf s) (BoundsLineOf given s) i.ends_in_one_read room limit i.left i.left_after held o.held_after t.count t.count_after in
+        let R : Option (List ℕ) → Type 0 = λ x. stream.RespondsInPart (IsReplyOf store) (BoundsLineOf given store) i.ends_in_one_read room limit i.left i.left_after x o.held_after t.count t.count_after in
+        let S : ℕ → Type 0 = λ n. stream.RespondsInPart (IsReplyOf store) (BoundsLineOf given store) i.ends_in_one_read n limit i.left i.left_after o.held o.held_after t.count t.count_after in
+        let T : Bool → Type 0 = λ b. stream.RespondsInPart (IsReplyOf store) (BoundsLineOf b store) i.ends_in_one_read read_limit limit i.left i.left_after o.held o.held_after t.count t.count_after in
         subst T chosen (subst S most (subst R at (subst Q same h)));
   }
 

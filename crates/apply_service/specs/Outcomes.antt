@@ -72,7 +72,7 @@ pub record BreaksOffInReplies (optimised : Bool) (f : FolderSeen) (i : SourceSee
   pub world : World
   pub customs : Customs
   pub loaded : FilesMake f.files names (Loaded world customs)
-  pub front : stream.RespondsInPart (IsReply world customs) (BoundsLine optimised world customs) read_limit limit i.left i.left_after o.held o.held_after t.count t.count_after
+  pub front : stream.RespondsInPart (IsReply world customs) (BoundsLine optimised world customs) i.ends_in_one_read read_limit limit i.left i.left_after o.held o.held_after t.count t.count_after
 
 -- in what is told of a world
 pub record BreaksOffInCheck (f : FolderSeen) (o : SinkSeen) (names : FileNames) : Type 0 where

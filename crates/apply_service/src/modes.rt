@@ -1,6 +1,7 @@
 //! What each mode does.
 ghost use Rattle.std.specs.Prelude.{◌≡◌, ℕ, ◌<◌, ◌≤◌, ◌^◌, length, IfErr, IfOk};
 ghost use Rattle.apply_io.specs.Files.{KeepsFiles};
+ghost use Rattle.apply_io.specs.Reads.{EndsInOneRead};
 ghost use Rattle.apply_load.specs.Loads.{FilesMake, Loaded};
 ghost use Rattle.context_typing.specs.Readings.{readings};
 ghost use Rattle.apply_service.specs.Runs.{FolderSeen, SourceSeen, SinkSeen, StepsSeen};
@@ -66,6 +67,7 @@ pub(crate) fn serve_files<R: Threads + Sync, F: Folder, S: Source, K: Sink, G: G
     alloc: Global,
     names: FileNames<'_>,
     is_optimised: bool,
+    workers: u32,
     limit: u64,
     folder: &mut F,
     input: &mut S,
@@ -80,7 +82,7 @@ pub(crate) fn serve_files<R: Threads + Sync, F: Folder, S: Source, K: Sink, G: G
     ensures later_out { K.fault_count output.old ≤ K.fault_count output.new }
     ensures says { ServeSays is_optimised
         (record { files = F.files folder.old; faults = F.fault_count folder.old; faults_after = F.fault_count folder.new })
-        (record { left = S.left input.old; left_after = S.left input.new; faults = S.fault_count input.old; faults_after = S.fault_count input.new })
+        (record { left = S.left input.old; left_after = S.left input.new; faults = S.fault_count input.old; faults_after = S.fault_count input.new; ends_in_one_read = EndsInOneRead S.left S.reads_once input.old input.new })
         (record { held = K.held output.old; held_after = K.held output.new; faults = K.fault_count output.old; faults_after = K.fault_count output.new })
         (record { count = steps.old; count_after = steps.new })
         (record { model = names.entry.model.now; entities = names.entry.entities.now })
@@ -96,7 +98,7 @@ pub(crate) fn serve_files<R: Threads + Sync, F: Folder, S: Source, K: Sink, G: G
         Ok(store) => store,
         Err(status) => return status,
     };
-    let replies = Replies::new(rt, alloc, &store, is_optimised, gate);
+    let replies = Replies::new(rt, alloc, &store, is_optimised, workers, gate);
     match answer_stream(
         &replies,
         steps,
@@ -152,6 +154,7 @@ pub(crate) fn answer_generated<R: Threads + Sync, K: Sink, G: Gate, L: Ledger>(
     alloc: Global,
     count: u32,
     is_optimised: bool,
+    workers: u32,
     output: &mut K,
     gate: &G,
     steps: &mut Steps<L>,
@@ -167,7 +170,7 @@ pub(crate) fn answer_generated<R: Threads + Sync, K: Sink, G: Gate, L: Ledger>(
     let Ok(store) = load_generated(alloc, count) else {
         return Status::Memory;
     };
-    let replies = Replies::new(rt, alloc, &store, is_optimised, gate);
+    let replies = Replies::new(rt, alloc, &store, is_optimised, workers, gate);
     match answer_samples(&replies, steps, output) {
         Ok(()) => Status::Served,
         Err(_) => Status::WriteFault,

@@ -1,6 +1,7 @@
 //! The top call: from the words to the status.
 ghost use Rattle.std.specs.Prelude.{◌≡◌, ◌≤◌};
 ghost use Rattle.apply_io.specs.Files.{KeepsFiles};
+ghost use Rattle.apply_io.specs.Reads.{EndsInOneRead};
 ghost use Rattle.serve_options.specs.Command.{texts_of};
 ghost use Rattle.apply_service.specs.Runs.{Run, FolderSeen, SourceSeen, SinkSeen, StepsSeen};
 ghost use Rattle.apply_service.specs.Service.{Says};
@@ -42,7 +43,7 @@ pub fn serve<R: Threads + Sync, F: Folder, S: Source, K: Sink, G: Gate, L: Ledge
     ensures says { Says (record {
       words = texts_of words.now;
       folder = record { files = F.files folder.old; faults = F.fault_count folder.old; faults_after = F.fault_count folder.new };
-      input = record { left = S.left input.old; left_after = S.left input.new; faults = S.fault_count input.old; faults_after = S.fault_count input.new };
+      input = record { left = S.left input.old; left_after = S.left input.new; faults = S.fault_count input.old; faults_after = S.fault_count input.new; ends_in_one_read = EndsInOneRead S.left S.reads_once input.old input.new };
       output = record { held = K.held output.old; held_after = K.held output.new; faults = K.fault_count output.old; faults_after = K.fault_count output.new };
       steps = record { count = steps.old; count_after = steps.new };
       status = result;
@@ -64,6 +65,7 @@ pub fn serve<R: Threads + Sync, F: Folder, S: Source, K: Sink, G: Gate, L: Ledge
                 alloc,
                 names,
                 options.is_optimised,
+                options.workers,
                 options.max_bytes,
                 folder,
                 input,
@@ -84,6 +86,7 @@ pub fn serve<R: Threads + Sync, F: Folder, S: Source, K: Sink, G: Gate, L: Ledge
             alloc,
             *count,
             options.is_optimised,
+            options.workers,
             output,
             gate,
             steps,

@@ -2,6 +2,7 @@
 ghost use Rattle.std.specs.Prelude.{◌≡◌, ℕ, ◌+◌, ◌<◌, ◌≤◌, ◌^◌, length, take, IfOk, OnOk, OnErr, IsErrOf, position};
 ghost use Rattle.std.specs.Io.KnownBytes.{Consumes, Keeps, IsAtEnd};
 ghost use Rattle.apply_io.specs.Causes.{HasCause, Rose};
+ghost use Rattle.apply_io.specs.Reads.{EndsInOneRead};
 ghost use Rattle.line_stream.specs.Lines.{is_line_feed, shown, request_lines, ended_lines};
 ghost use Rattle.apply_grammar.specs.Frames.{line_limit};
 ghost use Rattle.line_stream.specs.Buffers.{nothing_kept};
@@ -83,12 +84,13 @@ fn take_bytes<R: Threads + Sync, G: Gate, L: Ledger, K: Sink>(
     Ok(())
 }
 
-/// Reads the next bytes: as many as the buffer has room for, or, where fewer are left of the limit, one more than those.
+/// Reads the next bytes, by one read: as many as the buffer has room for, or, where fewer are left of the limit, one more than those.
 fn read_piece<S: Source>(input: &mut S, left: u64, buffer: &mut [u8]) -> Result<usize, Failed>
     requires room { 0 < length buffer.old }
     ensures count { IfOk result (λ n. (n ≤ length buffer.new) × (n ≤ left + 1)) }
     ensures bytes { IfOk result (λ n. Consumes (S.left input.old) (S.left input.new) (take n buffer.new)) }
     ensures end { IfOk result (λ n. n ≡ 0 → IsAtEnd (S.left input.new)) }
+    ensures once { S.reads_once input.old input.new }
     ensures cause { HasCause (S.fault_count input.old) (S.fault_count input.new) result }
     ensures kept { OnErr result (Keeps (S.left input.old) (S.left input.new)) }
 {
@@ -121,12 +123,13 @@ fn answer_piece<R: Threads + Sync, G: Gate, L: Ledger, S: Source, K: Sink>(
     ensures ok { IfOk result (λ n. Advances (IsReplyOf replies.now.store.now) (BoundsLineOf replies.now.is_optimised replies.now.store.now)
         (S.left input.old) (S.left input.new) (K.held output.old) (K.held output.new) steps.old steps.new line.old line.new n) }
     ensures end { IfOk result (λ n. n ≡ 0 → IsAtEnd (S.left input.new)) }
+    ensures once { S.reads_once input.old input.new }
     ensures read_cause { IsErrOf result Stop.Read → Rose (S.fault_count input.old) (S.fault_count input.new) }
     ensures read { IsErrOf result Stop.Read → Keeps (S.left input.old) (S.left input.new)
         × (output.new ≡ output.old) × (line.new ≡ line.old) × (steps.new ≡ steps.old) }
     ensures write_cause { IsErrOf result Stop.Write → Rose (K.fault_count output.old) (K.fault_count output.new) }
     ensures write { IsErrOf result Stop.Write → Breaks (IsReplyOf replies.now.store.now) (BoundsLineOf replies.now.is_optimised replies.now.store.now)
-        (length buffer.old) left (S.left input.old) (S.left input.new) (K.held output.old) (K.held output.new) steps.old steps.new line.old }
+        (EndsInOneRead S.left S.reads_once input.old input.new) (length buffer.old) left (S.left input.old) (S.left input.new) (K.held output.old) (K.held output.new) steps.old steps.new line.old }
     ensures limit_passed { IsErrOf result Stop.Limit → Overruns (IsReplyOf replies.now.store.now) (BoundsLineOf replies.now.is_optimised replies.now.store.now)
         (S.left input.old) (S.left input.new) (K.held output.old) (K.held output.new) steps.old steps.new line.old line.new left }
 {
@@ -175,7 +178,7 @@ pub(crate) fn answer_stream<R: Threads + Sync, G: Gate, L: Ledger, S: Source, K:
     // to all lines: whatever follows the bytes taken, or, in the response to a last line with no LF, at the end of the source.
     ensures write_cause { IsErrOf result Stop.Write → Rose (K.fault_count output.old) (K.fault_count output.new) }
     ensures write { IsErrOf result Stop.Write → RespondsInPart (IsReplyOf replies.now.store.now) (BoundsLineOf replies.now.is_optimised replies.now.store.now)
-        (length buffer.old) limit (S.left input.old) (S.left input.new) (K.held output.old) (K.held output.new) steps.old steps.new }
+        (EndsInOneRead S.left S.reads_once input.old input.new) (length buffer.old) limit (S.left input.old) (S.left input.new) (K.held output.old) (K.held output.new) steps.old steps.new }
 {
     let mut taken = 0;
     loop {

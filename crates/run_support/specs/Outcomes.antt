@@ -1,6 +1,8 @@
 -- What a run over objects in memory comes to.
 use Rattle.std.specs.Prelude.{◌≡◌, ℕ, List, [], Some}
+use Rattle.apply_io.specs.Causes.{next_count}
 use Rattle.apply_io.specs.Memory.{FolderState, SourceState, SinkState}
+use Rattle.apply_io.specs.Reads.{EndsInOneRead}
 use Rattle.apply_service.specs.Runs.{SourceSeen}
 use Rattle.apply_service.specs.Service.{Says}
 use Rattle.run_support.specs.Cases.{case_folder, case_source, case_sink}
@@ -23,7 +25,7 @@ pub record EndsOver (words : List (List ℕ)) (case : Case) (input : SourceSeen)
   pub output : r.output.items ≡ sink.held
   pub folder_faults : r.folder_faults ≡ folder.faults
 
--- the same over the source of these bytes
+-- the same over the source of these bytes, where a read is a call more
 pub record Ends (words : List (List ℕ)) (case : Case) (bytes : List ℕ) (r : RunResult) : Type 0 where
   pub source : SourceState
-  pub over : EndsOver words case (record { left = Some bytes; left_after = Some source.left; faults = 0; faults_after = source.faults }) (source ≡ case_source case bytes) r
+  pub over : EndsOver words case (record { left = Some bytes; left_after = Some source.left; faults = 0; faults_after = source.faults; ends_in_one_read = EndsInOneRead (λ (s : SourceState). Some s.left) (λ (s t : SourceState). t.calls ≡ next_count s.calls) (case_source case bytes) source }) (source ≡ case_source case bytes) r

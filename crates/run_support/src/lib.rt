@@ -11,4 +11,6 @@
 
 mod runs;
 
-pub use runs::{Case, RunResult, files, outcome, outcome_of, outcome_over, texts, words};
+pub use runs::{
+    Case, RunResult, files, outcome, outcome_at, outcome_of, outcome_over, texts, words,
+};

@@ -1,6 +1,7 @@
 //! Runs of the service over objects in memory.
 ghost use Rattle.std.specs.Prelude.{◌≡◌, ℕ, ◌<◌, IfOk, map, string_bytes};
 ghost use Rattle.apply_io.specs.Files.{files_of};
+ghost use Rattle.apply_io.specs.Reads.{EndsInOneRead};
 ghost use Rattle.apply_service.specs.Service.{Says};
 ghost use Rattle.run_support.specs.Cases.{failing_calls, case_words, case_files};
 ghost use Rattle.run_support.specs.Outcomes.{Ends, EndsOver};
@@ -8,7 +9,7 @@ ghost use Rattle.run_support.specs.Outcomes.{Ends, EndsOver};
 use apply_io::{Folder, MemFolder, MemSink, MemSource, Sink, Source};
 use apply_meaning::Steps;
 use apply_service::{Status, serve};
-use par_stages::NoGate;
+use par_stages::{Gate, NoGate};
 use std::alloc::Global;
 use std::marker::Brand;
 use std::sync::ledger::{Blank, Ledger};
@@ -87,13 +88,14 @@ pub fn files(alloc: Global, case: &Case<'_>) -> Result<Vec<(String, Vec<u8>)>, F
 }
 
 /// Serves with a new counter of steps.
-fn serve_counted<R: Threads + Sync, F: Folder, S: Source, K: Sink, L: Ledger>(
+fn serve_counted<R: Threads + Sync, F: Folder, S: Source, K: Sink, G: Gate, L: Ledger>(
     rt: &R,
     alloc: Global,
     words: &[String],
     folder: &mut F,
     input: &mut S,
     output: &mut K,
+    gate: &G,
     blank: Blank,
 ) -> Status
     requires name { blank.name ≡ L.name }
@@ -102,14 +104,47 @@ fn serve_counted<R: Threads + Sync, F: Folder, S: Source, K: Sink, L: Ledger>(
     ensures { (counted : ℕ) × Says (record {
       words = map string_bytes words.now;
       folder = record { files = F.files folder.old; faults = F.fault_count folder.old; faults_after = F.fault_count folder.new };
-      input = record { left = S.left input.old; left_after = S.left input.new; faults = S.fault_count input.old; faults_after = S.fault_count input.new };
+      input = record { left = S.left input.old; left_after = S.left input.new; faults = S.fault_count input.old; faults_after = S.fault_count input.new; ends_in_one_read = EndsInOneRead S.left S.reads_once input.old input.new };
       output = record { held = K.held output.old; held_after = K.held output.new; faults = K.fault_count output.old; faults_after = K.fault_count output.new };
       steps = record { count = 0; count_after = counted };
       status = result;
     }) (F.is_steady folder.old) (folder.new ≡ folder.old) (input.new ≡ input.old) (output.new ≡ output.old) }
 {
     let mut steps = Steps::<L>::new(blank);
-    serve(rt, alloc, words, folder, input, output, &NoGate, &mut steps)
+    serve(rt, alloc, words, folder, input, output, gate, &mut steps)
+}
+
+/// Runs the service over a source. The gate is told of each piece of a fold.
+fn outcome_with<R: Threads + Sync, S: Source, G: Gate>(
+    rt: &R,
+    alloc: Global,
+    case: &Case,
+    words: &[String],
+    input: &mut S,
+    gate: &G,
+) -> Result<RunResult, Fail>
+    ensures { IfOk result (λ r. EndsOver (map string_bytes words.now) case.now
+        (record { left = S.left input.old; left_after = S.left input.new; faults = S.fault_count input.old; faults_after = S.fault_count input.new; ends_in_one_read = EndsInOneRead S.left S.reads_once input.old input.new })
+        (input.new ≡ input.old) r) }
+{
+    let mut folder = MemFolder::new(files(alloc, case)?, only(alloc, case.folder_fails)?);
+    let most = case.most.max(1);
+    let mut output = MemSink::new(alloc, 16_384, most, only(alloc, case.output_fails)?)?;
+    let status = serve_counted::<_, _, _, _, _, Brand>(
+        rt,
+        alloc,
+        words,
+        &mut folder,
+        input,
+        &mut output,
+        gate,
+        Blank::new(1),
+    );
+    Ok(RunResult {
+        status,
+        output: output.bytes().to_vec(alloc)?,
+        folder_faults: folder.faults(),
+    })
 }
 
 /// Runs the service over a source.
@@ -121,26 +156,25 @@ pub fn outcome_over<R: Threads + Sync, S: Source>(
     input: &mut S,
 ) -> Result<RunResult, Fail>
     ensures { IfOk result (λ r. EndsOver (map string_bytes words.now) case.now
-        (record { left = S.left input.old; left_after = S.left input.new; faults = S.fault_count input.old; faults_after = S.fault_count input.new })
+        (record { left = S.left input.old; left_after = S.left input.new; faults = S.fault_count input.old; faults_after = S.fault_count input.new; ends_in_one_read = EndsInOneRead S.left S.reads_once input.old input.new })
         (input.new ≡ input.old) r) }
 {
-    let mut folder = MemFolder::new(files(alloc, case)?, only(alloc, case.folder_fails)?);
-    let most = case.most.max(1);
-    let mut output = MemSink::new(alloc, 16_384, most, only(alloc, case.output_fails)?)?;
-    let status = serve_counted::<_, _, _, _, Brand>(
-        rt,
-        alloc,
-        words,
-        &mut folder,
-        input,
-        &mut output,
-        Blank::new(1),
-    );
-    Ok(RunResult {
-        status,
-        output: output.bytes().to_vec(alloc)?,
-        folder_faults: folder.faults(),
-    })
+    outcome_with(rt, alloc, case, words, input, &NoGate)
+}
+
+/// Runs the service over the case's input. The gate is told of each piece of a fold.
+pub fn outcome_at<R: Threads + Sync, G: Gate>(
+    rt: &R,
+    alloc: Global,
+    case: &Case<'_>,
+    gate: &G,
+) -> Result<RunResult, Fail>
+    ensures { IfOk result (λ r. Ends (case_words case.now) case.now case.now.input.now r) }
+{
+    let words = words(alloc, case)?;
+    let bytes = case.input.to_vec(alloc)?;
+    let mut input = MemSource::new(bytes, case.most.max(1), only(alloc, case.input_fails)?);
+    outcome_with(rt, alloc, case, words.as_slice(), &mut input, gate)
 }
 
 /// Runs the service over bytes of the input.

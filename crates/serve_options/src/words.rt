@@ -51,8 +51,7 @@ pub(crate) fn command<'a>(alloc: Global) -> Result<Command<'a>, AllocError>
     let with_model = with_option(alloc, bare, "model", "FILE", model)?;
     let entities = "The data file, for modes serve and check";
     let with_entities = with_option(alloc, with_model, "data", "FILE", entities)?;
-    let workers =
-        "How many workers a request may have, from 1 to 64; one is used as yet [default: 4]";
+    let workers = "How many workers a request may have, from 1 to 64 [default: 4]";
     let with_workers = with_option(alloc, with_entities, "workers", "N", workers)?;
     let max_bytes =
         "How many bytes of input are taken, from 0 to 9223372036854775807 [default: 1073741824]";

@@ -17,4 +17,4 @@ returns-then-allowed-count-clause-limit_passed g c = λ _.
 pub returns-in_default-take_bytes-clause-write : goal.returns-in_default-take_bytes-clause-write
 returns-in_default-take_bytes-clause-write g c = λ _.
     let within = c.in-Ok.ensures.count in
-    Breaks-read _ _ (length c.args.buffer.now) c.args.left _ (g.S.Source.left c.read_piece.new.input) (g.K.Sink.held c.args.output.now) (g.K.Sink.held c.take_bytes.new.output) c.args.steps.now c.take_bytes.new.steps c.args.line.now c.read_piece.new.buffer c.in-Ok.count c.min-allowed.result (omega arith) within.0 (omega (arith, within.0)) within.1 c.in-Ok.ensures.bytes c.in_default-take_bytes.ensures.err
+    Breaks-read _ _ g.S.Source.left g.S.Source.reads_once (length c.args.buffer.now) c.args.left c.args.input.now c.read_piece.new.input (g.K.Sink.held c.args.output.now) (g.K.Sink.held c.take_bytes.new.output) c.args.steps.now c.take_bytes.new.steps c.args.line.now c.read_piece.new.buffer c.in-Ok.count c.min-allowed.result (omega arith) within.0 (omega (arith, within.0)) within.1 c.in-Ok.ensures.bytes c.read_piece.ensures.once c.in_default-take_bytes.ensures.err

@@ -1,4 +1,4 @@
-use Rattle.run_support.proofs.runs.outcome_over.Given as goal
+use Rattle.run_support.proofs.runs.outcome_with.Given as goal
 
 abbrev pub ghosts-serve_counted : goal.ghosts-serve_counted
 ghosts-serve_counted g a = record { name = a.blank.name; parts = a.blank.parts }
