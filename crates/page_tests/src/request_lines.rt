@@ -182,6 +182,31 @@ pub(crate) const NO_REQUESTS: &[(&str, &str, &str)] = &[
         "Sales?$apply=topcount(1,Amount)",
     ),
     ("Sales?$apply=top(-1)", "1", "Sales?$apply=top(0)"),
+    (
+        "Sales?$apply=expand(Customer)",
+        "1",
+        "Customers?$apply=join(Sales as S)",
+    ),
+    (
+        "Sales?$apply=topcount(1,Amount desc)",
+        "1",
+        "Sales?$apply=topcount(1,Amount)",
+    ),
+    (
+        "Customers?$apply=groupby((year(Since)))",
+        "1",
+        "Customers?$apply=compute(year(Since) as Y)/groupby((Y))",
+    ),
+    (
+        "Sales?$apply=filter(Customer/Since gt 2020-1-1)",
+        "1",
+        "Sales?$apply=filter(Customer/Since gt 2020-01-01)",
+    ),
+    (
+        "Sales?$apply=groupby((rollup(OrgID)))",
+        "1",
+        "Sales?$apply=groupby((rollup($all,OrgID)))",
+    ),
 ];
 
 /// A request that is refused, the code and the body of its answer, and the line in its place.
@@ -281,5 +306,65 @@ pub(crate) const REFUSED: &[(&str, &str, &str, &str)] = &[
         "400",
         "{\"error\":{\"code\":\"Type\",\"message\":\"the transformation has no type\",\"target\":\"1\"}}",
         "Sales?$apply=groupby((rolluprecursive($root/Orgs,OrgTree,OrgID)))",
+    ),
+    (
+        "Sales?$apply=filter(Amout gt 5)",
+        "400",
+        "{\"error\":{\"code\":\"Type\",\"message\":\"the transformation has no type\",\"target\":\"1\"}}",
+        "Sales?$apply=filter(Amount gt 5)",
+    ),
+    (
+        "Sales?$apply=aggregate(Forecast)",
+        "400",
+        "{\"error\":{\"code\":\"Type\",\"message\":\"the transformation has no type\",\"target\":\"1\"}}",
+        "Sales?$apply=aggregate(Amount with sum as T)",
+    ),
+    (
+        "Customers?$apply=join(Sales as S)/filter(Amount gt 5)",
+        "400",
+        "{\"error\":{\"code\":\"Type\",\"message\":\"the transformation has no type\",\"target\":\"2\"}}",
+        "Customers?$apply=join(Sales as S)/filter(S/Amount gt 5)",
+    ),
+    (
+        "Sales?$apply=groupby((Customer/Name))/orderby(Name)",
+        "400",
+        "{\"error\":{\"code\":\"Type\",\"message\":\"the transformation has no type\",\"target\":\"2\"}}",
+        "Sales?$apply=groupby((Customer/Name))/orderby(Customer/Name)",
+    ),
+    (
+        "Sales?$apply=filter(Org eq null)",
+        "400",
+        "{\"error\":{\"code\":\"Type\",\"message\":\"the transformation has no type\",\"target\":\"1\"}}",
+        "Sales?$apply=filter(OrgID eq null)",
+    ),
+    (
+        "Sales?$apply=compute(Amount mul 2 as D,D add 1 as E)",
+        "400",
+        "{\"error\":{\"code\":\"Type\",\"message\":\"the transformation has no type\",\"target\":\"1\"}}",
+        "Sales?$apply=compute(Amount mul 2 as D)/compute(D add 1 as E)",
+    ),
+    (
+        "Sales?$apply=aggregate(Amount with sum as T,ID with sum as T)",
+        "400",
+        "{\"error\":{\"code\":\"Type\",\"message\":\"the transformation has no type\",\"target\":\"1\"}}",
+        "Sales?$apply=aggregate(Amount with sum as T,ID with sum as U)",
+    ),
+    (
+        "Sales?$apply=concat(compute(1 as X),compute('a' as X))",
+        "400",
+        "{\"error\":{\"code\":\"Type\",\"message\":\"the transformation has no type\",\"target\":\"1\"}}",
+        "Sales?$apply=concat(compute(1 as X),compute('a' as Y))",
+    ),
+    (
+        "Sales?$apply=groupby((rollup($all,OrgID),rollup($all,CustomerID)))",
+        "400",
+        "{\"error\":{\"code\":\"Type\",\"message\":\"the transformation has no type\",\"target\":\"1\"}}",
+        "Sales?$apply=groupby((rollup($all,OrgID,CustomerID)))",
+    ),
+    (
+        "Sales?$apply=descendants($root/Orgs,OrgTree,OrgID,filter(ParentID eq 'US'))",
+        "400",
+        "{\"error\":{\"code\":\"Type\",\"message\":\"the transformation has no type\",\"target\":\"1\"}}",
+        "Sales?$apply=descendants($root/Orgs,OrgTree,OrgID,filter(Org/ParentID eq 'US'))",
     ),
 ];

@@ -1,5 +1,6 @@
 //! How runs end: limits, faults, and what reads offer.
-ghost use Rattle.std.specs.Prelude.{None};
+ghost use Rattle.std.specs.Prelude.{◌≡◌, None};
+ghost use Rattle.apply_io.specs.Causes.{next_count};
 
 use crate::worlds::{FIRST, PLAIN, RESPONSES};
 use apply_io::{Failed, Source};
@@ -126,15 +127,54 @@ fn past_the_limit_the_lines_within_it_are_answered(rt: HostRuntime) -> Result<()
 const TWO: &[u8] =
     b"Sales?$apply=aggregate(Amount with sum as Total)\nSales?$apply=filter(ID eq 99)/aggregate(Amount with sum as T,$count as N)\n";
 
+/// The responses to them.
+const BOTH: &[u8] =
+    b"200 88\n{\"@context\":\"$metadata#Sales(Total)\",\"value\":[{\"Total@type\":\"Decimal\",\"Total\":\"26.00\"}]}\n200 100\n{\"@context\":\"$metadata#Sales(N,T)\",\"value\":[{\"N@type\":\"Int64\",\"N\":\"0\",\"T@type\":\"Decimal\",\"T\":null}]}\n";
+
+/// The two requests, given 49 bytes a read.
+const IN_PARTS: Case<'static> = Case {
+    input: TWO,
+    most: 49,
+    ..PLAIN
+};
+
+/// No bytes.
+const NOTHING: &[u8] = b"";
+
 #[test]
 fn what_was_written_belongs_to_what_was_taken(rt: HostRuntime) -> Result<(), Fail> {
-    for (input_fails, output_fails, words, status, output) in [
-        (2u64, 0u64, [].as_slice(), Status::ReadFault, FIRST),
-        (0, 1, [].as_slice(), Status::WriteFault, b"".as_slice()),
+    for (input_fails, folder_fails, words, input, status, output) in [
+        (0u64, 0u64, [].as_slice(), TWO, Status::Served, BOTH),
+        (1, 0, [].as_slice(), TWO, Status::ReadFault, NOTHING),
+        (2, 0, [].as_slice(), TWO, Status::ReadFault, FIRST),
+        (3, 0, [].as_slice(), TWO, Status::ReadFault, FIRST),
+        (4, 0, [].as_slice(), TWO, Status::ReadFault, BOTH),
+        (0, 1, [].as_slice(), TWO, Status::ReadFault, NOTHING),
+        (0, 2, [].as_slice(), TWO, Status::ReadFault, NOTHING),
+        (0, 3, [].as_slice(), TWO, Status::ReadFault, NOTHING),
+        (0, 4, [].as_slice(), TWO, Status::ReadFault, NOTHING),
+        (0, 5, [].as_slice(), TWO, Status::Served, BOTH),
+        (
+            0,
+            0,
+            ["--max-bytes", "123"].as_slice(),
+            TWO,
+            Status::Served,
+            BOTH,
+        ),
+        (
+            0,
+            0,
+            ["--max-bytes", "122"].as_slice(),
+            TWO,
+            Status::InputLimit,
+            FIRST,
+        ),
         (
             0,
             0,
             ["--max-bytes", "49"].as_slice(),
+            TWO,
             Status::InputLimit,
             FIRST,
         ),
@@ -142,31 +182,57 @@ fn what_was_written_belongs_to_what_was_taken(rt: HostRuntime) -> Result<(), Fai
             0,
             0,
             ["--max-bytes", "10"].as_slice(),
+            TWO,
             Status::InputLimit,
-            b"".as_slice(),
+            NOTHING,
+        ),
+        (
+            0,
+            0,
+            ["--max-bytes", "0"].as_slice(),
+            TWO,
+            Status::InputLimit,
+            NOTHING,
+        ),
+        (
+            0,
+            0,
+            ["--max-bytes", "0"].as_slice(),
+            NOTHING,
+            Status::Served,
+            NOTHING,
         ),
         (
             0,
             0,
             ["--workers", "0"].as_slice(),
+            TWO,
             Status::Usage,
-            b"".as_slice(),
+            NOTHING,
+        ),
+        (
+            0,
+            0,
+            ["--model", "x"].as_slice(),
+            TWO,
+            Status::Usage,
+            NOTHING,
         ),
     ] {
-        let ran = outcome(
-            &rt,
-            rt.alloc(),
-            &Case {
-                input: TWO,
-                most: 49,
-                input_fails,
-                output_fails,
-                words,
-                ..PLAIN
-            },
-        )?;
-        assert_eq!(rt; ran.status, status);
-        assert_eq!(rt; ran.output.as_slice(), output);
+        let case = Case {
+            input_fails,
+            folder_fails,
+            words,
+            input,
+            ..IN_PARTS
+        };
+        let ran = outcome(&rt, rt.alloc(), &case)?;
+        assert_eq!(rt; ran.status, status, "{input_fails} {folder_fails}");
+        assert_eq!(rt;
+            ran.output.as_slice(),
+            output,
+            "{input_fails} {folder_fails}"
+        );
     }
     let words = texts(rt.alloc(), &["--model", "x", "--data", "d"])?;
     let missing = outcome_of(
@@ -177,7 +243,40 @@ fn what_was_written_belongs_to_what_was_taken(rt: HostRuntime) -> Result<(), Fai
         TWO.to_vec(rt.alloc())?,
     )?;
     assert_eq!(rt; missing.status, Status::ReadFault);
-    assert_eq!(rt; missing.output.as_slice(), b"".as_slice());
+    assert_eq!(rt; missing.output.as_slice(), NOTHING);
+    Ok(())
+}
+
+/// How many writes the two responses take, with at most 49 bytes in each: a head, 49 and 39 bytes of a body and a line end, and a head, 49, 49
+/// and 2 bytes and a line end.
+const WRITES: u64 = 9;
+
+#[test]
+fn whichever_write_fails_a_front_of_the_responses_is_written(rt: HostRuntime) -> Result<(), Fail> {
+    let mut before = 0;
+    for output_fails in 1..=WRITES {
+        let case = Case {
+            output_fails,
+            ..IN_PARTS
+        };
+        let ran = outcome(&rt, rt.alloc(), &case)?;
+        assert_eq!(rt; ran.status, Status::WriteFault, "{output_fails}");
+        assert_eq!(rt;
+            BOTH.starts_with(ran.output.as_slice()),
+            true,
+            "{output_fails}"
+        );
+        assert_eq!(rt; ran.output.is_empty(), output_fails == 1, "{output_fails}");
+        assert_eq!(rt; before <= ran.output.len(), true, "{output_fails}");
+        before = ran.output.len();
+    }
+    let case = Case {
+        output_fails: WRITES + 1,
+        ..IN_PARTS
+    };
+    let ran = outcome(&rt, rt.alloc(), &case)?;
+    assert_eq!(rt; ran.status, Status::Served);
+    assert_eq!(rt; ran.output.as_slice(), BOTH);
     Ok(())
 }
 
@@ -194,6 +293,8 @@ impl Source for OfferedSource {
     ghost left = { λ _. None };
 
     ghost fault_count = { λ _. 0 };
+
+    ghost reads_once = { λ s t. t.reads ≡ next_count s.reads };
 
     fn faults(&self) -> u64 {
         0
@@ -253,6 +354,8 @@ impl Source for LineSource {
     ghost left = { λ _. None };
 
     ghost fault_count = { λ _. 0 };
+
+    ghost reads_once = { λ s t. t.reads ≡ next_count s.reads };
 
     fn faults(&self) -> u64 {
         0

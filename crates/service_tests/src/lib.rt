@@ -2,7 +2,8 @@
 //!
 //! `worlds` has the files and lines that tests share, and `run_support` runs the service over them; `lines` has requests with their
 //! responses, `plans` requests for plans, `files` refused files with their lines, `words` the words of the command, `modes`
-//! what each mode writes, `sizes` requests over many rows, `deep` a hierarchy as deep as it has nodes, and `ends` how runs end.
+//! what each mode writes, `sizes` requests over many rows, `deep` a hierarchy as deep as it has nodes, `workers` runs with several of them, `ends` how runs end, and `hostile` files
+//! and lines that are made to hurt.
 #![tactic(auto)]
 
 #[cfg(test)]
@@ -11,6 +12,8 @@ mod deep;
 mod ends;
 #[cfg(test)]
 mod files;
+#[cfg(test)]
+mod hostile;
 #[cfg(test)]
 mod lines;
 #[cfg(test)]
@@ -21,5 +24,7 @@ mod plans;
 mod sizes;
 #[cfg(test)]
 mod words;
+#[cfg(test)]
+mod workers;
 #[cfg(test)]
 mod worlds;

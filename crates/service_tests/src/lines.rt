@@ -597,6 +597,31 @@ const LOOPED: &[(&str, &str, &str)] = &[
     ),
 ];
 
+/// Compares the response to a request over a model and its data, run as `--plan` says.
+fn expect_answer<'a, R: Threads + Sync + Abort>(
+    rt: &R,
+    alloc: Global,
+    model: &'a str,
+    data: &'a str,
+    words: &'a [&'a str],
+    answer: &'a (&'a str, &'a str, &'a str),
+) -> Result<(), Fail> {
+    let (line, code, body) = answer;
+    let case = Case {
+        model,
+        data,
+        input: line.as_bytes(),
+        words,
+        ..PLAIN
+    };
+    let length = body.len();
+    let expected = format!(in alloc; "{code} {length}\n{body}\n")?;
+    let ran = outcome(rt, alloc, &case)?;
+    assert_eq!(rt; ran.status, Status::Served);
+    assert_eq!(rt; ran.output.as_slice(), expected.as_bytes(), "{line}");
+    Ok(())
+}
+
 /// Compares the responses to requests over a model and its data, by their plans and as they are written.
 pub(crate) fn expect_answers<'a, R: Threads + Sync + Abort>(
     rt: &R,
@@ -605,24 +630,9 @@ pub(crate) fn expect_answers<'a, R: Threads + Sync + Abort>(
     data: &'a str,
     answers: &'a [(&'a str, &'a str, &'a str)],
 ) -> Result<(), Fail> {
-    for (line, code, body) in answers {
-        let length = body.len();
-        let expected = format!(in alloc; "{code} {length}\n{body}\n")?;
-        for words in [
-            ["--plan", "optimised"].as_slice(),
-            ["--plan", "written"].as_slice(),
-        ] {
-            let case = Case {
-                model,
-                data,
-                input: line.as_bytes(),
-                words,
-                ..PLAIN
-            };
-            let ran = outcome(rt, alloc, &case)?;
-            assert_eq!(rt; ran.status, Status::Served);
-            assert_eq!(rt; ran.output.as_slice(), expected.as_bytes(), "{line}");
-        }
+    for answer in answers {
+        expect_answer(rt, alloc, model, data, &["--plan", "optimised"], answer)?;
+        expect_answer(rt, alloc, model, data, &["--plan", "written"], answer)?;
     }
     Ok(())
 }

@@ -47,3 +47,25 @@ fn both_plans_write_the_same_over_50000_sales(rt: HostRuntime) -> Result<(), Fai
     assert_eq!(rt; written.output.as_slice(), optimised.output.as_slice());
     Ok(())
 }
+
+/// The response to three joins of no customer.
+const NONE_JOINED: &str =
+    "200 63\n{\"@context\":\"$metadata#Customers(*,S(*),T(*),U(*))\",\"value\":[]}\n";
+
+#[test]
+fn joins_behind_a_filter_in_the_plan_make_no_row(rt: HostRuntime) -> Result<(), Fail> {
+    let data = String::from_utf8(gen_data(rt.alloc(), 200_000)?)?;
+    let ran = outcome(
+        &rt,
+        rt.alloc(),
+        &Case {
+            model: SAMPLE,
+            data: data.as_str(),
+            input: b"Customers?$apply=join(Sales as S)/join(Sales as T)/join(Sales as U)/filter(Country eq 'XX')\n",
+            ..PLAIN
+        },
+    )?;
+    assert_eq!(rt; ran.status, Status::Served);
+    assert_eq!(rt; ran.output.as_slice(), NONE_JOINED.as_bytes());
+    Ok(())
+}

@@ -1,0 +1,59 @@
+//! Runs with several workers.
+use crate::worlds::PLAIN;
+use apply_service::Status;
+use run_support::{Case, outcome_at, outcome_of, texts};
+use std::test::Fail;
+use test_support::meetings::Meeting;
+use test_support::samples::{SALES_DATA, SAMPLE};
+
+/// One request for each kind of stage that folds in pieces.
+const STAGES: [&str; 5] = [
+    "Sales?$apply=aggregate(Amount with sum as Total)\n",
+    "Sales?$apply=aggregate(Best)\n",
+    "Sales?$apply=groupby((OrgID))\n",
+    "Sales?$apply=groupby((rollup($all,OrgID)))\n",
+    "Sales?$apply=groupby((rolluprecursive($root/Orgs,OrgTree,OrgID)))\n",
+];
+
+#[test]
+fn two_pieces_of_each_stage_are_under_way_together(rt: HostRuntime) -> Result<(), Fail> {
+    for line in STAGES {
+        let gate = Meeting::new();
+        let case = Case {
+            words: &["--workers", "2"],
+            model: SAMPLE,
+            data: SALES_DATA,
+            input: line.as_bytes(),
+            ..PLAIN
+        };
+        let ran = outcome_at(&rt, rt.alloc(), &case, &gate)?;
+        assert_eq!(rt; ran.status, Status::Served);
+        assert!(rt; gate.met(), "no two pieces of {line}");
+    }
+    Ok(())
+}
+
+#[test]
+fn generated_worlds_have_one_answer_for_all_workers(rt: HostRuntime) -> Result<(), Fail> {
+    let alloc = rt.alloc();
+    let words = texts(
+        alloc,
+        &["--mode", "gen", "--count", "3000", "--workers", "1"],
+    )?;
+    let alone = outcome_of(&rt, alloc, &PLAIN, words.as_slice(), Vec::new(alloc))?;
+    assert_eq!(rt; alone.status, Status::Served);
+    for workers in ["2", "7", "64"] {
+        let words = texts(
+            alloc,
+            &["--mode", "gen", "--count", "3000", "--workers", workers],
+        )?;
+        let ran = outcome_of(&rt, alloc, &PLAIN, words.as_slice(), Vec::new(alloc))?;
+        assert_eq!(rt; ran.status, Status::Served);
+        assert_eq!(rt;
+            ran.output.as_slice(),
+            alone.output.as_slice(),
+            "by {workers}"
+        );
+    }
+    Ok(())
+}
