@@ -1,11 +1,11 @@
+pub mod HeadLemmas
+pub mod HeldLists
+pub mod IdleLemmas
 pub mod PlanMeaning
 mod PlanSteps
 mod PlanTurns
-mod SettledFacts
-mod SettledPassing
-mod SettledRules
-mod SettledResults
-mod SettledEnd
-mod SettledPlan
-mod SettledTrees
-mod SegmentLists
+pub mod SteppingLemmas
+pub mod TypedInside
+pub mod WalkTrees
+pub mod WalkedLemmas
+pub mod WalkedSteps

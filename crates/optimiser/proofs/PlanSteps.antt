@@ -15,8 +15,8 @@ use Rattle.rewrite_rules.specs.declared.rules.RuleName.{RuleName}
 use Rattle.rewrite_rules.proofs.FirstPlaces.{mapped-next, mapped-whole}
 use Rattle.rewrite_laws.specs.RewriteLaws.{MayStandFor}
 use Rattle.rewrite_laws.specs.Rewrites.{Rule, first_rewrite, rules}
-use Rattle.optimiser.specs.Plans.{IsFirstOf}
-use Rattle.optimiser.specs.Settled.{early_rules, later_rules}
+use Rattle.walk_laws.specs.Walks.{Early, rules_of}
+use Rattle.optimiser.specs.Plans.{IsFirstOf, later_rules}
 
 -- a search in a list, and then in another
 pub found-append : {X Y : Type 0} (f : X → Option Y) (xs ys : List X) → find_map f (xs ++ ys) ≡ first_some (find_map f xs) (find_map f ys)
@@ -71,9 +71,8 @@ module _ (m : Model) (c : Customs) (t : Typed) where
       let first = subst (IsFirst r m c t) e h in
       typing-kept q first.0 first.1 (subst (MayStand m c t) e k)
 
--- the rules behind those that come first, as a slice has them
-pub later-of : (ns : List RuleName) → map rule_of ns ≡ rules → map rule_of (take (length later_rules) (drop (length early_rules) ns)) ≡ later_rules
+-- the rules behind those of the early walk, as a slice has them
+pub later-of : (ns : List RuleName) → map rule_of ns ≡ rules → map rule_of (take (length later_rules) (drop (length (rules_of Early)) ns)) ≡ later_rules
 later-of ns e =
-    sym (take-map rule_of (length later_rules) (drop (length early_rules) ns))
-    ∙ ap (take (length later_rules)) (sym (drop-map rule_of (length early_rules) ns))
-    ∙ ap (λ l. take (length later_rules) (drop (length early_rules) l)) e
+    let early = length (rules_of Early) in
+    sym (take-map rule_of (length later_rules) (drop early ns)) ∙ ap (take (length later_rules)) (sym (drop-map rule_of early ns)) ∙ ap (λ l. take (length later_rules) (drop early l)) e

@@ -6,6 +6,10 @@ pub use Rattle.context_typing.specs.Typing
 pub use Rattle.apply_meaning.specs.MeaningLaws
 pub use Rattle.rewrite_laws.specs.RewriteLaws
 pub use Rattle.rewrite_laws.specs.Rewrites
+pub use Rattle.walk_laws.specs.Walks
+pub mod HeadForms
+pub mod HeldSegments
+pub mod IdleForms
 pub mod Plans
-pub mod Settled
-pub mod SegmentViews
+pub mod WalkForms
+pub mod WalkRules

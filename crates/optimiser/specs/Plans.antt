@@ -1,13 +1,13 @@
 -- Plans as their two typings, and one rewrite of a typed pipeline.
-use Rattle.std.specs.Prelude.{◌≡◌, ◌⊎◌, ℕ, List, Option, Some, None, unwrap_or}
+use Rattle.std.specs.Prelude.{◌≡◌, ◌⊎◌, List, Option, Some, None, drop, length, unwrap_or}
 use Rattle.edm_values.specs.Lists.{find_map}
 use Rattle.edm_model.specs.Models.{Model}
 use Rattle.apply_ast.specs.Views.{pipe_of}
 use Rattle.context_typing.specs.Answers.{IsTyping}
 use Rattle.context_typing.specs.Typing.{Customs, shape_of_set}
 use Rattle.context_typing.specs.declared.typed.Typed.{Typed}
-use Rattle.rewrite_laws.specs.Rewrites.{Rule, IsPlanOf, first_rewrite, rewritten, rules}
-use Rattle.optimiser.specs.Settled.{early_rules}
+use Rattle.rewrite_laws.specs.Rewrites.{Rule, IsPlanOf, first_rewrite, rules}
+use Rattle.walk_laws.specs.Walks.{Rules, Early, rules_of, walk}
 use Rattle.optimiser.specs.declared.plans.Plan.{Plan}
 
 -- the typing of the pipeline that was written
@@ -44,15 +44,15 @@ IsFirstOf rs m c t (Some q) = (q.set ≡ t.set) × (q.shape ≡ t.shape) × (fin
 abbrev pub IsNext : Model → Customs → Typed → Option Typed → Type 0
 IsNext = IsFirstOf rules
 
--- a typed pipeline comes from another by rewrites, and has its set and its shape
-pub record IsReached (m : Model) (c : Customs) (t q : Typed) : Type 0 where
+-- the rules behind those of the early walk
+abbrev pub later_rules : List Rule
+later_rules = drop (length (rules_of Early)) rules
+
+-- a typed pipeline settled in one walk, with its set and its shape
+pub record IsWalked (w : Rules) (m : Model) (c : Customs) (t q : Typed) : Type 0 where
   pub set : q.set ≡ t.set
   pub shape : q.shape ≡ t.shape
-  pub pipe : (n : ℕ) × (rewritten n m c (shape_of_set m t.set) (pipe_of t.pipe) ≡ Some (pipe_of q.pipe))
-
--- none of the rules that come first applies to a typed pipeline
-abbrev pub IsEarlySettled : Model → Customs → Typed → Type 0
-IsEarlySettled m c t = IsFirstOf early_rules m c t None
+  pub pipe : pipe_of q.pipe ≡ walk w m c (shape_of_set m t.set) (pipe_of t.pipe)
 
 -- the plan of a typed pipeline, with its set and its shape
 pub record IsTypedPlan (m : Model) (c : Customs) (t q : Typed) : Type 0 where

@@ -10,14 +10,22 @@ ghost use Rattle.context_typing.specs.Typing.{customs_typed, shape_of_set};
 ghost use Rattle.context_typing.specs.Typing as typing;
 ghost use Rattle.rewrite_laws.specs.RewriteLaws.{MayStandFor};
 ghost use Rattle.rewrite_laws.specs.Rewrites.{IsPlanOf};
-ghost use Rattle.optimiser.specs.Plans.{AreOneTyping, IsEarlySettled, IsPlan, IsReached, IsTypedPlan, own_of, written_of};
+ghost use Rattle.walk_laws.specs.Walks as walks;
+ghost use Rattle.optimiser.specs.Plans.{AreOneTyping, IsPlan, IsTypedPlan, IsWalked, own_of, written_of};
+ghost use Rattle.optimiser.specs.WalkRules.{rules_named};
 
 use crate::rewriting::later_rewrite;
-use crate::settling::settled_pipe;
+use crate::rules::Rules;
+use crate::unbranched::is_unbranched;
+use crate::walking::walk;
 use apply_ast::Pipe;
 use context_typing::{Customs, Typed, set_shape};
 use edm_model::Model;
 use std::alloc::{AllocError, Global};
+use walk_laws::{
+    early_walk_is_plan, early_walk_keeps_meaning, early_walk_keeps_plan, later_rules_follow,
+    walk_is_plan,
+};
 
 /// A pipeline that was written, and the pipeline that is run in its place. Where nothing is in its place, it is run itself.
 #[derive(Debug, Drop)]
@@ -57,28 +65,44 @@ impl Plan {
     }
 }
 
-/// A typed pipeline after the rules that come first, as long as one of them applies: made in one pass over it.
+/// A typed pipeline settled in one walk.
+fn walked(
+    alloc: Global,
+    m: &Model,
+    c: &Customs,
+    rules: Rules,
+    t: &Typed,
+) -> Result<Typed, AllocError>
+    requires set { IsSet m.now t.now.set }
+    requires customs { AreTypedOver m.now c.now }
+    requires typing { IsTyping m.now (readings c.now) t.now }
+    ensures { IfOk result (IsWalked (rules_named rules) m.now (readings c.now) t.now) }
+{
+    let _sets = m.sets();
+    let start = set_shape(alloc, m.set_type(t.set));
+    let pipe = walk(alloc, m, c, rules, &t.pipe, &start)?;
+    Ok(Typed {
+        set: t.set,
+        pipe,
+        shape: t.shape.copy(alloc)?,
+    })
+}
+
+/// A typed pipeline settled in one walk by the rules that come first.
 fn settled(alloc: Global, m: &Model, c: &Customs, t: &Typed) -> Result<Typed, AllocError>
     requires set { IsSet m.now t.now.set }
     requires customs { AreTypedOver m.now c.now }
     requires whole { IsTrue (customs_typed m.now (readings c.now)) }
     requires typing { IsTyping m.now (readings c.now) t.now }
-    ensures reached { IfOk result (IsReached m.now (readings c.now) t.now) }
+    ensures value { IfOk result (IsWalked walks.Rules.Early m.now (readings c.now) t.now) }
     ensures typing { IfOk result (IsTyping m.now (readings c.now)) }
-    ensures early { IfOk result (IsEarlySettled m.now (readings c.now)) }
 {
-    let _sets = m.sets();
-    let start = set_shape(alloc, m.set_type(t.set));
-    let pipe = settled_pipe(alloc, m, c, &t.pipe, &start)?;
-    let shape = t.shape.copy(alloc)?;
-    Ok(Typed {
-        set: t.set,
-        pipe,
-        shape,
-    })
+    early_walk_keeps_meaning();
+    walked(alloc, m, c, Rules::Early, t)
 }
 
-/// The plan of a typed pipeline: settled, and settled again behind each rewrite by another rule, until none applies.
+/// The plan of a typed pipeline. One walk by all rules makes it of a pipeline without a concatenation. Any other is settled by the
+/// rules that come first, and again behind each rewrite by a later rule, until none applies.
 fn planned(alloc: Global, m: &Model, c: &Customs, t: &Typed) -> Result<Typed, AllocError>
     requires set { IsSet m.now t.now.set }
     requires customs { AreTypedOver m.now c.now }
@@ -86,6 +110,13 @@ fn planned(alloc: Global, m: &Model, c: &Customs, t: &Typed) -> Result<Typed, Al
     requires typing { IsTyping m.now (readings c.now) t.now }
     ensures { IfOk result (IsTypedPlan m.now (readings c.now) t.now) }
 {
+    walk_is_plan();
+    if is_unbranched(&t.pipe) {
+        return walked(alloc, m, c, Rules::All, t);
+    }
+    early_walk_is_plan();
+    early_walk_keeps_plan();
+    later_rules_follow();
     let mut current = settled(alloc, m, c, t)?;
     while let Some(after) = later_rewrite(alloc, m, c, &current)? {
         let next = settled(alloc, m, c, &after)?;

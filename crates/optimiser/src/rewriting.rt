@@ -9,16 +9,15 @@ ghost use Rattle.context_typing.specs.Typing.{customs_typed, shape_of_set};
 ghost use Rattle.rewrite_laws.specs.RewriteLaws.{MayStandFor};
 ghost use Rattle.rewrite_laws.specs.Rewrites.{rules};
 ghost use Rattle.rewrite_rules.specs.Places.{MayStand, rule_of};
-ghost use Rattle.optimiser.specs.Plans.{IsFirstOf, IsNext};
-ghost use Rattle.optimiser.specs.Settled.{later_rules};
+ghost use Rattle.optimiser.specs.Plans.{IsFirstOf, IsNext, later_rules};
 
 use context_typing::{Customs, Typed};
 use edm_model::Model;
 use rewrite_rules::{RuleName, first_place};
 use std::alloc::{AllocError, Global};
 
-/// How many rules come first, by which a pipeline is settled in one pass.
-const EARLY: usize = 5;
+/// How many rules come first, by which any pipeline is settled in one walk.
+const EARLY: usize = 8;
 
 /// The rules, in their order.
 fn all_rules() -> [RuleName; 18]
@@ -89,7 +88,7 @@ pub fn next_rewrite(
     first_of(alloc, m, c, &all, t)
 }
 
-/// The same of the rules that come after those by which a pipeline is settled in one pass.
+/// The same of the rules that come after those by which any pipeline is settled in one walk.
 pub(crate) fn later_rewrite(
     alloc: Global,
     m: &Model,

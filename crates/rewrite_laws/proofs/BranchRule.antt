@@ -22,11 +22,11 @@ use Rattle.rewrite_laws.proofs.EndedPipes.{ended-long, ended-hierarchies, ended-
 use Rattle.rewrite_laws.proofs.JoinedResults.{filter-joined}
 
 -- the branches, each with the filter at its end
-abbrev all_ended : Expr → Pipes → Pipes
+abbrev pub all_ended : Expr → Pipes → Pipes
 all_ended b Pipes.NoPipes = Pipes.NoPipes
 all_ended b (Pipes.MorePipes p ps) = Pipes.MorePipes (ended p (Step.Filter b)) (all_ended b ps)
 
-concat-ended : (b : Expr) (ps : Pipes) → pipes_from (map (λ p. ended p (Step.Filter b)) (branches ps)) ≡ all_ended b ps
+pub concat-ended : (b : Expr) (ps : Pipes) → pipes_from (map (λ p. ended p (Step.Filter b)) (branches ps)) ≡ all_ended b ps
 concat-ended b Pipes.NoPipes = refl
 concat-ended b (Pipes.MorePipes p ps) = ap (Pipes.MorePipes (ended p (Step.Filter b))) (concat-ended b ps)
 
@@ -44,6 +44,14 @@ ended-shapes m c S b (Pipes.MorePipes p ps) Ss e h =
     let t = and_parts (is_some_and (λ S'. has_kind is_boolean_kind m S' b) (steps_shape m c S p)) _ h in
     let kind = sym (ap (is_some_and (λ S'. has_kind is_boolean_kind m S' b)) y.1) ∙ t.0 in
     λ i. ((λ i. if ended-long p (Step.Filter b) i then ended-shape m c S x.0 p b y.1 kind i else None) ∙ sym x.1) i ∷ ended-shapes m c S b ps x.2 x.3 t.1 i
+
+-- the concatenation of the branches with the filter has the shape of the concatenation
+pub taken-shape : (m : Model) (c : Customs) (S S1 : Shape) (b : Expr) (ps : Pipes) → step_shape m c S (Step.Concat ps) ≡ Some S1
+    → list_all (λ p. is_some_and (λ S'. has_kind is_boolean_kind m S' b) (steps_shape m c S p)) (branches ps) ≡ true → step_shape m c S (concat (map (λ p. ended p (Step.Filter b)) (branches ps))) ≡ Some S1
+unfolding steps_shape
+taken-shape m c S S1 b ps e t =
+    let Ss = chained (concat_shape m) (all_some (branch_shapes m c S ps)) S1 e in
+    (λ i. option_and_then (concat_shape m) (all_some (branch_shapes m c S (concat-ended b ps i)))) ∙ ap (λ o. option_and_then (concat_shape m) (all_some o)) (ended-shapes m c S b ps Ss.0 Ss.1 t) ∙ e
 
 ended-means : (w : World) (c : Customs) (S S1 : Shape) (b : Expr) (ps : Pipes) (l : List Instance) (Ss : List Shape) → all_some (branch_shapes w.model c S ps) ≡ Some Ss
     → branch_means w c S (all_ended b ps) l ≡ map (option_and_then (step_mean w c S1 (Step.Filter b))) (branch_means w c S ps l)
@@ -65,7 +73,7 @@ filter_branches-keeps_meaning A L w c S S' before (Step.Concat ps) ss ss' k law 
     (λ b. concat (map (λ p. ended p (Step.Filter b)) (branches ps))) (ap (λ o. unwrap_or o S) S1.1) e got
     (λ b n z. subst (λ hs. Contains hs n) (ap branch_hierarchies (concat-ended b ps) ∙ branches-hierarchies b ps) z)
     (λ b t h. (
-      (λ i. option_and_then (concat_shape w.model) (all_some (branch_shapes w.model c S (concat-ended b ps i)))) ∙ ap (λ o. option_and_then (concat_shape w.model) (all_some o)) (ended-shapes w.model c S b ps Ss.0 Ss.1 t) ∙ S1.1,
+      taken-shape w.model c S S1.0 b ps S1.1 t,
       λ u l f. ap (λ qs. joined (branch_means w c S qs l)) (concat-ended b ps) ∙ ap joined (ended-means w c S S1.0 b ps l Ss.0 Ss.1) ∙ sym (filter-joined w c S1.0 b (branch_means w c S ps l)),
     ))
 filter_branches-keeps_meaning A L w c S S' before s ss ss' k law e got = none_or ss' got

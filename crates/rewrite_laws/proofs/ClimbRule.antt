@@ -13,11 +13,12 @@ use Rattle.edm_values.specs.Values.{is_beyond}
 use Rattle.edm_values.proofs.OptionFacts.{none_or, some_and, chained, then_some-parts}
 use Rattle.edm_values.proofs.Reorderings.{Reorders, reorders-map, any-reorders, reorders-after, reorders-filter_map}
 use Rattle.edm_model.specs.LookUps.{HierarchyPlace}
+use Rattle.edm_model.specs.Models.{Model}
 use Rattle.edm_data.specs.Worlds.{World}
 use Rattle.edm_data.specs.Nodes.{parents_of}
 use Rattle.edm_data.specs.References.{by_key}
 use Rattle.edm_data.specs.Hierarchies.{ancestor_rows, descendant_rows, rows_whose, is_descendant}
-use Rattle.apply_ast.specs.Trees.{HierName, Step, pipe, steps, is_long, is_distance}
+use Rattle.apply_ast.specs.Trees.{HierName, Pipe, Step, pipe, steps, is_long, is_distance}
 use Rattle.context_typing.specs.Shapes.{Shape}
 use Rattle.context_typing.specs.Typing.{Customs, steps_shape, step_shape, hierarchy_at, is_node_path, path_kind, customs_typed, is_lawful}
 use Rattle.apply_meaning.specs.Instances.{Instance, lookup}
@@ -153,29 +154,40 @@ module _ (A : World → Type 0) (L : Laws A) (w : World) (c : Customs) (k : IsTr
       fewer : (n : HierName) → Contains (h ∷ hierarchies (pipe_or_identity front)) n → Contains (h ∷ hierarchies (pipe (front ++ x ∷ []))) n
       fewer n z = subst (λ hs. Contains (h ∷ hs) n) (sym (hierarchies-append front (x ∷ []))) (Contains-append_left (h ∷ hierarchies (pipe front)) (hierarchies (pipe (x ∷ []))) n (subst (λ hs. Contains (h ∷ hs) n) (identity-hierarchies front) z))
 
-pub drop_idle-keeps_meaning : (A : World → Type 0) → Laws A → KeepsMeaningInPlace A drop_idle
+-- what the rule finds: the last step and the shapes before and behind it, and that it is idle there
+pub record DropsLast (m : Model) (c : Customs) (S : Shape) (up : Bool) (h : HierName) (p : Path) (T : Pipe) (d : Option ℕ) (keep : Bool) (ss ss' : List Step) : Type 0 where
+  pub last : Step
+  pub whole : T ≡ pipe (all_but_last T ++ last ∷ [])
+  pub before_last : Shape
+  pub front : steps_shape m c S (pipe (all_but_last T)) ≡ Some before_last
+  pub behind_last : Shape
+  pub typed : step_shape m c before_last last ≡ Some behind_last
+  pub idle : is_idle m before_last p last ≡ true
+  pub made : Step.Climb up h p (pipe_or_identity (all_but_last T)) d keep ∷ ss ≡ ss'
+
+pub drops-last : (m : Model) (c : Customs) (S S' : Shape) (before up : Bool) (h : HierName) (p : Path) (T : Pipe) (d : Option ℕ) (keep : Bool) (ss ss' : List Step) → steps_shape m c S (pipe (Step.Climb up h p T d keep ∷ ss)) ≡ Some S'
+    → drop_idle m c S before (Step.Climb up h p T d keep) ss ≡ Some ss' → DropsLast m c S up h p T d keep ss ss'
 unfolding steps_shape
-drop_idle-keeps_meaning A L w c S S' before (Step.Climb up h p T d keep) ss ss' k law e got =
-    let t = chained (λ x. then_some (is_some_and (λ S'. is_idle w.model S' p x) (steps_shape w.model c S (pipe (all_but_last T)))) (Step.Climb up h p (pipe_or_identity (all_but_last T)) d keep ∷ ss)) (last_or None (steps T)) ss' got in
-    let u = then_some-parts (is_some_and (λ S'. is_idle w.model S' p t.0) (steps_shape w.model c S (pipe (all_but_last T)))) (Step.Climb up h p (pipe_or_identity (all_but_last T)) d keep ∷ ss) ss' t.2 in
-    let v = some_and (λ S'. is_idle w.model S' p t.0) (steps_shape w.model c S (pipe (all_but_last T))) u.0 in
+drops-last m c S S' before up h p T d keep ss ss' e got =
+    let t = chained (λ x. then_some (is_some_and (λ S'. is_idle m S' p x) (steps_shape m c S (pipe (all_but_last T)))) (Step.Climb up h p (pipe_or_identity (all_but_last T)) d keep ∷ ss)) (last_or None (steps T)) ss' got in
+    let u = then_some-parts (is_some_and (λ S'. is_idle m S' p t.0) (steps_shape m c S (pipe (all_but_last T)))) (Step.Climb up h p (pipe_or_identity (all_but_last T)) d keep ∷ ss) ss' t.2 in
+    let v = some_and (λ S'. is_idle m S' p t.0) (steps_shape m c S (pipe (all_but_last T))) u.0 in
     let whole : T ≡ pipe (all_but_last T ++ t.0 ∷ []) = sym (pipe-steps T) ∙ ap pipe (last-split (steps T) t.0 t.1) in
-    let R = typed-last t.0 v.0 whole v.1 in
+    let first = chained (λ Z. steps_shape m c Z (pipe ss)) (step_shape m c S (Step.Climb up h p T d keep)) S' e in
+    let conditions = then_some-parts (is_node_path m S h p && is_distance d && is_long T && is_some_and (λ R. is_node_path m R h p) (steps_shape m c S T)) S first.0 first.1 in
+    let inner = some_and (λ R. is_node_path m R h p) (steps_shape m c S T) (and_parts (is_node_path m S h p && is_distance d && is_long T) _ conditions.0).1 in
+    let by_parts = sym (ap (option_and_then (λ Z. steps_shape m c Z (pipe (t.0 ∷ [])))) v.1) ∙ sym (shape-append m c S (all_but_last T) (t.0 ∷ [])) ∙ sym (ap (steps_shape m c S) whole) ∙ inner.1 in
+    let step = chained (λ Z. Some Z) (step_shape m c v.0 t.0) inner.0 by_parts in
+    record { last = t.0; whole = whole; before_last = v.0; front = v.1; behind_last = step.0; typed = step.1; idle = v.2; made = u.1 }
+
+pub drop_idle-keeps_meaning : (A : World → Type 0) → Laws A → KeepsMeaningInPlace A drop_idle
+drop_idle-keeps_meaning A L w c S S' before (Step.Climb up h p T d keep) ss ss' k law e got =
+    let D = drops-last w.model c S S' before up h p T d keep ss ss' e got in
     let K : List Step → Type 0 = λ z. IsTrue (before || is_long (pipe z)) × SameMeaning A w c S (pipe (Step.Climb up h p T d keep ∷ ss)) (pipe z) in
-    subst K u.1 (
+    subst K D.made (
       or_right before true refl,
       step-replaced A w c S (Step.Climb up h p T d keep) (Step.Climb up h p (pipe_or_identity (all_but_last T)) d keep) (pipe ss)
-          (subst (λ Z. SameStep A w c S (Step.Climb up h p Z d keep) (Step.Climb up h p (pipe_or_identity (all_but_last T)) d keep)) (sym whole)
-          (dropped-same A L w c k S law up h p d keep (all_but_last T) t.0 v.0 R.0 v.1 R.1 (idle-holds A L w c v.0 R.0 p t.0 R.1 v.2))),
+          (subst (λ Z. SameStep A w c S (Step.Climb up h p Z d keep) (Step.Climb up h p (pipe_or_identity (all_but_last T)) d keep)) (sym D.whole)
+          (dropped-same A L w c k S law up h p d keep (all_but_last T) D.last D.before_last D.behind_last D.front D.typed (idle-holds A L w c D.before_last D.behind_last p D.last D.typed D.idle))),
     )
-  where
-    -- the last step is typed behind the others
-    typed-last : (x : Step) (SF : Shape) → T ≡ pipe (all_but_last T ++ x ∷ []) → steps_shape w.model c S (pipe (all_but_last T)) ≡ Some SF → (R : Shape) × (step_shape w.model c SF x ≡ Some R)
-    typed-last x SF whole typed =
-        let first = chained (λ Z. steps_shape w.model c Z (pipe ss)) (step_shape w.model c S (Step.Climb up h p T d keep)) S' e in
-        let conditions = then_some-parts (is_node_path w.model S h p && is_distance d && is_long T && is_some_and (λ R. is_node_path w.model R h p) (steps_shape w.model c S T)) S first.0 first.1 in
-        let inner = some_and (λ R. is_node_path w.model R h p) (steps_shape w.model c S T) (and_parts (is_node_path w.model S h p && is_distance d && is_long T) _ conditions.0).1 in
-        let by_parts = sym (ap (option_and_then (λ Z. steps_shape w.model c Z (pipe (x ∷ [])))) typed) ∙ sym (shape-append w.model c S (all_but_last T) (x ∷ [])) ∙ sym (ap (steps_shape w.model c S) whole) ∙ inner.1 in
-        let step = chained (λ Z. Some Z) (step_shape w.model c SF x) inner.0 by_parts in
-        (step.0, step.1)
 drop_idle-keeps_meaning A L w c S S' before s ss ss' k law e got = none_or ss' got

@@ -3,7 +3,7 @@ use Rattle.std.proofs.Common.{◌≡◌, refl, sym, ◌∙◌, ap, Bool, true, f
 use Rattle.std.specs.Prelude.{option_map, unwrap_or}
 use Rattle.std.specs.List.{list_any}
 use Rattle.std.proofs.lemmas.Bool.{or_parts, not-true, false_from_ne_true, true≢false}
-use Rattle.edm_values.specs.Lists.{all_some, first_some}
+use Rattle.edm_values.specs.Lists.{all_some, first_some, is_some_and}
 use Rattle.edm_values.specs.Names.{Path}
 use Rattle.edm_values.specs.declared.Value.{Value}
 use Rattle.edm_values.proofs.OptionFacts.{chained, then_some-parts, first_some-None}
@@ -13,7 +13,7 @@ use Rattle.edm_data.specs.Worlds.{World}
 use Rattle.apply_ast.specs.Trees.{Named}
 use Rattle.context_typing.specs.Paths.{same_path, at_path}
 use Rattle.context_typing.specs.Shapes.{Shape}
-use Rattle.context_typing.specs.Typing.{path_kind, path_property, compute_shape, new_column, expr_kind, is_sure, widened}
+use Rattle.context_typing.specs.Typing.{path_kind, path_property, compute_shape, new_column, expr_kind, is_risky, is_sure, widened}
 use Rattle.context_typing.proofs.PathLemmas.{same_paths, path-self}
 use Rattle.context_typing.proofs.TypingLaw.{computed-paths, names_paths}
 use Rattle.apply_meaning.specs.Instances.{extended, Instance, val, lookup, prefix_value}
@@ -43,6 +43,13 @@ computed-kind m S T ns z p n =
     let none = no-entry (λ c. c.path) p t.0 (ap (list_any (same_path p)) (computed-paths m S ns t.0 t.1) ∙ not-true _ n) in
     ap (λ Z. path_kind m Z p) (sym u.1)
     ∙ ap (λ o. elim o [ Some c ↦ Some c.kind | None ↦ option_map (λ x. widened x.kind) (path_property m S p) ]) (at-left (λ c. c.path) S.columns t.0 p none)
+
+pub computed-risk : (m : Model) (S T : Shape) (ns : List Named) → compute_shape m S ns ≡ Some T → (p : Path) → is_old ns p ≡ true → is_risky T p ≡ is_risky S p
+computed-risk m S T ns z p n =
+    let t = chained _ (all_some (map (λ x. option_map (λ k. new_column x.name k (not (is_sure m S x.expr))) (expr_kind m S x.expr)) ns)) T z in
+    let u = then_some-parts _ _ T t.2 in
+    let none = no-entry (λ c. c.path) p t.0 (ap (list_any (same_path p)) (computed-paths m S ns t.0 t.1) ∙ not-true _ n) in
+    ap (λ Z. is_risky Z p) (sym u.1) ∙ ap (is_some_and (λ c. c.risky)) (at-left (λ c. c.path) S.columns t.0 p none)
 
 -- an instance with the new columns
 abbrev pub computed : World → List Named → Instance → Instance

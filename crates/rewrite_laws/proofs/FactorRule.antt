@@ -22,7 +22,7 @@ use Rattle.context_typing.proofs.WalkFacts.{pipe-steps}
 use Rattle.rewrite_laws.proofs.StepLists.{identity-shape, identity-mean, identity-hierarchies, identity-long}
 
 -- a pipeline that begins with a step is that step and what follows
-begins-with : (x : Step) (p : Pipe) → is_some_and (step_same x) (slice_get (steps p) 0) ≡ true → (q : Pipe) × (p ≡ Pipe.Then x q) × (drop 1 (steps p) ≡ steps q)
+pub begins-with : (x : Step) (p : Pipe) → is_some_and (step_same x) (slice_get (steps p) 0) ≡ true → (q : Pipe) × (p ≡ Pipe.Then x q) × (drop 1 (steps p) ≡ steps q)
 begins-with x Pipe.End h = cc
 begins-with x (Pipe.Then y q) h = (q, (λ i. Pipe.Then (sym (same-steps x y h) i) q), refl)
 
@@ -35,11 +35,11 @@ rest-mean w c S q l = identity-mean w c S (steps q) l ∙ ap (λ p. mean w c S p
 rest-hierarchies : (q : Pipe) → hierarchies (pipe_or_identity (steps q)) ≡ hierarchies q
 rest-hierarchies q = identity-hierarchies (steps q) ∙ ap hierarchies (pipe-steps q)
 
-abbrev rests : Pipes → Pipes
+abbrev pub rests : Pipes → Pipes
 rests Pipes.NoPipes = Pipes.NoPipes
 rests (Pipes.MorePipes p ps) = Pipes.MorePipes (rest p) (rests ps)
 
-concat-rests : (ps : Pipes) → pipes_from (map rest (branches ps)) ≡ rests ps
+pub concat-rests : (ps : Pipes) → pipes_from (map rest (branches ps)) ≡ rests ps
 concat-rests Pipes.NoPipes = refl
 concat-rests (Pipes.MorePipes p ps) = ap (Pipes.MorePipes (rest p)) (concat-rests ps)
 
@@ -53,7 +53,7 @@ rest-names x (Pipes.MorePipes p ps) h n z =
       | inr y ↦ Contains-append_right (hierarchies p) (branch_hierarchies ps) n (rest-names x ps t.1 n y)
     ]
 
-rest-shapes : (m : Model) (c : Customs) (S S1 : Shape) (x : Step) (ps : Pipes) → step_shape m c S x ≡ Some S1 → Begin x ps ≡ true → branch_shapes m c S1 (rests ps) ≡ branch_shapes m c S ps
+pub rest-shapes : (m : Model) (c : Customs) (S S1 : Shape) (x : Step) (ps : Pipes) → step_shape m c S x ≡ Some S1 → Begin x ps ≡ true → branch_shapes m c S1 (rests ps) ≡ branch_shapes m c S ps
 unfolding steps_shape
 rest-shapes m c S S1 x Pipes.NoPipes e h = refl
 rest-shapes m c S S1 x (Pipes.MorePipes p ps) e h =

@@ -292,7 +292,7 @@ module _ (w : World) (c : Customs) (S S1 : Shape) (ks : Keys) (T : OptPipe) (g :
   no_own : (p : Path) → is_among (key_paths (group_keys ks)) p ≡ true → column_at g.inner p ≡ None
   no_own p a = none-is (column_at g.inner p) (not-true _ (among-passes (λ p. not (is_some (column_at g.inner p))) (key_paths (group_keys ks)) p a g.lacks))
 
-  key-kind : (p : Path) → is_among (row_keys ks) p ≡ true → path_kind w.model S1 p ≡ path_kind w.model S p
+  pub key-kind : (p : Path) → is_among (row_keys ks) p ≡ true → path_kind w.model S1 p ≡ path_kind w.model S p
   key-kind p a =
       let x = key-at w.model S g.inner (group_keys ks) p a (no_own p (every_key p a)) in
       sym (ap (λ Z. path_kind w.model Z p) g.shape_is) ∙ kind-of_column w.model (record g.inner { columns = (g.inner).columns ++ key_columns w.model S (group_keys ks) }) p x.0 x.1 ∙ ap (λ z. Some z) x.2
@@ -302,7 +302,7 @@ module _ (w : World) (c : Customs) (S S1 : Shape) (ks : Keys) (T : OptPipe) (g :
       whole None h = cc
       whole (Some k) h = refl
 
-  key-risk : (p : Path) → is_among (row_keys ks) p ≡ true → is_risky S1 p ≡ is_risky S p
+  pub key-risk : (p : Path) → is_among (row_keys ks) p ≡ true → is_risky S1 p ≡ is_risky S p
   key-risk p a =
       let x = key-at w.model S g.inner (group_keys ks) p a (no_own p (every_key p a)) in
       sym (ap (λ Z. is_risky Z p) g.shape_is) ∙ ap (is_some_and (λ c. c.risky)) x.1 ∙ x.3

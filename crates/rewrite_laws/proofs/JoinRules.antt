@@ -78,13 +78,13 @@ bound-values w outer a i rs b h = go (outer && not (is_nonempty rs))
 -- ---- a typed join
 
 module _ (w : World) (c : Customs) (S S1 : Shape) (outer : Bool) (n a : Name) (T : OptPipe) (LS : Law w.model S) (J : IsJoin w.model c S outer n a T S1) where
-  join-kinds : (p : Path) → apart_from a p ≡ true → path_kind w.model S1 p ≡ path_kind w.model S p
+  pub join-kinds : (p : Path) → apart_from a p ≡ true → path_kind w.model S1 p ≡ path_kind w.model S p
   join-kinds p b =
       sym (ap (λ Z. path_kind w.model Z p) J.shape_is)
       ∙ (λ i. elim (at-left (λ x. x.path) S.columns (map (column_under outer a) (J.inner).columns) p (hidden (λ x. x.path) a (column_under outer a) (λ x. refl) (J.inner).columns p (not-true _ b)) i)
       [ Some c ↦ Some c.kind | None ↦ option_map (λ x. widened x.kind) (property-left w.model outer a S J.inner LS J.inner_law J.free J.root J.root_is p (not-true _ b) i) ])
 
-  join-risks : (p : Path) → apart_from a p ≡ true → is_risky S1 p ≡ is_risky S p
+  pub join-risks : (p : Path) → apart_from a p ≡ true → is_risky S1 p ≡ is_risky S p
   join-risks p b = sym (ap (λ Z. is_risky Z p) J.shape_is) ∙ ap (is_some_and (λ c. c.risky)) (at-left (λ x. x.path) S.columns (map (column_under outer a) (J.inner).columns) p (hidden (λ x. x.path) a (column_under outer a) (λ x. refl) (J.inner).columns p (not-true _ b)))
 
   -- a join whose pipeline is quiet is a list of blocks

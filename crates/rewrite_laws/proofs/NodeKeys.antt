@@ -44,13 +44,13 @@ module _ (w : World) (c : Customs) where
   plain-typed S (Keys.MoreKeys (Key.Rollup all ps) ks) e = cc
   plain-typed S (Keys.MoreKeys (Key.Recursive h p U) ks) e = cc
 
-plain-ended : (s : Step) (ks : Keys) → rollup_parts ks ≡ [] → ended_keys s ks ≡ ks
+pub plain-ended : (s : Step) (ks : Keys) → rollup_parts ks ≡ [] → ended_keys s ks ≡ ks
 plain-ended s Keys.NoKeys e = refl
 plain-ended s (Keys.MoreKeys (Key.Plain q) ks) e = ap (Keys.MoreKeys (Key.Plain q)) (plain-ended s ks e)
 plain-ended s (Keys.MoreKeys (Key.Rollup all ps) ks) e = cc
 plain-ended s (Keys.MoreKeys (Key.Recursive h p U) ks) e = cc
 
-no-more : {X : Type 0} (xs : List X) → nat_le (suc (length xs)) 1 ≡ true → xs ≡ []
+pub no-more : {X : Type 0} (xs : List X) → nat_le (suc (length xs)) 1 ≡ true → xs ≡ []
 no-more [] h = refl
 no-more (x ∷ xs) h = let l = leb-true (suc (suc (length xs))) 1 h in absurd (omega arith)
 

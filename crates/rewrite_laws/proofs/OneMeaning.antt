@@ -88,6 +88,10 @@ module _ (A : World → Type 0) (L : Laws A) where
   pub plan_keeps_meaning : PlanKeepsMeaning A
   plan_keeps_meaning = over_models A IsPlanOf (plan_law A rule-in_worlds)
 
+-- in the loaded worlds
+pub loaded-in_place : Each (KeepsMeaningInPlace IsLoaded) rules
+loaded-in_place = rules_in_place IsLoaded loaded-laws
+
 pub loaded-results : ResultsAreTyped
 loaded-results = results_are_typed IsLoaded loaded-laws
 

@@ -17,7 +17,7 @@ use Rattle.edm_data.specs.Worlds.{World, Entity}
 use Rattle.edm_data.specs.References.{entity_type, property, referred}
 use Rattle.context_typing.specs.Paths.{same_path, is_proper_prefix, begins, at_path}
 use Rattle.context_typing.specs.Shapes.{RootShape, PrefixShape, ColumnShape, Shape}
-use Rattle.context_typing.specs.Typing.{all_prefixes, prefix_at, column_at, path_property, path_kind, is_member, is_free, joined_shape, prefix_under, column_under, widened}
+use Rattle.context_typing.specs.Typing.{all_prefixes, prefix_at, column_at, path_property, path_kind, is_member, is_free, is_risky, joined_shape, prefix_under, column_under, widened}
 use Rattle.context_typing.proofs.PathLemmas.{same_paths, entry-path, longest, longest-cons, longest-same, longest-map}
 use Rattle.context_typing.proofs.TableLemmas.{under-nil, under-cons}
 use Rattle.context_typing.proofs.ShapeLemmas.{Law, begins-behind}
@@ -72,6 +72,13 @@ module _ (m : Model) (outer : Bool) (a : Name) (S R : Shape) (LS : Law m S) (LR 
       by o p = elim o [ Some c ↦ Some c.kind | None ↦ option_map (λ x. widened x.kind) p ]
 
       go : (o : Option ColumnShape) → by (option_map (column_under outer a) o) (path_property m R q) ≡ by o (path_property m R q)
+      go None = refl
+      go (Some c) = refl
+
+  pub risk-behind : (q : Path) → is_risky (joined_shape outer a S R) (a ∷ q) ≡ is_risky R q
+  risk-behind q = ap (is_some_and (λ c. c.risky)) (column-behind q) ∙ go (column_at R q)
+    where
+      go : (o : Option ColumnShape) → is_some_and (λ c. c.risky) (option_map (column_under outer a) o) ≡ is_some_and (λ c. c.risky) o
       go None = refl
       go (Some c) = refl
 

@@ -16,7 +16,7 @@ use Rattle.edm_data.specs.Worlds.{World}
 use Rattle.apply_ast.specs.Trees.{Expr, OptPipe, Step, pipe}
 use Rattle.context_typing.specs.Paths.{begins}
 use Rattle.context_typing.specs.Shapes.{RootShape, Shape, set_shape}
-use Rattle.context_typing.specs.Typing.{Customs, steps_shape, step_shape, inner_shape, has_kind, path_kind, is_free, joined_shape, join_navigation, after}
+use Rattle.context_typing.specs.Typing.{Customs, steps_shape, step_shape, inner_shape, has_kind, path_kind, is_free, is_risky, is_sure, joined_shape, join_navigation, after}
 use Rattle.context_typing.proofs.ShapeLemmas.{Law, law-from}
 use Rattle.context_typing.proofs.TypingLaw.{navigation-root, inner_law, law-own, root-same}
 use Rattle.apply_meaning.specs.Instances.{Instance, val, fits, lookup}
@@ -26,8 +26,8 @@ use Rattle.apply_meaning.proofs.FitLemmas.{Fit, fit-parts}
 use Rattle.rewrite_laws.specs.Rewrites.{paths, with_paths, ended_inner, filter_related}
 use Rattle.rewrite_laws.specs.RewriteLaws.{KeepsMeaningInPlace}
 use Rattle.rewrite_laws.proofs.RuleLemmas.{Laws, taking-keeps_meaning}
-use Rattle.rewrite_laws.proofs.ExprPaths.{val-moved, kind-moved}
-use Rattle.rewrite_laws.proofs.RelatedLookups.{kind-behind, lookup-behind}
+use Rattle.rewrite_laws.proofs.ExprPaths.{val-moved, kind-moved, sure-moved}
+use Rattle.rewrite_laws.proofs.RelatedLookups.{kind-behind, lookup-behind, risk-behind}
 use Rattle.rewrite_laws.proofs.EndedPipes.{ended_inner-hierarchies, ended_inner-shape, ended_inner-mean}
 use Rattle.rewrite_laws.proofs.JoinedResults.{map-mapped, filter-mapped, filter-joined}
 
@@ -72,12 +72,27 @@ module _ (w : World) (c : Customs) (S S1 : Shape) (n a : Name) (T : OptPipe) (LS
   abbrev inside : Expr
   inside = with_paths (drop 1) b
 
+  inside-path : (p : Path) → begins a p ≡ true → path_kind w.model J.inner (drop 1 p) ≡ path_kind w.model S1 p
+  inside-path [] h = absurd (true≢false (sym h))
+  inside-path (n' ∷ q) h = sym (kind-behind w.model false a S J.inner LS J.inner_law J.free J.root J.root_is q) ∙ (λ k. path_kind w.model (J.shape_is k) (same_texts a n' h k ∷ q))
+
+  inside-risk : (p : Path) → begins a p ≡ true → is_risky J.inner (drop 1 p) ≡ is_risky S1 p
+  inside-risk [] h = absurd (true≢false (sym h))
+  inside-risk (n' ∷ q) h = sym (risk-behind w.model false a S J.inner LS J.inner_law J.free J.root J.root_is q) ∙ (λ k. is_risky (J.shape_is k) (same_texts a n' h k ∷ q))
+
   inside-kind : has_kind is_boolean_kind w.model S1 b ≡ true → has_kind is_boolean_kind w.model J.inner (with_paths (drop 1) b) ≡ true
-  inside-kind h = ap (is_some_and is_boolean_kind) (kind-moved w.model S1 J.inner (drop 1) (begins a) same b under) ∙ h
-    where
-      same : (p : Path) → begins a p ≡ true → path_kind w.model J.inner (drop 1 p) ≡ path_kind w.model S1 p
-      same [] h = absurd (true≢false (sym h))
-      same (n' ∷ q) h = sym (kind-behind w.model false a S J.inner LS J.inner_law J.free J.root J.root_is q) ∙ (λ k. path_kind w.model (J.shape_is k) (same_texts a n' h k ∷ q))
+  inside-kind h = ap (is_some_and is_boolean_kind) (kind-moved w.model S1 J.inner (drop 1) (begins a) inside-path b under) ∙ h
+
+  pub inside-sure : is_sure w.model J.inner (with_paths (drop 1) b) ≡ is_sure w.model S1 b
+  inside-sure = sure-moved w.model S1 J.inner (drop 1) (begins a) inside-path inside-risk b under
+
+  -- the join with the filter inside has the shape of the join
+  pub inside-shape : has_kind is_boolean_kind w.model S1 b ≡ true → step_shape w.model c S (Step.Join false n a (ended_inner T (Step.Filter (with_paths (drop 1) b)))) ≡ Some S1
+  unfolding steps_shape
+  inside-shape h =
+      (λ i. option_and_then (λ v. option_and_then (λ R. then_some (is_free w.model S a) (joined_shape false a S R)) (inner_shape w.model c (set_shape v.target) (set_shape v.target) (ended_inner T (Step.Filter (with_paths (drop 1) b))))) (J.via_is i))
+      ∙ ap (option_and_then (λ R. then_some (is_free w.model S a) (joined_shape false a S R))) (ended_inner-shape w.model c (set_shape (J.via).target) J.inner T (with_paths (drop 1) b) J.inner_is (inside-kind h))
+      ∙ ap (λ z. then_some z (joined_shape false a S J.inner)) J.free ∙ ap (λ Z. Some Z) J.shape_is
 
   inside-value : (i j : Instance) → Fit w S i → val w j (with_paths (drop 1) b) ≡ val w (beside a i j) b
   inside-value i j F = val-moved w (beside a i j) j (drop 1) (begins a) same b under
@@ -133,10 +148,5 @@ filter_related-keeps_meaning A L w c S S' before (Step.Join false n a T) ss ss' 
     (λ b. Step.Join false n a (ended_inner T (Step.Filter (with_paths (drop 1) b)))) (ap (λ o. unwrap_or o S) S1.1) e got
     (λ b h z. subst (λ hs. Contains hs h) (ended_inner-hierarchies T (with_paths (drop 1) b)) z)
     (λ b t h.
-    let under = (and_parts (is_nonempty (paths b)) _ t).1 in (
-      (λ i. option_and_then (λ v. option_and_then (λ R. then_some (is_free w.model S a) (joined_shape false a S R)) (inner_shape w.model c (set_shape v.target) (set_shape v.target) (ended_inner T (Step.Filter (with_paths (drop 1) b))))) (J.via_is i))
-          ∙ ap (option_and_then (λ R. then_some (is_free w.model S a) (joined_shape false a S R))) (ended_inner-shape w.model c (set_shape (J.via).target) J.inner T (with_paths (drop 1) b) J.inner_is (inside-kind w c S S1.0 n a T LS J b under h))
-          ∙ ap (λ z. then_some z (joined_shape false a S J.inner)) J.free ∙ ap (λ Z. Some Z) J.shape_is,
-      λ u l f. inside-mean w c S S1.0 n a T LS J b under l f,
-    ))
+    let under = (and_parts (is_nonempty (paths b)) _ t).1 in (inside-shape w c S S1.0 n a T LS J b under h, λ u l f. inside-mean w c S S1.0 n a T LS J b under l f))
 filter_related-keeps_meaning A L w c S S' before s ss ss' k law e got = none_or ss' got

@@ -1,5 +1,5 @@
 -- Each path of a typed expression is typed.
-use Rattle.std.proofs.Common.{◌≡◌, refl, ap, Bool, true, false, ◌||◌, if◌then◌else◌, Option, Some, None}
+use Rattle.std.proofs.Common.{◌≡◌, refl, Bool, true, false, ◌||◌, if◌then◌else◌, Option, Some, None}
 use Rattle.std.specs.Prelude.{is_some, option_and_then}
 use Rattle.std.specs.Bool.{then_some}
 use Rattle.std.specs.List.{list_all}

@@ -5,6 +5,7 @@ use Rattle.edm_data.specs.Worlds.{World}
 use Rattle.apply_ast.specs.Trees.{HierName, Pipe, Step, pipe, is_long}
 use Rattle.apply_ast.specs.NamedHierarchies.{hierarchies}
 use Rattle.context_typing.specs.Shapes.{Shape}
+use Rattle.context_typing.specs.Outcomes.{steps_outcome}
 use Rattle.context_typing.specs.Typing.{Customs, Types, steps_shape, is_lawful, customs_typed}
 use Rattle.apply_meaning.specs.Instances.{Instance}
 use Rattle.apply_meaning.specs.Meaning.{mean}
@@ -65,6 +66,31 @@ KeepsMeaningInPlace IsAccepted r =
 -- what may be replaced in place may be replaced wherever the place is, inner pipelines included
 abbrev pub ReplacementKeepsMeaning : (World → Type 0) → Type 0
 ReplacementKeepsMeaning IsAccepted = (r : Rule) → KeepsMeaningInPlace IsAccepted r → RuleKeepsMeaning IsAccepted r
+
+-- ---- shape and quiet
+
+-- what a rule makes of typed steps at the place itself leads to the same shape, is quiet where they are, and leaves a step there unless one stands before
+abbrev pub KeepsOutcomeInPlace : Rule → Type 0
+KeepsOutcomeInPlace r =
+    (m : Model) (c : Customs) (S S' : Shape) (before : Bool) (s : Step) (ss ss' : List Step) → IsTrue (customs_typed m c) → IsTrue (is_lawful m S)
+    → steps_shape m c S (pipe (s ∷ ss)) ≡ Some S' → r m c S before s ss ≡ Some ss'
+    → IsTrue (before || is_long (pipe ss')) × (steps_outcome m c S (pipe ss') ≡ steps_outcome m c S (pipe (s ∷ ss)))
+
+-- what a rule makes of a typed pipeline, at whatever place, leads to the same shape, and is quiet where the pipeline is
+abbrev pub RuleKeepsOutcome : Rule → Type 0
+RuleKeepsOutcome r = (m : Model) (c : Customs) (S S' : Shape) (p q : Pipe) → IsTypedFrom m c S S' p → IsRewrite r m c S p q → steps_outcome m c S q ≡ steps_outcome m c S p
+
+-- a rule that keeps shape and quiet in place keeps them wherever the place is, inner pipelines included
+abbrev pub ReplacementKeepsOutcome : Type 0
+ReplacementKeepsOutcome = (r : Rule) → KeepsOutcomeInPlace r → RuleKeepsOutcome r
+
+-- what each of the rules makes of a typed pipeline, at whatever place, leads to the same shape, and is quiet where the pipeline is
+abbrev pub RulesKeepOutcome : Type 0
+RulesKeepOutcome = (r : Rule) → Contains rules r → RuleKeepsOutcome r
+
+-- the plan of a typed pipeline leads to the same shape, and is quiet where the pipeline is
+abbrev pub PlanKeepsOutcome : Type 0
+PlanKeepsOutcome = (m : Model) (c : Customs) (S S' : Shape) (p q : Pipe) → IsTypedFrom m c S S' p → IsPlanOf m c S p q → steps_outcome m c S q ≡ steps_outcome m c S p
 
 -- ---- the end of rewriting
 

@@ -1,7 +1,7 @@
 //! The laws of rewriting. Those of the meaning hold in every world of a sound model whose lists have the form that the model says,
 //! as every loaded one. None of them asks that a hierarchy has no cycle.
 ghost use Rattle.apply_meaning.specs.MeaningLaws.{IsLoaded};
-ghost use Rattle.rewrite_laws.specs.RewriteLaws.{FirstRewritesKeepMeaning, PlanExists, PlanIsSettled, PlanIsUnique, PlanKeepsMeaning, ReplacementKeepsMeaning, ResultsAreTyped, RewritesAreCounted, RewritesAreSmaller, RewritingEnds, RulesKeepMeaning};
+ghost use Rattle.rewrite_laws.specs.RewriteLaws.{FirstRewritesKeepMeaning, PlanExists, PlanIsSettled, PlanIsUnique, PlanKeepsMeaning, PlanKeepsOutcome, ReplacementKeepsMeaning, ReplacementKeepsOutcome, ResultsAreTyped, RewritesAreCounted, RewritesAreSmaller, RewritingEnds, RulesKeepMeaning, RulesKeepOutcome};
 
 /// What may be replaced in place may be replaced wherever the place is, inner pipelines included. The law names no rule.
 pub fn replacement_keeps_meaning()
@@ -21,6 +21,16 @@ pub fn results_are_typed()
 /// What a rule makes of a typed pipeline at its first place may stand for it.
 pub fn first_rewrites_keep_meaning()
     ensures law { FirstRewritesKeepMeaning IsLoaded }
+{}
+
+/// A rule that keeps shape and quiet in place keeps them wherever the place is, inner pipelines included. The law names no rule.
+pub fn replacement_keeps_outcome()
+    ensures law { ReplacementKeepsOutcome }
+{}
+
+/// What a rule makes of a typed pipeline, at whatever place, leads to the same shape, and is quiet where the pipeline is.
+pub fn rules_keep_outcome()
+    ensures law { RulesKeepOutcome }
 {}
 
 /// Each rewrite makes a pipeline smaller.
@@ -56,4 +66,9 @@ pub fn plan_is_settled()
 /// The plan of a typed pipeline may stand for it.
 pub fn plan_keeps_meaning()
     ensures law { PlanKeepsMeaning IsLoaded }
+{}
+
+/// The plan of a typed pipeline leads to the same shape, and is quiet where the pipeline is.
+pub fn plan_keeps_outcome()
+    ensures law { PlanKeepsOutcome }
 {}

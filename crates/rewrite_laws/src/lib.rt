@@ -7,14 +7,15 @@
 //! The crate stands on `apply_ast` for pipelines, on `context_typing` for their typing, and on `apply_meaning` for their meaning and
 //! its laws. It has no code but its laws: `rewrite_rules` finds the places and makes the rewritten pipelines.
 //!
-//! It promises that a rewritten pipeline has the shape and the meaning that it had, that rewriting ends, and that a plan is one
-//! and settled.
+//! It promises that a rewritten pipeline has the shape and the meaning that it had, and is quiet where it was, that rewriting ends,
+//! and that a plan is one and settled.
 #![tactic(auto)]
 
 mod laws;
 
 pub use laws::{
     first_rewrites_keep_meaning, plan_exists, plan_is_settled, plan_is_unique, plan_keeps_meaning,
-    replacement_keeps_meaning, results_are_typed, rewrites_are_counted, rewrites_are_smaller,
-    rewriting_ends, rules_keep_meaning,
+    plan_keeps_outcome, replacement_keeps_meaning, replacement_keeps_outcome, results_are_typed,
+    rewrites_are_counted, rewrites_are_smaller, rewriting_ends, rules_keep_meaning,
+    rules_keep_outcome,
 };

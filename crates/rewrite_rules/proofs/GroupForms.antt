@@ -1,5 +1,5 @@
 -- The keys of groupings, and what the rules of groupings make, by the form of the step at their place.
-use Rattle.std.proofs.Common.{◌≡◌, refl, sym, ◌∙◌, ap, subst, arith, ℕ, ◌+◌, ◌<◌, ◌≤◌, Bool, true, false, ◌&&◌, ◌||◌, not, List, [], ◌∷◌, ◌++◌, Option, Some, None, map, find, take, drop, length, get_or, cond, IsTrue}
+use Rattle.std.proofs.Common.{◌≡◌, refl, sym, ◌∙◌, ap, subst, ℕ, ◌+◌, ◌<◌, ◌≤◌, Bool, true, false, ◌&&◌, ◌||◌, List, [], ◌∷◌, ◌++◌, Option, Some, None, map, take, drop, length, get_or, cond, IsTrue}
 use Rattle.std.specs.Prelude.{option_map, option_and_then, is_some, IfSome, if◌then◌else◌}
 use Rattle.std.specs.List.{list_any}
 use Rattle.std.proofs.lemmas.List.Folds.{list_any-append}
@@ -7,7 +7,7 @@ use Rattle.std.proofs.Math.ListN.{drop_of_length-le}
 use Rattle.edm_values.specs.Names.{Path}
 use Rattle.edm_values.proofs.OptionFacts.{none_or, some_value}
 use Rattle.edm_model.specs.Models.{Model}
-use Rattle.apply_ast.specs.Trees.{Expr, Key, Keys, OptPipe, Pipe, Step, is_long}
+use Rattle.apply_ast.specs.Trees.{Key, Keys, OptPipe, Pipe, Step, is_long}
 use Rattle.apply_ast.specs.Views.{inner_of, keys_from}
 use Rattle.context_typing.specs.Grouping.{is_rollup_key, plain_of}
 use Rattle.context_typing.specs.Shapes.{Shape}

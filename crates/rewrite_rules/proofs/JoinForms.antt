@@ -1,30 +1,28 @@
 -- What the rules on joins make, by the form of the step at their place.
-use Rattle.std.proofs.Common.{◌≡◌, refl, sym, ◌∙◌, ap, subst, ℕ, Bool, true, false, ◌&&◌, not, List, [], ◌∷◌, length, map, find, Some, None, if◌then◌else◌}
-use Rattle.std.specs.Prelude.{nat_lt, is_some, option_map, unwrap_or}
+use Rattle.std.proofs.Common.{◌≡◌, refl, sym, ◌∙◌, ap, subst, ℕ, Bool, true, false, ◌&&◌, not, List, [], ◌∷◌, length, find, Some, None, if◌then◌else◌}
+use Rattle.std.specs.Prelude.{nat_lt, option_map, unwrap_or}
 use Rattle.std.specs.List.{list_all, list_any}
 use Rattle.std.proofs.lemmas.Bool.{and_parts, true≢false}
 use Rattle.edm_values.specs.Lists.{is_nonempty}
 use Rattle.edm_values.specs.Literals.{is_boolean_kind}
 use Rattle.edm_values.specs.Names.{Name}
-use Rattle.edm_values.proofs.ListFacts.{all-both, all-each}
 use Rattle.edm_values.proofs.OptionFacts.{chained, mapped, none_or, some_there, some_value}
 use Rattle.edm_model.specs.Models.{Model}
 use Rattle.apply_ast.specs.Trees.{Expr, Step, pipe}
 use Rattle.context_typing.specs.Paths.{begins}
 use Rattle.context_typing.specs.Shapes.{Shape}
-use Rattle.context_typing.specs.Outcomes.{Outcome, outcome, step_outcome}
-use Rattle.context_typing.specs.Typing.{Customs, after, has_kind, is_sure, path_kind, step_quiet, step_shape, steps_shape}
+use Rattle.context_typing.specs.Outcomes.{Outcome, step_outcome}
+use Rattle.context_typing.specs.Typing.{Customs, after, has_kind, is_sure, step_quiet, step_shape, steps_shape}
 use Rattle.context_typing.proofs.TypingEquations.{step_quiet-Join, steps_shape-Then}
 use Rattle.context_typing.proofs.WalkFacts.{outcome-parts}
 use Rattle.rewrite_laws.specs.Rewrites.{behind, filter_related, movable, pass_join, pass_outer_join, passing, paths}
 use Rattle.rewrite_laws.proofs.RelatedRule.{join-parts}
-use Rattle.rewrite_laws.proofs.RuleLemmas.{filters-typed, has_kind-typed, movable-found, pipe-filters}
+use Rattle.rewrite_laws.proofs.RuleLemmas.{filters-typed, movable-found, pipe-filters}
 use Rattle.rewrite_rules.specs.declared.filters.Condition.{Condition}
 use Rattle.rewrite_rules.specs.Conditions.{entered, meets, nearest, place_and_filter}
 use Rattle.rewrite_rules.specs.Joins.{Joined, IsTypedFrom, joined_by, passing_quiet, with_filter}
-use Rattle.rewrite_laws.proofs.AliasPaths.{has_more}
+use Rattle.rewrite_laws.proofs.AliasPaths.{related-longer}
 use Rattle.rewrite_rules.proofs.FirstRuns.{nearest-entered, nearest-none}
-use Rattle.rewrite_laws.proofs.TypedPaths.{paths-typed}
 
 -- ---- past a step that is quiet
 
@@ -111,9 +109,6 @@ inside-longer m c S s ss j is typed T there k b e =
     let between = filters-typed m c S1.0 whole.0 r.between (pipe (Step.Filter r.last ∷ r.rest)) (sym (ap (steps_shape m c S1.0) from) ∙ S1.2) in
     let last = filters-typed m c S1.0 whole.0 (r.last ∷ []) (pipe r.rest) between.1 in
     let boolean = (and_parts (has_kind is_boolean_kind m S1.0 r.last) _ last.0).0 in
-    let kinds = paths-typed m S1.0 r.last (has_kind-typed m S1.0 r.last boolean) in
     let begun = (and_parts (is_nonempty (paths r.last)) _ found.tested).1 in
-    let both = all-both (begins j.alias) (λ p. is_some (path_kind m S1.0 p)) (paths r.last) begun kinds in
-    let here = all-each (λ p. begins j.alias p && is_some (path_kind m S1.0 p)) (λ p. nat_lt 1 (length p)) (paths r.last) both
-    (λ p h. has_more m j.outer j.alias S J.inner J.inner_law J.free J.root J.root_is p (ap (λ Z. begins j.alias p && is_some (path_kind m Z p)) J.shape_is ∙ h)) in
+    let here = related-longer m c S S1.0 j.outer j.nav j.alias j.inner J r.last begun boolean in
     ap (λ (y : ℕ × Expr). list_all (λ p. nat_lt 1 (length p)) (paths y.1)) (sym t.2) ∙ here

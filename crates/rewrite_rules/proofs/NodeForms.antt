@@ -1,5 +1,5 @@
 -- The nodes that a recursive rollup shows, and what the rule makes that sends a filter among them.
-use Rattle.std.proofs.Common.{◌≡◌, refl, sym, ◌∙◌, ap, ℕ, Bool, true, false, ◌&&◌, List, [], ◌∷◌, Option, Some, None, find, map, IsTrue}
+use Rattle.std.proofs.Common.{◌≡◌, refl, sym, ◌∙◌, ap, Bool, true, false, ◌&&◌, List, [], ◌∷◌, Option, Some, None, find, map}
 use Rattle.std.specs.Prelude.{option_map, option_and_then, is_some, slice_get, unwrap_or, ◌==◌, if◌then◌else◌}
 use Rattle.std.proofs.lemmas.Bool.{and_parts}
 use Rattle.edm_values.specs.Lists.{is_nonempty, is_some_and, same_text}

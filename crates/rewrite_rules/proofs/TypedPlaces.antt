@@ -1,12 +1,12 @@
 -- In a typed pipeline each step is typed on the shape behind those before it, and so are the pipelines inside it, each on the shape where it begins.
-use Rattle.std.proofs.Common.{◌≡◌, refl, sym, ◌∙◌, ap, subst, ℕ, zero, suc, ◌+◌, ◌<◌, Bool, true, List, [], ◌∷◌, ◌++◌, Option, Some, None, IsTrue, IfSome, map, take, drop, length, get_or, arith}
-use Rattle.std.specs.Prelude.{option_and_then, option_map, is_some, unwrap_or}
-use Rattle.edm_values.specs.Lists.{all_some, is_some_and}
+use Rattle.std.proofs.Common.{◌≡◌, refl, sym, ◌∙◌, ap, subst, ℕ, zero, suc, ◌+◌, ◌<◌, Bool, true, List, [], ◌∷◌, ◌++◌, Option, Some, IsTrue, IfSome, map, take, drop, length, get_or, arith}
+use Rattle.std.specs.Prelude.{option_map, is_some, unwrap_or}
+use Rattle.edm_values.specs.Lists.{all_some}
 use Rattle.edm_values.specs.Names.{Name, Path}
 use Rattle.edm_values.specs.declared.EdmType.{EdmType}
 use Rattle.edm_values.proofs.EachLemmas.{then_some-holds, and-left, and-right, all_some-head, all_some-tail}
 use Rattle.edm_values.proofs.OptionFacts.{some_there, chained, some_and, if_else-parts}
-use Rattle.edm_model.specs.Models.{Model, Navigation}
+use Rattle.edm_model.specs.Models.{Model}
 use Rattle.edm_model.specs.LookUps.{HierarchyPlace}
 use Rattle.apply_ast.specs.Trees.{HierName, Pipe, Step, OptPipe, Pipes, Key, Keys, pipe, is_long}
 use Rattle.apply_ast.specs.Views.{keys_from, pipes_from}

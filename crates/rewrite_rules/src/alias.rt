@@ -10,7 +10,7 @@ use apply_ast::{Expr, Name};
 use context_typing::begins;
 
 /// Whether a path of an expression begins with an alias.
-pub(crate) fn any_begins(alias: &Name, e: &Expr) -> bool
+pub fn any_begins(alias: &Name, e: &Expr) -> bool
     ensures { result ≡ list_any (path.begins alias.now) (paths (expr_of e.now)) }
 {
     match e {
@@ -29,7 +29,7 @@ pub(crate) fn any_begins(alias: &Name, e: &Expr) -> bool
 }
 
 /// Whether an expression has a path.
-pub(crate) fn has_path(e: &Expr) -> bool
+pub fn has_path(e: &Expr) -> bool
     ensures { result ≡ is_nonempty (paths (expr_of e.now)) }
 {
     match e {
@@ -67,7 +67,7 @@ fn each_begins(alias: &Name, e: &Expr) -> bool
 }
 
 /// Whether an expression has a path, and each begins with an alias.
-pub(crate) fn all_begin(alias: &Name, e: &Expr) -> bool
+pub fn all_begin(alias: &Name, e: &Expr) -> bool
     ensures { result ≡ (is_nonempty (paths (expr_of e.now)) && list_all (path.begins alias.now) (paths (expr_of e.now))) }
 {
     has_path(e) && each_begins(alias, e)

@@ -27,7 +27,7 @@ use edm_model::Model;
 use std::alloc::{AllocError, Global};
 
 /// Whether an expression is a test on each of these shapes.
-pub(crate) fn is_test_on(m: &Model, shapes: &[Shape], e: &Expr) -> bool
+pub fn is_test_on(m: &Model, shapes: &[Shape], e: &Expr) -> bool
     requires { IsTrue (list_all (has_types m.now) shapes.now) }
     ensures { result ≡ spec.is_test_on m.now shapes.now (expr_of e.now) }
 {
@@ -40,7 +40,7 @@ pub(crate) fn is_test_on(m: &Model, shapes: &[Shape], e: &Expr) -> bool
 }
 
 /// The shape behind each branch, where all of them have a typing.
-fn branch_shapes(
+pub fn branch_shapes(
     alloc: Global,
     m: &Model,
     c: &Customs,

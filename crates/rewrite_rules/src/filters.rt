@@ -127,7 +127,7 @@ pub fn names_any(e: &Expr, made: &[Named]) -> bool
 }
 
 /// Whether a path is one of the new columns.
-pub(crate) fn is_made(path: &Path, made: &[Named]) -> bool
+pub fn is_made(path: &Path, made: &[Named]) -> bool
     ensures { result ≡ is_among (spec.new_paths (map named_of made.now)) path.now }
 {
     let names = path.names();

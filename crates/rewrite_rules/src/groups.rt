@@ -107,7 +107,7 @@ fn has_part(kind: Grouping, keys: &[KeyItem]) -> bool
 }
 
 /// Whether the pipeline for each group is quiet, where there is one.
-fn inner_quiet(
+pub fn inner_quiet(
     alloc: Global,
     m: &Model,
     c: &Customs,
@@ -126,7 +126,7 @@ fn inner_quiet(
 }
 
 /// Whether no key of a grouping may be past its range, and what is made of each group is quiet.
-fn grouping_quiet(
+pub fn grouping_quiet(
     alloc: Global,
     m: &Model,
     c: &Customs,

@@ -12,7 +12,8 @@
 //! where the rule applies at no place. The definitions of the rules and their laws are those of `rewrite_laws`.
 //!
 //! What rules ask of expressions, orders, counts and shapes is public too (`names_any`, `order_sure`, `same_expr`, `count_by`,
-//! `count_from_top`, `shape_after`, `type_of`), and so is the copy of an inner pipeline: `optimiser` settles a pipeline by them.
+//! `count_from_top`, `shape_after`, `type_of`), what they ask of the paths of an expression, of keys, groupings and branches, and
+//! the copies that they make of expressions and inner pipelines: `optimiser` settles a pipeline by them.
 #![tactic(auto)]
 
 mod alias;
@@ -42,12 +43,19 @@ mod trees;
 mod typed;
 mod walks;
 
-pub use filters::{names_any, order_sure};
+pub use alias::{all_begin, any_begins, has_path};
+pub use branches::{branch_shapes, is_test_on};
+pub use filters::{is_made, names_any, order_sure};
 pub use first::{
     first_place, rule_1, rule_2, rule_3, rule_4, rule_5, rule_6, rule_7, rule_8, rule_9, rule_10,
     rule_11, rule_12, rule_13, rule_14, rule_15, rule_16, rule_17, rule_18,
 };
 pub use forms::{count_by, count_from_top};
+pub use groups::{grouping_quiet, inner_quiet};
+pub use keys::{in_every_row, recursive_key};
+pub use nodes::chosen_nodes;
+pub use path_copies::{on_node, without_first};
+pub use paths::over;
 pub use rules::RuleName;
 pub use same::same_expr;
 pub use shapes::{shape_after, type_of};

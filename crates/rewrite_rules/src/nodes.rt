@@ -54,7 +54,7 @@ fn chosen_shape(
 }
 
 /// The shape of the nodes that a recursive rollup shows, with the name of their key.
-pub(crate) fn chosen_nodes(
+pub fn chosen_nodes(
     alloc: Global,
     m: &Model,
     c: &Customs,

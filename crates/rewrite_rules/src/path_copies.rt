@@ -73,7 +73,7 @@ fn with_paths(alloc: Global, change: &Change, e: &Expr) -> Result<Expr, AllocErr
 }
 
 /// The expression without the first name of each path.
-pub(crate) fn without_first(alloc: Global, e: &Expr) -> Result<Expr, AllocError>
+pub fn without_first(alloc: Global, e: &Expr) -> Result<Expr, AllocError>
     requires longer { IsTrue (list_all (λ p. nat_lt 1 (length p)) (rule.paths (expr_of e.now))) }
     ensures value { IfOk result (λ x. expr_of x ≡ rule.with_paths (drop 1) (expr_of e.now)) }
 {
@@ -81,7 +81,7 @@ pub(crate) fn without_first(alloc: Global, e: &Expr) -> Result<Expr, AllocError>
 }
 
 /// The expression with a node's key in place of each path.
-pub(crate) fn on_node(alloc: Global, key: &Name, e: &Expr) -> Result<Expr, AllocError>
+pub fn on_node(alloc: Global, key: &Name, e: &Expr) -> Result<Expr, AllocError>
     ensures value { IfOk result (λ x. expr_of x ≡ rule.on_node key.now (expr_of e.now)) }
 {
     with_paths(alloc, &Change::Alone(key), e)

@@ -7,7 +7,7 @@ use apply_ast::{Expr, Path};
 use context_typing::same_path;
 
 /// Whether each path of an expression is one of these.
-pub(crate) fn over(paths: &[Path], e: &Expr) -> bool
+pub fn over(paths: &[Path], e: &Expr) -> bool
     ensures { result ≡ rule.over paths.now (expr_of e.now) }
 {
     match e {

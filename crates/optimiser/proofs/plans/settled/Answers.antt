@@ -1,17 +1,13 @@
-use Rattle.std.proofs.Common.{refl, ◌∙◌, ap}
+use Rattle.std.proofs.lemmas.Result.{IfOk-weaker}
+use Rattle.context_typing.specs.Answers.{IsTyping}
 use Rattle.context_typing.specs.Readings.{readings}
-use Rattle.context_typing.specs.Shapes.{set_shape}
-use Rattle.optimiser.proofs.PlanTurns.{pass-early, pass-reached, pass-typed}
+use Rattle.walk_laws.specs.Walks.{Early}
+use Rattle.optimiser.specs.Plans.{IsWalked}
+use Rattle.optimiser.proofs.PlanTurns.{walk-typed}
 use Rattle.optimiser.proofs.plans.settled.Goals as goal
-
-pub returns-clause-reached : goal.returns-clause-reached
-returns-clause-reached c =
-    pass-reached c.args.m.now (readings c.args.c.now) c.args.t.now _ c.set_shape-start.result c.requires.whole c.requires.typing (c.set_shape-start.ensures ∙ ap set_shape c.set_type.ensures.value) refl c.in_ok-shape.ensures c.in_ok-pipe.ensures
 
 pub returns-clause-typing : goal.returns-clause-typing
 returns-clause-typing c =
-    pass-typed c.args.m.now (readings c.args.c.now) c.args.t.now _ c.set_shape-start.result c.requires.whole c.requires.typing (c.set_shape-start.ensures ∙ ap set_shape c.set_type.ensures.value) refl c.in_ok-shape.ensures c.in_ok-pipe.ensures
-
-pub returns-clause-early : goal.returns-clause-early
-returns-clause-early c =
-    pass-early c.args.m.now (readings c.args.c.now) c.args.t.now _ c.set_shape-start.result c.requires.whole c.requires.typing (c.set_shape-start.ensures ∙ ap set_shape c.set_type.ensures.value) refl c.in_ok-shape.ensures c.in_ok-pipe.ensures
+    let m = c.args.m.now in
+    let cs = readings c.args.c.now in
+    IfOk-weaker c.walked.result (IsWalked Early m cs c.args.t.now) (IsTyping m cs) (λ q w. walk-typed m cs c.args.t.now q c.early_walk_keeps_meaning.ensures.law c.requires.whole c.requires.typing w) c.walked.ensures

@@ -1,4 +1,4 @@
-use Rattle.std.proofs.Common.{◌∙◌, ap, ◌∷◌, ◌++◌, ◌+◌, ◌-◌, length, map, take, drop}
+use Rattle.std.proofs.Common.{◌∙◌, ap, ◌++◌, ◌+◌, ◌-◌, length, map, take, drop}
 use Rattle.apply_ast.specs.Views.{step_of}
 use Rattle.rewrite_rules.proofs.FirstRuns.{entered-parts, grown-some}
 use Rattle.rewrite_rules.proofs.filters.entered.Goals as goal

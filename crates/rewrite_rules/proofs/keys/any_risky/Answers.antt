@@ -1,4 +1,4 @@
-use Rattle.std.proofs.Common.{◌≡◌, sym, ◌∙◌, ap, ◌||◌, false, true, map}
+use Rattle.std.proofs.Common.{sym, ◌∙◌, ap, false, true, map}
 use Rattle.std.specs.Prelude.{option_map}
 use Rattle.std.specs.List.{list_any}
 use Rattle.apply_ast.specs.Views.{key_of}

@@ -1,0 +1,16 @@
+mod NearestFilters
+mod SameOnShapes
+mod Unsplit
+mod WalkEnd
+mod WalkEntering
+mod WalkInside
+mod WalkKept
+mod WalkNodes
+mod WalkPassing
+mod WalkPlaces
+mod WalkPlan
+mod WalkPuts
+mod WalkRest
+mod WalkRules
+mod WalkSteps
+mod WalkUnbranched

@@ -1,0 +1,5 @@
+use Rattle.walk_laws.proofs.WalkPlan.{walk_is_plan}
+use Rattle.walk_laws.proofs.laws.walk_is_plan.Goals as goal
+
+pub returns : goal.returns
+returns c = record { law = walk_is_plan }

@@ -1,0 +1,10 @@
+pub use Rattle.edm_model.specs.Models
+pub use Rattle.edm_data.specs.Worlds
+pub use Rattle.apply_ast.specs.Trees
+pub use Rattle.context_typing.specs.Shapes
+pub use Rattle.context_typing.specs.Typing
+pub use Rattle.apply_meaning.specs.MeaningLaws
+pub use Rattle.rewrite_laws.specs.RewriteLaws
+pub use Rattle.rewrite_laws.specs.Rewrites
+pub mod Walks
+pub mod WalkLaws

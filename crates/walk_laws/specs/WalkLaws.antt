@@ -1,0 +1,44 @@
+-- What walks are for: the plan of a pipeline without a concatenation, and what the first rules make of any pipeline.
+use Rattle.std.specs.Prelude.{◌≡◌, ℕ, zero, suc, drop, IsTrue, Option, Some, None, option_and_then}
+use Rattle.edm_values.specs.Lists.{find_map}
+use Rattle.edm_model.specs.Models.{Model}
+use Rattle.edm_data.specs.Worlds.{World}
+use Rattle.apply_ast.specs.Trees.{Pipe}
+use Rattle.context_typing.specs.Shapes.{Shape}
+use Rattle.context_typing.specs.Typing.{Customs}
+use Rattle.rewrite_laws.specs.RewriteLaws.{IsTypedFrom, MayStandFor}
+use Rattle.rewrite_laws.specs.Rewrites.{IsPlanOf, first_rewrite, next, rules}
+use Rattle.walk_laws.specs.Walks.{Rules, All, Early, is_unbranched, rules_of, walk}
+
+-- the result of the first of a walk's rules that applies
+abbrev pub next_by : Rules → Model → Customs → Shape → Pipe → Option Pipe
+next_by w m c S p = find_map (λ r. first_rewrite r m c S p) (rules_of w)
+
+-- the pipeline after n rewrites by a walk's rules
+abbrev pub rewritten_by : ℕ → Rules → Model → Customs → Shape → Pipe → Option Pipe
+rewritten_by zero w m c S p = Some p
+rewritten_by (suc n) w m c S p = option_and_then (rewritten_by n w m c S) (next_by w m c S p)
+
+-- what a walk's rules make of a pipeline: reached from it by rewrites, and none of the rules applies to it
+abbrev pub IsPlanBy : Rules → Model → Customs → Shape → Pipe → Pipe → Type 0
+IsPlanBy w m c S p q = ((n : ℕ) × (rewritten_by n w m c S p ≡ Some q)) × (next_by w m c S q ≡ None)
+
+-- a typed pipeline without a concatenation, settled in one walk by all rules, is its plan
+abbrev pub WalkIsPlan : Type 0
+WalkIsPlan = (m : Model) (c : Customs) (S S' : Shape) (p : Pipe) → IsTypedFrom m c S S' p → IsTrue (is_unbranched p) → IsPlanOf m c S p (walk All m c S p)
+
+-- a typed pipeline, settled in one walk by the first eight rules, is what it becomes by them
+abbrev pub EarlyWalkIsPlan : Type 0
+EarlyWalkIsPlan = (m : Model) (c : Customs) (S S' : Shape) (p : Pipe) → IsTypedFrom m c S S' p → IsPlanBy Early m c S p (walk Early m c S p)
+
+-- and the plan of that is the plan of the pipeline
+abbrev pub EarlyWalkKeepsPlan : Type 0
+EarlyWalkKeepsPlan = (m : Model) (c : Customs) (S S' : Shape) (p q : Pipe) → IsTypedFrom m c S S' p → IsPlanOf m c S (walk Early m c S p) q → IsPlanOf m c S p q
+
+-- what it makes may stand for the pipeline
+abbrev pub EarlyWalkKeepsMeaning : (World → Type 0) → Type 0
+EarlyWalkKeepsMeaning IsAccepted = (m : Model) (c : Customs) (S S' : Shape) (p : Pipe) → IsTypedFrom m c S S' p → MayStandFor IsAccepted m c S S' p (walk Early m c S p)
+
+-- behind it the rules come from the ninth on
+abbrev pub LaterRulesFollow : Type 0
+LaterRulesFollow = (m : Model) (c : Customs) (S S' : Shape) (p : Pipe) → IsTypedFrom m c S S' p → next m c S (walk Early m c S p) ≡ find_map (λ r. first_rewrite r m c S (walk Early m c S p)) (drop 8 rules)

@@ -1,0 +1,28 @@
+//! The laws of walks.
+ghost use Rattle.apply_meaning.specs.MeaningLaws.{IsLoaded};
+ghost use Rattle.walk_laws.specs.WalkLaws.{EarlyWalkIsPlan, EarlyWalkKeepsMeaning, EarlyWalkKeepsPlan, LaterRulesFollow, WalkIsPlan};
+
+/// A typed pipeline without a concatenation, settled in one walk by all rules, is its plan.
+pub fn walk_is_plan()
+    ensures law { WalkIsPlan }
+{}
+
+/// A typed pipeline, settled in one walk by the first eight rules, is what these rules make of it.
+pub fn early_walk_is_plan()
+    ensures law { EarlyWalkIsPlan }
+{}
+
+/// The plan of what the walk by the first eight rules makes is the plan of the pipeline.
+pub fn early_walk_keeps_plan()
+    ensures law { EarlyWalkKeepsPlan }
+{}
+
+/// What the walk by the first eight rules makes may stand for the pipeline.
+pub fn early_walk_keeps_meaning()
+    ensures law { EarlyWalkKeepsMeaning IsLoaded }
+{}
+
+/// Behind the walk by the first eight rules the next rewrite is by a later rule, or there is none.
+pub fn later_rules_follow()
+    ensures law { LaterRulesFollow }
+{}
