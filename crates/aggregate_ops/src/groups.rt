@@ -117,7 +117,7 @@ impl Groups {
     pub fn by_front(&self, alloc: Global, front: usize, rows: usize) -> Result<Groups, AllocError>
         requires long { All (λ g. front ≤ length g.0) self.now }
         requires groups { (keys : List (List Value')) × AreGroupsOf rows keys self.now }
-        ensures { IfOk result (λ found. (keys : List (List Value')) → AreGroupsOf rows keys self.now → found ≡ groups_of (placed 0 (map (take front) keys))) }
+        ensures value { IfOk result (λ found. (keys : List (List Value')) → AreGroupsOf rows keys self.now → found ≡ groups_of (placed 0 (map (take front) keys))) }
     {
         let groups = by_front(alloc, self.groups.as_slice(), front, rows)?;
         Ok(Groups { groups })
@@ -125,7 +125,7 @@ impl Groups {
 
     /// How many groups there are.
     pub fn len(&self) -> usize
-        ensures { result ≡ length self.now }
+        ensures value { result ≡ length self.now }
     {
         self.groups.len()
     }
@@ -133,7 +133,7 @@ impl Groups {
     /// The key of group k, counted from 0.
     pub fn key(&self, k: usize) -> &[Value]
         requires { k < length self.now }
-        ensures { Some result.now ≡ option_map (λ g. g.0) (slice_get self.now k) }
+        ensures value { Some result.now ≡ option_map (λ g. g.0) (slice_get self.now k) }
     {
         self.groups[k].key.as_slice()
     }
@@ -141,7 +141,7 @@ impl Groups {
     /// The places of group k, counted from 0, in the order of the list.
     pub fn places(&self, k: usize) -> &[usize]
         requires { k < length self.now }
-        ensures { Some result.now ≡ option_map (λ g. g.1) (slice_get self.now k) }
+        ensures value { Some result.now ≡ option_map (λ g. g.1) (slice_get self.now k) }
     {
         self.groups[k].places.as_slice()
     }

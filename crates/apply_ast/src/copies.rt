@@ -16,7 +16,7 @@ impl Name {
     /// The same name. No memory is taken: the copy shares the text. An error where the text is shared as often as can be
     /// counted.
     pub fn copy(&self, _alloc: Global) -> Result<Name, AllocError>
-        ensures { IfOk result (λ n. n ≡ self.now) }
+        ensures value { IfOk result (λ n. n ≡ self.now) }
     {
         Ok(Name {
             text: self.text.clone()?,
@@ -28,7 +28,7 @@ impl Path {
     /// The same path. The first copy takes memory for a list of names that its own copies share: a copy of a copied path
     /// takes none.
     pub fn copy(&self, alloc: Global) -> Result<Path, AllocError>
-        ensures { IfOk result (λ p. p ≡ self.now) }
+        ensures value { IfOk result (λ p. p ≡ self.now) }
     {
         match &self.held {
             Held::Own(names) => Ok(Path {
@@ -55,7 +55,7 @@ fn copy_names(alloc: Global, names: &[Name]) -> Result<Vec<Name>, AllocError>
 impl PathList {
     /// The same paths.
     pub fn copy(&self, alloc: Global) -> Result<PathList, AllocError>
-        ensures { IfOk result (λ l. l ≡ self.now) }
+        ensures value { IfOk result (λ l. l ≡ self.now) }
     {
         let mut paths = Vec::new(alloc);
         for path in self.as_slice() {
@@ -68,7 +68,7 @@ impl PathList {
 impl Expr {
     /// The same expression.
     pub fn copy(&self, alloc: Global) -> Result<Expr, AllocError>
-        ensures { IfOk result (λ e. expr_of e ≡ expr_of self.now) }
+        ensures value { IfOk result (λ e. expr_of e ≡ expr_of self.now) }
     {
         match self {
             Expr::Null => Ok(Expr::Null),
@@ -95,7 +95,7 @@ impl Expr {
 impl Named {
     /// The same item.
     pub fn copy(&self, alloc: Global) -> Result<Named, AllocError>
-        ensures { IfOk result (λ x. named_of x ≡ named_of self.now) }
+        ensures value { IfOk result (λ x. named_of x ≡ named_of self.now) }
     {
         Ok(Named {
             expr: self.expr.copy(alloc)?,
@@ -107,7 +107,7 @@ impl Named {
 impl NamedList {
     /// The same items.
     pub fn copy(&self, alloc: Global) -> Result<NamedList, AllocError>
-        ensures { IfOk result (λ l. map named_of l ≡ map named_of self.now) }
+        ensures value { IfOk result (λ l. map named_of l ≡ map named_of self.now) }
     {
         let mut items = Vec::new(alloc);
         for item in self.as_slice() {
@@ -120,7 +120,7 @@ impl NamedList {
 impl OrderItem {
     /// The same item.
     pub fn copy(&self, alloc: Global) -> Result<OrderItem, AllocError>
-        ensures { IfOk result (λ x. item_of x ≡ item_of self.now) }
+        ensures value { IfOk result (λ x. item_of x ≡ item_of self.now) }
     {
         Ok(OrderItem {
             expr: self.expr.copy(alloc)?,
@@ -132,7 +132,7 @@ impl OrderItem {
 impl OrderList {
     /// The same items.
     pub fn copy(&self, alloc: Global) -> Result<OrderList, AllocError>
-        ensures { IfOk result (λ l. map item_of l ≡ map item_of self.now) }
+        ensures value { IfOk result (λ l. map item_of l ≡ map item_of self.now) }
     {
         let mut items = Vec::new(alloc);
         for item in self.as_slice() {
@@ -145,7 +145,7 @@ impl OrderList {
 impl AggItem {
     /// The same item.
     pub fn copy(&self, alloc: Global) -> Result<AggItem, AllocError>
-        ensures { IfOk result (λ x. agg_of x ≡ agg_of self.now) }
+        ensures value { IfOk result (λ x. agg_of x ≡ agg_of self.now) }
     {
         match self {
             AggItem::Count(name) => Ok(AggItem::Count(name.copy(alloc)?)),
@@ -164,7 +164,7 @@ impl AggItem {
 impl AggList {
     /// The same items.
     pub fn copy(&self, alloc: Global) -> Result<AggList, AllocError>
-        ensures { IfOk result (λ l. map agg_of l ≡ map agg_of self.now) }
+        ensures value { IfOk result (λ l. map agg_of l ≡ map agg_of self.now) }
     {
         let mut items = Vec::new(alloc);
         for item in self.as_slice() {
@@ -177,7 +177,7 @@ impl AggList {
 impl HierName {
     /// The same hierarchy.
     pub fn copy(&self, alloc: Global) -> Result<HierName, AllocError>
-        ensures { IfOk result (λ h. h ≡ self.now) }
+        ensures value { IfOk result (λ h. h ≡ self.now) }
     {
         Ok(HierName {
             set: self.set.copy(alloc)?,
@@ -189,7 +189,7 @@ impl HierName {
 impl Number {
     /// The same number. No memory is taken.
     pub fn copy(&self, _alloc: Global) -> Result<Number, AllocError>
-        ensures { result ≡ Ok self.now }
+        ensures value { result ≡ Ok self.now }
     {
         match self {
             Number::Int(n) => Ok(Number::Int(*n)),
@@ -201,7 +201,7 @@ impl Number {
 impl Limit {
     /// The same limit. No memory is taken.
     pub fn copy(&self, alloc: Global) -> Result<Limit, AllocError>
-        ensures { result ≡ Ok self.now }
+        ensures value { result ≡ Ok self.now }
     {
         match self {
             Limit::Count(n) => Ok(Limit::Count(*n)),
@@ -214,7 +214,7 @@ impl Limit {
 impl TopStep {
     /// The same selection.
     pub fn copy(&self, alloc: Global) -> Result<TopStep, AllocError>
-        ensures { IfOk result (λ t. top_of t ≡ top_of self.now) }
+        ensures value { IfOk result (λ t. top_of t ≡ top_of self.now) }
     {
         Ok(TopStep {
             bottom: self.bottom,
@@ -227,7 +227,7 @@ impl TopStep {
 impl TraverseStep {
     /// The same walk.
     pub fn copy(&self, alloc: Global) -> Result<TraverseStep, AllocError>
-        ensures { IfOk result (λ t. traverse_of t ≡ traverse_of self.now) }
+        ensures value { IfOk result (λ t. traverse_of t ≡ traverse_of self.now) }
     {
         Ok(TraverseStep {
             hier: self.hier.copy(alloc)?,
@@ -252,7 +252,7 @@ impl JoinStep {
     /// The same join.
     #[cycle(copy)]
     pub fn copy(&self, alloc: Global) -> Result<JoinStep, AllocError>
-        ensures { IfOk result (λ j. join_of j ≡ join_of self.now) }
+        ensures value { IfOk result (λ j. join_of j ≡ join_of self.now) }
     {
         Ok(JoinStep {
             outer: self.outer,
@@ -267,7 +267,7 @@ impl ClimbStep {
     /// The same transformation.
     #[cycle(copy)]
     pub fn copy(&self, alloc: Global) -> Result<ClimbStep, AllocError>
-        ensures { IfOk result (λ c. climb_of c ≡ climb_of self.now) }
+        ensures value { IfOk result (λ c. climb_of c ≡ climb_of self.now) }
     {
         Ok(ClimbStep {
             up: self.up,
@@ -284,7 +284,7 @@ impl KeyItem {
     /// The same key.
     #[cycle(copy)]
     pub fn copy(&self, alloc: Global) -> Result<KeyItem, AllocError>
-        ensures { IfOk result (λ k. key_of k ≡ key_of self.now) }
+        ensures value { IfOk result (λ k. key_of k ≡ key_of self.now) }
     {
         match self {
             KeyItem::Plain(p) => Ok(KeyItem::Plain(p.copy(alloc)?)),
@@ -302,7 +302,7 @@ impl KeyList {
     /// The same keys.
     #[cycle(copy)]
     pub fn copy(&self, alloc: Global) -> Result<KeyList, AllocError>
-        ensures { IfOk result (λ l. keys_of l ≡ keys_of self.now) }
+        ensures value { IfOk result (λ l. keys_of l ≡ keys_of self.now) }
     {
         let mut keys = Vec::new(alloc);
         for key in self.as_slice() {
@@ -316,7 +316,7 @@ impl Step {
     /// The same transformation.
     #[cycle(copy)]
     pub fn copy(&self, alloc: Global) -> Result<Step, AllocError>
-        ensures { IfOk result (λ s. step_of s ≡ step_of self.now) }
+        ensures value { IfOk result (λ s. step_of s ≡ step_of self.now) }
     {
         match self {
             Step::Identity => Ok(Step::Identity),
@@ -343,7 +343,7 @@ impl PipeList {
     /// The same pipelines.
     #[cycle(copy)]
     pub fn copy(&self, alloc: Global) -> Result<PipeList, AllocError>
-        ensures { IfOk result (λ l. pipes_of l ≡ pipes_of self.now) }
+        ensures value { IfOk result (λ l. pipes_of l ≡ pipes_of self.now) }
     {
         let mut pipes = Vec::new(alloc);
         for pipe in self.as_slice() {
@@ -357,7 +357,7 @@ impl Pipe {
     /// The same pipeline.
     #[cycle(copy)]
     pub fn copy(&self, alloc: Global) -> Result<Pipe, AllocError>
-        ensures { IfOk result (λ p. pipe_of p ≡ pipe_of self.now) }
+        ensures value { IfOk result (λ p. pipe_of p ≡ pipe_of self.now) }
     {
         let mut steps = Vec::new(alloc);
         for step in self.steps() {

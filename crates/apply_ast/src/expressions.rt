@@ -31,7 +31,7 @@ pub enum BinOp {
 impl BinOp {
     /// The operator as it is written.
     pub fn word(self) -> &'static str
-        ensures { result.now ≡ binop_word self }
+        ensures value { result.now ≡ binop_word self }
     {
         match self {
             BinOp::Or => "or",
@@ -76,7 +76,7 @@ pub enum Fun1 {
 impl Fun1 {
     /// The function as it is written.
     pub fn word(self) -> &'static str
-        ensures { result.now ≡ fun1_word self }
+        ensures value { result.now ≡ fun1_word self }
     {
         match self {
             Fun1::Length => "length",
@@ -98,7 +98,7 @@ pub enum Fun2 {
 impl Fun2 {
     /// The function as it is written.
     pub fn word(self) -> &'static str
-        ensures { result.now ≡ fun2_word self }
+        ensures value { result.now ≡ fun2_word self }
     {
         match self {
             Fun2::StartsWith => "startswith",

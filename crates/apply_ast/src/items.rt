@@ -35,21 +35,21 @@ impl Model for NamedList {
 impl NamedList {
     /// The list of these items.
     pub fn new(items: Vec<Named>) -> NamedList
-        ensures { result ≡ items.items }
+        ensures value { result ≡ items.items }
     {
         NamedList { all: items }
     }
 
     /// The items in their order.
     pub fn as_slice(&self) -> &[Named]
-        ensures { result.now ≡ self.now }
+        ensures value { result.now ≡ self.now }
     {
         &self.all
     }
 
     /// The items that the list was made of.
     pub fn into_vec(self) -> Vec<Named>
-        ensures { result.items ≡ self }
+        ensures value { result.items ≡ self }
     {
         self.all
     }
@@ -84,21 +84,21 @@ impl Model for OrderList {
 impl OrderList {
     /// The list of these items.
     pub fn new(items: Vec<OrderItem>) -> OrderList
-        ensures { result ≡ items.items }
+        ensures value { result ≡ items.items }
     {
         OrderList { all: items }
     }
 
     /// The items in their order.
     pub fn as_slice(&self) -> &[OrderItem]
-        ensures { result.now ≡ self.now }
+        ensures value { result.now ≡ self.now }
     {
         &self.all
     }
 
     /// The items that the list was made of.
     pub fn into_vec(self) -> Vec<OrderItem>
-        ensures { result.items ≡ self }
+        ensures value { result.items ≡ self }
     {
         self.all
     }
@@ -135,21 +135,21 @@ impl Model for AggList {
 impl AggList {
     /// The list of these items.
     pub fn new(items: Vec<AggItem>) -> AggList
-        ensures { result ≡ items.items }
+        ensures value { result ≡ items.items }
     {
         AggList { all: items }
     }
 
     /// The items in their order.
     pub fn as_slice(&self) -> &[AggItem]
-        ensures { result.now ≡ self.now }
+        ensures value { result.now ≡ self.now }
     {
         &self.all
     }
 
     /// The items that the list was made of.
     pub fn into_vec(self) -> Vec<AggItem>
-        ensures { result.items ≡ self }
+        ensures value { result.items ≡ self }
     {
         self.all
     }

@@ -29,7 +29,7 @@ impl Model for Name {
 impl Name {
     /// The name that the text is, or `None` where it is none.
     pub fn new(alloc: Global, text: &str) -> Result<Option<Name>, AllocError>
-        ensures { IfOk result (λ o. o ≡ (if spec.is_name text.now then Some text.now else None)) }
+        ensures value { IfOk result (λ o. o ≡ (if spec.is_name text.now then Some text.now else None)) }
     {
         if is_name(text) {
             Ok(Some(Name {
@@ -42,7 +42,7 @@ impl Name {
 
     /// The name as it is written.
     pub fn text(&self) -> &str
-        ensures { result.now ≡ self.now }
+        ensures value { result.now ≡ self.now }
     {
         self.text.as_str()
     }
@@ -76,7 +76,7 @@ impl Path {
     /// The path of these names.
     pub fn new(names: Vec<Name>) -> Path
         requires { 0 < length names.items }
-        ensures { result ≡ names.items }
+        ensures value { result ≡ names.items }
     {
         Path {
             held: Held::Own(names),
@@ -112,21 +112,21 @@ impl Model for PathList {
 impl PathList {
     /// The list of these paths.
     pub fn new(paths: Vec<Path>) -> PathList
-        ensures { result ≡ paths.items }
+        ensures value { result ≡ paths.items }
     {
         PathList { all: paths }
     }
 
     /// The paths in their order.
     pub fn as_slice(&self) -> &[Path]
-        ensures { result.now ≡ self.now }
+        ensures value { result.now ≡ self.now }
     {
         &self.all
     }
 
     /// The paths that the list was made of.
     pub fn into_vec(self) -> Vec<Path>
-        ensures { result.items ≡ self }
+        ensures value { result.items ≡ self }
     {
         self.all
     }

@@ -299,10 +299,10 @@ pub fn print(alloc: Global, p: &Pipe) -> Result<String, AllocError>
 
 /// The law that the printed text of a pipeline is one of its texts. It does nothing when it runs.
 pub fn printed_is_text()
-    ensures { PrintsText }
+    ensures value { PrintsText }
 {}
 
 /// The law that a pipeline with a text meets what printing asks for. It does nothing when it runs.
 pub fn texts_are_writable()
-    ensures { TextsAreWritable }
+    ensures value { TextsAreWritable }
 {}

@@ -52,21 +52,21 @@ pub struct KeyList {
 impl KeyList {
     /// The list of these.
     pub fn new(items: Vec<KeyItem>) -> KeyList
-        ensures { keys_in result ≡ items.items }
+        ensures value { keys_in result ≡ items.items }
     {
         KeyList { all: items }
     }
 
     /// The list's elements in their order.
     pub fn as_slice(&self) -> &[KeyItem]
-        ensures { result.now ≡ keys_in self.now }
+        ensures value { result.now ≡ keys_in self.now }
     {
         &self.all
     }
 
     /// What the list was made of.
     pub fn into_vec(self) -> Vec<KeyItem>
-        ensures { result.items ≡ keys_in self }
+        ensures value { result.items ≡ keys_in self }
     {
         self.all
     }
@@ -101,21 +101,21 @@ pub struct PipeList {
 impl PipeList {
     /// The list of these.
     pub fn new(items: Vec<Pipe>) -> PipeList
-        ensures { pipes_in result ≡ items.items }
+        ensures value { pipes_in result ≡ items.items }
     {
         PipeList { all: items }
     }
 
     /// The list's elements in their order.
     pub fn as_slice(&self) -> &[Pipe]
-        ensures { result.now ≡ pipes_in self.now }
+        ensures value { result.now ≡ pipes_in self.now }
     {
         &self.all
     }
 
     /// What the list was made of.
     pub fn into_vec(self) -> Vec<Pipe>
-        ensures { result.items ≡ pipes_in self }
+        ensures value { result.items ≡ pipes_in self }
     {
         self.all
     }

@@ -244,7 +244,7 @@ pub struct DiskFolder<'a, R: HostFiles> {
 impl<'a, R: HostFiles> DiskFolder<'a, R> {
     /// No file is open, and no call has failed yet.
     pub fn new(rt: &'a R) -> DiskFolder<'a, R>
-        ensures { result.faults ≡ 0 }
+        ensures value { result.faults ≡ 0 }
     {
         DiskFolder {
             rt,
@@ -256,7 +256,7 @@ impl<'a, R: HostFiles> DiskFolder<'a, R> {
 
     /// The name of the last read that failed, where it has at most 4,096 bytes.
     pub fn failed_name(&self) -> Option<&str>
-        ensures { option_map (λ n. n.now) result ≡ option_map (λ n. n.bytes) self.now.failed }
+        ensures value { option_map (λ n. n.now) result ≡ option_map (λ n. n.bytes) self.now.failed }
     {
         match &self.failed {
             Some(name) => Some(name.as_str()),

@@ -46,7 +46,7 @@ pub trait Source {
 
     /// How often it has failed. The count stays at its last value.
     fn faults(&self) -> u64
-        ensures { result ≡ fault_count self.now };
+        ensures value { result ≡ fault_count self.now };
 
     /// Reads the next bytes into the front of `buf`, and says how many. At `Ok(0)`, with room, nothing is left.
     fn read(&mut self, buf: &mut [u8]) -> Result<usize, Failed>
@@ -67,7 +67,7 @@ pub trait Sink {
 
     /// How often it has failed. The count stays at its last value.
     fn faults(&self) -> u64
-        ensures { result ≡ fault_count self.now };
+        ensures value { result ≡ fault_count self.now };
 
     /// Appends the first bytes of `piece`, at least one if there is one, and says how many.
     fn write(&mut self, piece: &[u8]) -> Result<usize, Failed>
@@ -91,7 +91,7 @@ pub trait Folder {
 
     /// How often it has failed. The count stays at its last value.
     fn faults(&self) -> u64
-        ensures { result ≡ fault_count self.now };
+        ensures value { result ≡ fault_count self.now };
 
     /// Reads the bytes of the named file from the place `at` on, and says how many. At `Ok(0)`, with room, the file ends
     /// there. A file that is missing is a fault.

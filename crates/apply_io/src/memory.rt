@@ -55,7 +55,7 @@ impl MemSource {
     /// Gives at most `most` bytes in a call. The calls with these numbers fail.
     pub fn new(bytes: Vec<u8>, most: usize, fails: Vec<u64>) -> MemSource
         requires { 0 < most }
-        ensures { result ≡ record { left = bytes.items; most = most; fails = fails.items; calls = 0; faults = 0 } }
+        ensures value { result ≡ record { left = bytes.items; most = most; fails = fails.items; calls = 0; faults = 0 } }
     {
         MemSource {
             bytes,
@@ -143,7 +143,7 @@ impl MemSink {
         fails: Vec<u64>,
     ) -> Result<MemSink, AllocError>
         requires { 0 < most }
-        ensures { IfOk result
+        ensures value { IfOk result
             (λ s. s ≡ record { held = []; room = room; most = most; fails = fails.items; calls = 0; faults = 0 }) }
     {
         Ok(MemSink {
@@ -158,7 +158,7 @@ impl MemSink {
 
     /// The bytes that were written.
     pub fn bytes(&self) -> &[u8]
-        ensures { result.now ≡ self.now.held }
+        ensures value { result.now ≡ self.now.held }
     {
         self.bytes.as_slice()
     }
@@ -241,7 +241,7 @@ impl Model for MemFolder {
 impl MemFolder {
     /// A folder with these files, of which the first of a name counts. The calls with these numbers fail.
     pub fn new(files: Vec<(String, Vec<u8>)>, fails: Vec<u64>) -> MemFolder
-        ensures { result ≡ record { files = files_of files.items; fails = fails.items; calls = 0; faults = 0 } }
+        ensures value { result ≡ record { files = files_of files.items; fails = fails.items; calls = 0; faults = 0 } }
     {
         MemFolder {
             files,

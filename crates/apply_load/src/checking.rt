@@ -71,7 +71,7 @@ fn push_line(
 
 /// The number of entities, and the state of each hierarchy, by type name and then by qualifier.
 pub fn check(alloc: Global, store: &Store) -> Result<Vec<u8>, AllocError>
-    ensures { IfOk result (λ text. text.items ≡ check_text store.now.world) }
+    ensures value { IfOk result (λ text. text.items ≡ check_text store.now.world) }
 {
     let mut text = Vec::new(alloc);
     text.extend_from_slice(b"entities ")?;

@@ -15,7 +15,7 @@ use std::alloc::{AllocError, Global};
 pub fn load_generated(alloc: Global, count: u32) -> Result<Store, AllocError>
     requires some { 1 ≤ count }
     requires few { count ≤ 200000 }
-    ensures { IfOk result (λ s. IsGenerated count s.world (readings s.customs)) }
+    ensures value { IfOk result (λ s. IsGenerated count s.world (readings s.customs)) }
 {
     let Ok(model) = read_model(alloc, sample_model_text()) else {
         return Err(AllocError);

@@ -18,7 +18,7 @@ use std::alloc::{AllocError, Global};
 /// sum are of one type of numbers, and only their whole sum is tested against its range.
 pub fn aggregate(alloc: Global, method: Method, values: &[Seen<'_>]) -> Result<Value, AllocError>
     requires { AreFor method (map seen_value values.now) }
-    ensures { IfOk result (λ v. v ≡ spec.aggregate method (map seen_value values.now)) }
+    ensures value { IfOk result (λ v. v ≡ spec.aggregate method (map seen_value values.now)) }
 {
     if has_beyond(values) {
         return Ok(Value::Beyond);
@@ -88,7 +88,7 @@ fn count_distinct(alloc: Global, values: &[Seen<'_>]) -> Result<Value, AllocErro
 
 /// The count as a value: one past 63 bits counts more than any memory holds.
 pub fn count(n: usize) -> Result<Value, AllocError>
-    ensures { IfOk result (λ v. v ≡ Value'.Int (pos n)) }
+    ensures value { IfOk result (λ v. v ≡ Value'.Int (pos n)) }
 {
     match i64::try_from(n) {
         Ok(n) => Ok(Value::Int(n)),

@@ -25,7 +25,7 @@ pub fn seen_values<'a>(
     rows: &'a [Row],
 ) -> Result<Vec<Seen<'a>>, AllocError>
     requires { IsTrue (all_of store.now rows.now) }
-    ensures { IfOk result (λ vs. map seen_value vs.items ≡ values store.now (expr_of e.now) rows.now) }
+    ensures value { IfOk result (λ vs. map seen_value vs.items ≡ values store.now (expr_of e.now) rows.now) }
 {
     let mut found = Vec::with_capacity(alloc, rows.len())?;
     for row in rows {
@@ -42,7 +42,7 @@ pub fn values_of(
     rows: &[Row],
 ) -> Result<Vec<Value>, AllocError>
     requires { IsTrue (all_of store.now rows.now) }
-    ensures { IfOk result (λ vs. vs.items ≡ values store.now (expr_of e.now) rows.now) }
+    ensures value { IfOk result (λ vs. vs.items ≡ values store.now (expr_of e.now) rows.now) }
 {
     let mut found = Vec::with_capacity(alloc, rows.len())?;
     for row in rows {
@@ -53,7 +53,7 @@ pub fn values_of(
 
 /// The path of one name.
 pub fn path_of(alloc: Global, name: &Name) -> Result<Path, AllocError>
-    ensures { IfOk result (λ p. p ≡ name.now ∷ []) }
+    ensures value { IfOk result (λ p. p ≡ name.now ∷ []) }
 {
     let mut names = Vec::new(alloc);
     names.push(name.copy(alloc)?)?;

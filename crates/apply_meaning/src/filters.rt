@@ -33,7 +33,7 @@ pub fn filter_rows(
     rows: Vec<Row>,
 ) -> Result<Vec<Row>, RunRefused>
     requires { IsTrue (all_of store.now rows.items) }
-    ensures { Gives result (refused_at_beyond (values store.now (expr_of e.now) rows.items) (filter (λ i. spec.is_value true (val store.now i (expr_of e.now))) rows.items)) }
+    ensures value { Gives result (refused_at_beyond (values store.now (expr_of e.now) rows.items) (filter (λ i. spec.is_value true (val store.now i (expr_of e.now))) rows.items)) }
 {
     let mut kept = Vec::new(alloc);
     for row in rows {
@@ -46,7 +46,7 @@ pub fn filter_rows(
 
 /// The first `n` rows.
 pub fn top_rows(n: u64, rows: Vec<Row>) -> Vec<Row>
-    ensures { result.items ≡ take n rows.items }
+    ensures value { result.items ≡ take n rows.items }
 {
     let mut rows = rows;
     if let Ok(n) = usize::try_from(n) {
@@ -57,7 +57,7 @@ pub fn top_rows(n: u64, rows: Vec<Row>) -> Vec<Row>
 
 /// The rows without the first `n`. No memory is taken.
 pub fn skip_rows(n: u64, rows: Vec<Row>) -> Vec<Row>
-    ensures { result.items ≡ drop n rows.items }
+    ensures value { result.items ≡ drop n rows.items }
 {
     let mut rows = rows;
     let n = match usize::try_from(n) {

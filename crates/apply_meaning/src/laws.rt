@@ -6,42 +6,42 @@ use edm_data::Data;
 
 /// Every data is a world of a sound model whose lists have the form that the model says.
 pub fn data_is_loaded(store: &Data)
-    ensures { IsLoaded store.now }
+    ensures value { IsLoaded store.now }
 {
     let _sets = store.model().sets();
 }
 
 /// A typed expression has a value of its type on each instance that fits the shape.
 pub fn values_fit()
-    ensures { ValuesFit IsLoaded }
+    ensures value { ValuesFit IsLoaded }
 {}
 
 /// A sure expression is never `Beyond`: on no instance that fits the shape is a number past its range.
 pub fn sure_values_are_in_range()
-    ensures { SureIsNotBeyond IsLoaded }
+    ensures value { SureIsNotBeyond IsLoaded }
 {}
 
 /// The instances of an entity set fit the set's own shape.
 pub fn set_rows_fit()
-    ensures { RowsFit IsLoaded }
+    ensures value { RowsFit IsLoaded }
 {}
 
 /// The instances of the nodes of a hierarchy fit the shape of the hierarchy's type.
 pub fn node_rows_fit()
-    ensures { NodesFit IsLoaded }
+    ensures value { NodesFit IsLoaded }
 {}
 
 /// The instances of the entities that an instance's entity is related to fit the shape of the navigation's target.
 pub fn related_rows_fit()
-    ensures { RelatedFit IsLoaded }
+    ensures value { RelatedFit IsLoaded }
 {}
 
 /// What a typed pipeline makes of instances that fit a lawful shape fits the shape that the pipeline leads to.
 pub fn meanings_fit()
-    ensures { MeanFits IsLoaded }
+    ensures value { MeanFits IsLoaded }
 {}
 
 /// A quiet pipeline is never refused on instances that fit a lawful shape.
 pub fn quiet_is_not_refused()
-    ensures { QuietIsNotRefused IsLoaded }
+    ensures value { QuietIsNotRefused IsLoaded }
 {}

@@ -47,7 +47,8 @@ pub use laws::{
     data_is_loaded, meanings_fit, node_rows_fit, quiet_is_not_refused, related_rows_fit,
     set_rows_fit, sure_values_are_in_range, values_fit,
 };
-pub use lookups::lookup;
+pub use lookups::{lookup, value_behind};
+pub use operators::{binary, call1, call2, negation};
 pub use plain::{aggregation_rows, is_plain, is_plain_step, run_plain};
 pub use refusals::RunRefused;
 pub use rows::{Row, copy_columns, copy_prefixes};

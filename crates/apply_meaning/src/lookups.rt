@@ -89,9 +89,9 @@ fn value_on<'a>(store: &'a Data, e: EntityRef, names: &[Name]) -> Seen<'a>
 }
 
 /// What a path leads to from what stands at a prefix; null where that is no entity.
-fn value_behind<'a>(store: &'a Data, bound: Option<EntityRef>, names: &[Name]) -> Seen<'a>
+pub fn value_behind<'a>(store: &'a Data, bound: Option<EntityRef>, names: &[Name]) -> Seen<'a>
     requires { IfSome bound (λ e. IsSet store.now.model e.set) }
-    ensures { seen_value result ≡ unwrap_or (option_and_then (spec.value_behind store.now names.now) bound) Value.Null }
+    ensures value { seen_value result ≡ unwrap_or (option_and_then (spec.value_behind store.now names.now) bound) Value.Null }
 {
     match bound {
         Some(e) => value_on(store, e, names),
@@ -116,7 +116,7 @@ fn prefix_value<'a>(store: &'a Data, row: &Row, names: &[Name]) -> Seen<'a>
 /// memory is taken.
 pub fn lookup<'a>(store: &'a Data, row: &'a Row, path: &Path) -> Seen<'a>
     requires { IsTrue (is_of store.now row.now) }
-    ensures { seen_value result ≡ spec.lookup store.now row.now path.now }
+    ensures value { seen_value result ≡ spec.lookup store.now row.now path.now }
 {
     let names = path.names();
     match column_at(row.columns(), names) {

@@ -133,8 +133,8 @@ fn either<'a>(a: Seen<'a>, b: Seen<'a>) -> Seen<'a>
 }
 
 /// `not`
-pub(crate) fn negation<'a>(a: Seen<'a>) -> Seen<'a>
-    ensures { seen_value result ≡ spec.negation (seen_value a.entry) }
+pub fn negation<'a>(a: Seen<'a>) -> Seen<'a>
+    ensures value { seen_value result ≡ spec.negation (seen_value a.entry) }
 {
     match a {
         Seen::Beyond => Seen::Beyond,
@@ -144,8 +144,8 @@ pub(crate) fn negation<'a>(a: Seen<'a>) -> Seen<'a>
 }
 
 /// The value of a binary operation.
-pub(crate) fn binary<'a>(op: BinOp, a: Seen<'a>, b: Seen<'a>) -> Seen<'a>
-    ensures { seen_value result ≡ binary op (seen_value a.entry) (seen_value b.entry) }
+pub fn binary<'a>(op: BinOp, a: Seen<'a>, b: Seen<'a>) -> Seen<'a>
+    ensures value { seen_value result ≡ binary op (seen_value a.entry) (seen_value b.entry) }
 {
     match op {
         BinOp::Or => either(a, b),
@@ -163,8 +163,8 @@ pub(crate) fn binary<'a>(op: BinOp, a: Seen<'a>, b: Seen<'a>) -> Seen<'a>
 }
 
 /// The value of a function of one argument.
-pub(crate) fn call1<'a>(f: Fun1, a: Seen<'a>) -> Seen<'a>
-    ensures { seen_value result ≡ call1 f (seen_value a.entry) }
+pub fn call1<'a>(f: Fun1, a: Seen<'a>) -> Seen<'a>
+    ensures value { seen_value result ≡ call1 f (seen_value a.entry) }
 {
     match (f, a) {
         (_, Seen::Beyond) => Seen::Beyond,
@@ -177,8 +177,8 @@ pub(crate) fn call1<'a>(f: Fun1, a: Seen<'a>) -> Seen<'a>
 }
 
 /// The value of a function of two texts.
-pub(crate) fn call2<'a>(f: Fun2, a: Seen<'a>, b: Seen<'a>) -> Seen<'a>
-    ensures { seen_value result ≡ call2 f (seen_value a.entry) (seen_value b.entry) }
+pub fn call2<'a>(f: Fun2, a: Seen<'a>, b: Seen<'a>) -> Seen<'a>
+    ensures value { seen_value result ≡ call2 f (seen_value a.entry) (seen_value b.entry) }
 {
     match (a, b) {
         (Seen::Beyond, _) | (_, Seen::Beyond) => Seen::Beyond,

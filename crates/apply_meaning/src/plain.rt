@@ -38,14 +38,14 @@ fn are_plain(steps: &[Step]) -> bool
 /// Whether the pipeline is plain: its transformations are `identity`, `filter`, `compute`, `skip`, `top`, and `aggregate`
 /// without custom aggregates.
 pub fn is_plain(pipe: &Pipe) -> bool
-    ensures { result ≡ spec.is_plain (pipe_of pipe.now) }
+    ensures value { result ≡ spec.is_plain (pipe_of pipe.now) }
 {
     are_plain(pipe.steps())
 }
 
 /// Whether the transformation is one of these.
 pub fn is_plain_step(step: &Step) -> bool
-    ensures { result ≡ spec.is_plain_step (step_of step.now) }
+    ensures value { result ≡ spec.is_plain_step (step_of step.now) }
 {
     match step {
         Step::Identity | Step::Filter(_) | Step::Compute(_) | Step::Skip(_) | Step::Top(_) => true,

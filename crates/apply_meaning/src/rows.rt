@@ -90,7 +90,7 @@ impl Row {
 
     /// The entity at the empty prefix.
     pub fn root(&self) -> Option<EntityRef>
-        ensures { result ≡ root_of self.now }
+        ensures value { result ≡ root_of self.now }
     {
         self.root
     }
@@ -131,7 +131,7 @@ pub fn copy_prefixes(
     alloc: Global,
     prefixes: &[(Path, Option<EntityRef>)],
 ) -> Result<Vec<(Path, Option<EntityRef>)>, AllocError>
-    ensures { IfOk result (λ copies. copies.items ≡ prefixes.now) }
+    ensures value { IfOk result (λ copies. copies.items ≡ prefixes.now) }
 {
     let mut copies = Vec::with_capacity(alloc, prefixes.len())?;
     for prefix in prefixes {
@@ -145,7 +145,7 @@ pub fn copy_columns(
     alloc: Global,
     columns: &[(Path, Value)],
 ) -> Result<Vec<(Path, Value)>, AllocError>
-    ensures { IfOk result (λ copies. copies.items ≡ columns.now) }
+    ensures value { IfOk result (λ copies. copies.items ≡ columns.now) }
 {
     let mut copies = Vec::with_capacity(alloc, columns.len())?;
     for column in columns {

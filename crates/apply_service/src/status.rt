@@ -26,7 +26,7 @@ pub enum Status {
 impl Status {
     /// The number that a program ends with.
     pub fn number(self) -> u8
-        ensures { result ≡ exit_code self }
+        ensures value { result ≡ exit_code self }
     {
         match self {
             Status::Served => 0,

@@ -38,7 +38,7 @@ fn text_of(alloc: Global, value: Seen<'_>) -> Result<String, AllocError>
 /// The plain text of the identifier of an entity.
 pub fn identifier(alloc: Global, store: &Data, e: EntityRef) -> Result<String, AllocError>
     requires { IsSet store.now.model e.set }
-    ensures { IfOk result (λ text. string_bytes text ≡ plain_text (key store.now e)) }
+    ensures value { IfOk result (λ text. string_bytes text ≡ plain_text (key store.now e)) }
 {
     let model = store.model();
     let key = model.key_of(model.set_type(e.set));

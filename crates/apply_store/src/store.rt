@@ -42,7 +42,7 @@ impl Store {
         requires typed { AreTypedOver loaded.model customs }
         requires whole { IsTrue (customs_typed loaded.model (readings customs)) }
         requires states { AreStates loaded hiers.items }
-        ensures { result ≡ record { world = loaded; customs = customs; hiers = hiers.items } }
+        ensures value { result ≡ record { world = loaded; customs = customs; hiers = hiers.items } }
     {
         Store {
             loaded,
@@ -53,14 +53,14 @@ impl Store {
 
     /// The data.
     pub fn data(&self) -> &Data
-        ensures { result.now ≡ self.now.world }
+        ensures value { result.now ≡ self.now.world }
     {
         &self.loaded
     }
 
     /// The model.
     pub fn model(&self) -> &edm_model::Model
-        ensures { result.now ≡ self.now.world.model }
+        ensures value { result.now ≡ self.now.world.model }
     {
         self.loaded.model()
     }

@@ -34,7 +34,7 @@ impl Model for ColumnShape {
 impl ColumnShape {
     /// The same column.
     pub fn copy(&self, alloc: Global) -> Result<ColumnShape, AllocError>
-        ensures { IfOk result (λ c. c ≡ self.now) }
+        ensures value { IfOk result (λ c. c ≡ self.now) }
     {
         Ok(ColumnShape {
             path: self.path.copy(alloc)?,
@@ -89,7 +89,7 @@ impl Model for ColumnList {
 impl ColumnList {
     /// The list of these columns.
     pub fn new(columns: Vec<ColumnShape>) -> ColumnList
-        ensures { result ≡ columns.items }
+        ensures value { result ≡ columns.items }
     {
         ColumnList {
             all: columns,
@@ -99,21 +99,21 @@ impl ColumnList {
 
     /// The columns in their order.
     pub fn as_slice(&self) -> &[ColumnShape]
-        ensures { result.now ≡ self.now }
+        ensures value { result.now ≡ self.now }
     {
         &self.all
     }
 
     /// The columns that the list was made of.
     pub fn into_vec(self) -> Vec<ColumnShape>
-        ensures { result.items ≡ self }
+        ensures value { result.items ≡ self }
     {
         self.all
     }
 
     /// The same columns, in a list that finds a column by binary search.
     pub fn copy(&self, alloc: Global) -> Result<ColumnList, AllocError>
-        ensures { IfOk result (λ l. l ≡ self.now) }
+        ensures value { IfOk result (λ l. l ≡ self.now) }
     {
         let all = copied(alloc, &self.all)?;
         match &self.order {

@@ -72,7 +72,7 @@ impl Customs {
 
     /// Whether the custom aggregate is among these.
     pub fn has(&self, id: CustomId) -> bool
-        ensures { result ≡ is_some (spec.typed_at self.now id) }
+        ensures value { result ≡ is_some (spec.typed_at self.now id) }
     {
         self.typed_at(id).is_some()
     }
@@ -80,7 +80,7 @@ impl Customs {
     /// The reading of a custom aggregate.
     pub fn read(&self, id: CustomId) -> &ReadCustom
         requires { IsTrue (is_some (spec.typed_at self.now id)) }
-        ensures { option_map (λ x. x.read) (spec.typed_at self.now id) ≡ Some result.now }
+        ensures value { option_map (λ x. x.read) (spec.typed_at self.now id) ≡ Some result.now }
     {
         match self.typed_at(id) {
             Some(custom) => &custom.read,

@@ -33,7 +33,7 @@ const INTEGER_MAX: u64 = i64::MAX as u64;
 
 /// The shape of the instances of an entity set.
 pub fn set_shape(alloc: Global, of: TypeId) -> Shape
-    ensures { result ≡ set_shape of }
+    ensures value { result ≡ set_shape of }
 {
     Shape {
         root: Some(RootShape { of, absent: false }),

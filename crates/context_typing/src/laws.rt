@@ -10,22 +10,22 @@ use edm_model::Model;
 
 /// The shape of an entity set is lawful.
 pub fn set_shape_is_lawful()
-    ensures { OwnIsLawful }
+    ensures value { OwnIsLawful }
 {}
 
 /// Typing leads from lawful shapes to lawful ones.
 pub fn typing_keeps_lawful()
-    ensures { TypingIsLawful }
+    ensures value { TypingIsLawful }
 {}
 
 /// A pipeline leads from a shape to at most one.
 pub fn one_shape()
-    ensures { OneShape }
+    ensures value { OneShape }
 {}
 
 /// Customs that were typed over a model, with all of its custom aggregates, give each of them its type.
 pub fn customs_are_typed(m: &Model, c: &Customs)
     requires typed { AreTypedOver m.now c.now }
     requires all { map (λ x. x.read.id) c.now ≡ map (λ u. u.id) (custom_list m.now) }
-    ensures { IsTrue (customs_typed m.now (readings c.now)) }
+    ensures value { IsTrue (customs_typed m.now (readings c.now)) }
 {}

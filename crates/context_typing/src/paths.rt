@@ -29,7 +29,7 @@ pub(crate) fn compare(a: &[Name], b: &[Name]) -> Ordering
 
 /// Whether the two have the same names, byte by byte, in the same order.
 pub fn same_path(a: &[Name], b: &[Name]) -> bool
-    ensures { result ≡ spec.same_path a.now b.now }
+    ensures value { result ≡ spec.same_path a.now b.now }
 {
     a.len() == b.len() && compare(a, b).is_eq()
 }

@@ -58,21 +58,21 @@ impl Model for PrefixList {
 impl PrefixList {
     /// The list of these prefixes.
     pub fn new(prefixes: Vec<PrefixShape>) -> PrefixList
-        ensures { result ≡ prefixes.items }
+        ensures value { result ≡ prefixes.items }
     {
         PrefixList { all: prefixes }
     }
 
     /// The prefixes in their order.
     pub fn as_slice(&self) -> &[PrefixShape]
-        ensures { result.now ≡ self.now }
+        ensures value { result.now ≡ self.now }
     {
         &self.all
     }
 
     /// The prefixes that the list was made of.
     pub fn into_vec(self) -> Vec<PrefixShape>
-        ensures { result.items ≡ self }
+        ensures value { result.items ≡ self }
     {
         self.all
     }
@@ -97,7 +97,7 @@ impl Model for Shape {
 impl PrefixShape {
     /// The same prefix.
     pub fn copy(&self, alloc: Global) -> Result<PrefixShape, AllocError>
-        ensures { IfOk result (λ x. x ≡ self.now) }
+        ensures value { IfOk result (λ x. x ≡ self.now) }
     {
         Ok(PrefixShape {
             path: self.path.copy(alloc)?,
@@ -110,7 +110,7 @@ impl PrefixShape {
 impl PrefixList {
     /// The same prefixes.
     pub fn copy(&self, alloc: Global) -> Result<PrefixList, AllocError>
-        ensures { IfOk result (λ l. l ≡ self.now) }
+        ensures value { IfOk result (λ l. l ≡ self.now) }
     {
         let mut prefixes = Vec::new(alloc);
         for prefix in self.as_slice() {
@@ -123,7 +123,7 @@ impl PrefixList {
 impl Shape {
     /// The same shape.
     pub fn copy(&self, alloc: Global) -> Result<Shape, AllocError>
-        ensures { IfOk result (λ s. s ≡ self.now) }
+        ensures value { IfOk result (λ s. s ≡ self.now) }
     {
         Ok(Shape {
             root: self.root,

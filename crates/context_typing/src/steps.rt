@@ -591,7 +591,7 @@ pub fn type_step(
     requires types { IsTrue (has_types m.now shape) }
     requires customs { AreTypedOver m.now c.now }
     requires sound { IsSound m.now }
-    ensures { IfOk result (λ o. o ≡ spec.step_outcome m.now (readings c.now) shape (step_of step.now)) }
+    ensures value { IfOk result (λ o. o ≡ spec.step_outcome m.now (readings c.now) shape (step_of step.now)) }
 {
     match step {
         Step::Identity => Ok(kept(shape, true, true)),

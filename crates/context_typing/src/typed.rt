@@ -111,7 +111,7 @@ pub fn is_quiet(
     requires types { IsTrue (has_types m.now s.now) }
     requires customs { AreTypedOver m.now c.now }
     requires typed { IsTrue (is_some (spec.steps_shape m.now (readings c.now) s.now (pipe_of p.now))) }
-    ensures { IfOk result (λ quiet. quiet ≡ spec.is_quiet m.now (readings c.now) s.now (pipe_of p.now)) }
+    ensures value { IfOk result (λ quiet. quiet ≡ spec.is_quiet m.now (readings c.now) s.now (pipe_of p.now)) }
 {
     let _sets = m.sets();
     match type_steps(alloc, m, c, s.copy(alloc)?, p)? {

@@ -87,7 +87,7 @@ pub fn custom<R: Threads + Sync, G: Gate>(
     requires there { IsCustom store.now.model id }
     requires read { IsTrue (is_some (typed_at c.now id)) }
     requires fit { HaveRoot store.now id.of rows.now }
-    ensures { IfOk result (λ v. Some v ≡ value_by_id store.now c.now id rows.now) }
+    ensures value { IfOk result (λ v. Some v ≡ value_by_id store.now c.now id rows.now) }
 {
     data_is_loaded(store);
     let read = c.read(id);

@@ -59,21 +59,21 @@ impl Data {
 
     /// The number of a set's entities.
     pub fn count(&self, s: SetId) -> u32
-        ensures { result ≡ world.count self.now s }
+        ensures value { result ≡ world.count self.now s }
     {
         self.keyed.tables().count(s)
     }
 
     /// The value of a property of an entity.
     pub fn property(&self, e: EntityRef, p: PropId) -> Seen<'_>
-        ensures { seen_value result ≡ world.property self.now e p.at }
+        ensures value { seen_value result ≡ world.property self.now e p.at }
     {
         self.keyed.tables().value(e, p.place())
     }
 
     /// What an entity refers to by a single-valued navigation property; by a collection-valued one, nothing.
     pub fn follow(&self, e: EntityRef, n: NavId) -> Option<EntityRef>
-        ensures { result ≡ world.follow self.now e n.at }
+        ensures value { result ≡ world.follow self.now e n.at }
     {
         match relation_of(&self.relations, e.set, n.place()) {
             Some(relation) => relation.follow(e.at),
@@ -84,7 +84,7 @@ impl Data {
     /// The entity of a set that has this key.
     pub fn by_key(&self, s: SetId, key: Seen<'_>) -> Option<EntityRef>
         requires { IsSet self.now.model s }
-        ensures { result ≡ world.by_key self.now s (seen_value key.entry) }
+        ensures value { result ≡ world.by_key self.now s (seen_value key.entry) }
     {
         self.keyed.by_key(s, key)
     }
@@ -95,7 +95,7 @@ impl Data {
         requires set { IsSet self.now.model e.set }
         requires of { n.of ≡ set_type self.now.model e.set }
         requires there { IsNavigation self.now.model n }
-        ensures { IfOk result (λ found. found.items ≡ world.related self.now e n.at) }
+        ensures value { IfOk result (λ found. found.items ≡ world.related self.now e n.at) }
     {
         let model = self.model();
         let set = model.type_set(model.nav_target(n));

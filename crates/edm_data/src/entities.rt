@@ -44,7 +44,7 @@ pub fn property_value<'a>(
 ) -> Result<Option<Seen<'a>>, AllocError>
     requires sound { IsSound model.now }
     requires there { IsProperty model.now p }
-    ensures { IfOk result (λ v. option_map (file.property_value (view entity.now)) (property_at model.now p) ≡ Some (option_map seen_value v)) }
+    ensures value { IfOk result (λ v. option_map (file.property_value (view entity.now)) (property_at model.now p) ≡ Some (option_map seen_value v)) }
 {
     if let Some(value) = entity.get(model.prop_name(p)) {
         if !value.is_null() {
@@ -60,7 +60,7 @@ pub fn property_value<'a>(
 /// Whether a member of an entity names a property, or is an annotation.
 pub fn is_known_member(model: &Model, t: TypeId, name: &String, value: &Json) -> bool
     requires { IsType model.now t }
-    ensures { result ≡ file.is_known_member (properties_of model.now t) (string_bytes name.now, view value.now) }
+    ensures value { result ≡ file.is_known_member (properties_of model.now t) (string_bytes name.now, view value.now) }
 {
     model.prop_named(t, name.as_str()).is_some() || is_annotation(name.as_str())
 }
@@ -160,7 +160,7 @@ pub(crate) fn set_rows(
 /// The items of a set's array; a set that the file does not name has none.
 pub fn set_items<'a>(model: &Model, s: SetId, root: &'a Json) -> &'a [Json]
     requires { IsSet model.now s }
-    ensures { option_map (file.array_in (view root.now)) (slice_get model.now.sets s) ≡ Some (map view result.now) }
+    ensures value { option_map (file.array_in (view root.now)) (slice_get model.now.sets s) ≡ Some (map view result.now) }
 {
     let Some(value) = root.get(model.set_name(s)) else {
         return &[];

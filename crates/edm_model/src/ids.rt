@@ -23,7 +23,7 @@ impl TypeId {
 
     /// Its place among those of the model, in byte order of names.
     pub fn place(self) -> usize
-        ensures { result ≡ self }
+        ensures value { result ≡ self }
     {
         self.place
     }
@@ -50,7 +50,7 @@ impl SetId {
 
     /// Its place among those of the model, in byte order of names.
     pub fn place(self) -> usize
-        ensures { result ≡ self }
+        ensures value { result ≡ self }
     {
         self.place
     }
@@ -78,7 +78,7 @@ impl PropId {
 
     /// Its place in the list of its type, in byte order of names.
     pub fn place(self) -> usize
-        ensures { result ≡ self.at }
+        ensures value { result ≡ self.at }
     {
         self.at
     }
@@ -106,7 +106,7 @@ impl NavId {
 
     /// Its place in the list of its type, in byte order of names.
     pub fn place(self) -> usize
-        ensures { result ≡ self.at }
+        ensures value { result ≡ self.at }
     {
         self.at
     }
@@ -134,7 +134,7 @@ impl HierId {
 
     /// Its place in the list of its type, in byte order of names.
     pub fn place(self) -> usize
-        ensures { result ≡ self.at }
+        ensures value { result ≡ self.at }
     {
         self.at
     }
@@ -162,14 +162,14 @@ impl CustomId {
 
     /// Its place in the list of its type, in byte order of names.
     pub fn place(self) -> usize
-        ensures { result ≡ self.at }
+        ensures value { result ≡ self.at }
     {
         self.at
     }
 
     /// The entity type that it belongs to.
     pub fn owner(self) -> TypeId
-        ensures { result ≡ self.of }
+        ensures value { result ≡ self.of }
     {
         TypeId { place: self.of }
     }

@@ -96,7 +96,7 @@ impl Model {
     /// The name of a set.
     pub fn set_name(&self, s: SetId) -> &str
         requires { IsSet self.now s }
-        ensures { result.now ≡ find.set_name self.now s }
+        ensures value { result.now ≡ find.set_name self.now s }
     {
         let set = &self.sets[s.place];
         set.name.as_str()
@@ -124,7 +124,7 @@ impl Model {
     /// The name of an entity type, without its namespace.
     pub fn type_name(&self, t: TypeId) -> &str
         requires { IsType self.now t }
-        ensures { result.now ≡ find.type_name self.now t }
+        ensures value { result.now ≡ find.type_name self.now t }
     {
         let entity_type = &self.types[t.place];
         entity_type.name.as_str()
@@ -189,7 +189,7 @@ impl Model {
     /// The properties of an entity type, in byte order of their names.
     pub fn props(&self, t: TypeId) -> &[PropId]
         requires { IsType self.now t }
-        ensures { result.now ≡ parts t (length (properties_of self.now t)) }
+        ensures value { result.now ≡ parts t (length (properties_of self.now t)) }
     {
         let ids = &self.ids.properties[t.place];
         ids.as_slice()
@@ -198,7 +198,7 @@ impl Model {
     /// The navigation properties of an entity type, in byte order of their names.
     pub fn navs(&self, t: TypeId) -> &[NavId]
         requires { IsType self.now t }
-        ensures { result.now ≡ parts t (length (navigations_of self.now t)) }
+        ensures value { result.now ≡ parts t (length (navigations_of self.now t)) }
     {
         let ids = &self.ids.navigations[t.place];
         ids.as_slice()
@@ -220,7 +220,7 @@ impl Model {
     /// The name of a property.
     pub fn prop_name(&self, p: PropId) -> &str
         requires { IsProperty self.now p }
-        ensures { option_map (λ q. q.name) (property_at self.now p) ≡ Some result.now }
+        ensures value { option_map (λ q. q.name) (property_at self.now p) ≡ Some result.now }
     {
         let property = self.property(p);
         property.name.as_str()
@@ -229,7 +229,7 @@ impl Model {
     /// The type of a property.
     pub fn prop_type(&self, p: PropId) -> EdmType
         requires { IsProperty self.now p }
-        ensures { option_map (λ q. q.kind) (property_at self.now p) ≡ Some result }
+        ensures value { option_map (λ q. q.kind) (property_at self.now p) ≡ Some result }
     {
         let property = self.property(p);
         property.kind
@@ -238,7 +238,7 @@ impl Model {
     /// Whether a property may be null.
     pub fn prop_nullable(&self, p: PropId) -> bool
         requires { IsProperty self.now p }
-        ensures { option_map (λ q. q.nullable) (property_at self.now p) ≡ Some result }
+        ensures value { option_map (λ q. q.nullable) (property_at self.now p) ≡ Some result }
     {
         let property = self.property(p);
         property.nullable
@@ -247,7 +247,7 @@ impl Model {
     /// The name of a navigation property.
     pub fn nav_name(&self, n: NavId) -> &str
         requires { IsNavigation self.now n }
-        ensures { option_map (λ v. v.name) (navigation_on self.now n) ≡ Some result.now }
+        ensures value { option_map (λ v. v.name) (navigation_on self.now n) ≡ Some result.now }
     {
         let navigation = self.navigation(n);
         navigation.name.as_str()
@@ -268,7 +268,7 @@ impl Model {
     /// Whether a navigation property is collection-valued.
     pub fn nav_many(&self, n: NavId) -> bool
         requires { IsNavigation self.now n }
-        ensures { option_map (λ v. v.many) (navigation_on self.now n) ≡ Some result }
+        ensures value { option_map (λ v. v.many) (navigation_on self.now n) ≡ Some result }
     {
         let navigation = self.navigation(n);
         navigation.many
@@ -314,7 +314,7 @@ impl Model {
     /// The qualifier of a hierarchy.
     pub fn hier_name(&self, h: HierId) -> &str
         requires { IsHierarchy self.now h }
-        ensures { option_map (λ q. q.qualifier) (hierarchy_on self.now h) ≡ Some result.now }
+        ensures value { option_map (λ q. q.qualifier) (hierarchy_on self.now h) ≡ Some result.now }
     {
         let hierarchy = self.hierarchy(h);
         hierarchy.qualifier.as_str()

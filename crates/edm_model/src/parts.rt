@@ -75,21 +75,21 @@ impl Texts {
 
     /// These texts.
     pub fn new(texts: Vec<Text>) -> Texts
-        ensures { result ≡ texts.items }
+        ensures value { result ≡ texts.items }
     {
         Texts { texts }
     }
 
     /// The texts.
     pub fn as_slice(&self) -> &[Text]
-        ensures { result.now ≡ self.now }
+        ensures value { result.now ≡ self.now }
     {
         self.texts.as_slice()
     }
 
     /// The texts, given back.
     pub fn into_vec(self) -> Vec<Text>
-        ensures { result.items ≡ self }
+        ensures value { result.items ≡ self }
     {
         self.texts
     }

@@ -11,14 +11,14 @@ use serde_json::Value;
 
 /// The name of a property's type.
 pub fn kind_name(property: &Value) -> &str
-    ensures { result.now ≡ spec.kind_name (view property.now) }
+    ensures value { result.now ≡ spec.kind_name (view property.now) }
 {
     text_at_or("Edm.String", "$Type", property)
 }
 
 /// Whether the property is a decimal.
 pub fn is_decimal_property(property: &Value) -> bool
-    ensures { result ≡ spec.is_decimal_property (view property.now) }
+    ensures value { result ≡ spec.is_decimal_property (view property.now) }
 {
     kind_name(property) == "Edm.Decimal"
 }
@@ -41,7 +41,7 @@ fn whole_between(low: u8, high: u8, value: &Value) -> Option<u8>
 
 /// The precision, from 1 to 18; 18 where the file gives none.
 pub fn precision_of(property: &Value) -> Option<u8>
-    ensures { result ≡ spec.precision_of (view property.now) }
+    ensures value { result ≡ spec.precision_of (view property.now) }
 {
     match property.get("$Precision") {
         Some(value) => whole_between(1, PRECISION_MAX, value),
@@ -51,7 +51,7 @@ pub fn precision_of(property: &Value) -> Option<u8>
 
 /// The scale, from 0 to 9.
 pub fn scale_of(property: &Value) -> Option<u8>
-    ensures { result ≡ spec.scale_of (view property.now) }
+    ensures value { result ≡ spec.scale_of (view property.now) }
 {
     match property.get("$Scale") {
         Some(value) => whole_between(0, SCALE_MAX, value),
@@ -98,7 +98,7 @@ pub fn is_nullable(property: &Value) -> bool
 
 /// Whether keys may have the type.
 pub fn is_key_kind(kind: EdmType) -> bool
-    ensures { result ≡ spec.is_key_kind kind }
+    ensures value { result ≡ spec.is_key_kind kind }
 {
     matches!(kind, EdmType::Int | EdmType::Text | EdmType::Day)
 }
@@ -117,7 +117,7 @@ pub(crate) fn has_property_type(property: &Value) -> bool
 
 /// Whether only a decimal has a scale or a precision.
 pub fn has_scale_in_place(property: &Value) -> bool
-    ensures { result ≡ spec.has_scale_in_place (view property.now) }
+    ensures value { result ≡ spec.has_scale_in_place (view property.now) }
 {
     is_decimal_property(property) || (lacks("$Scale", property) && lacks("$Precision", property))
 }

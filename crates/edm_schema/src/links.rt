@@ -43,7 +43,7 @@ fn leads_to(schema: &Schema<'_>, k: usize, value: &Value) -> bool
 /// The type of the property of this name.
 pub fn property_kind(entity_type: &TypeTree<'_>, name: &str) -> Option<EdmType>
     requires { IsTypeTree entity_type.now }
-    ensures { result ≡ spec.property_kind (tree_of entity_type.now) name.now }
+    ensures value { result ≡ spec.property_kind (tree_of entity_type.now) name.now }
 {
     match named(entity_type.properties.as_slice(), name) {
         Some(property) => kind_of(property),
@@ -60,7 +60,7 @@ pub fn is_reference_to(
 ) -> bool
     requires schema { IsSchema schema.now }
     requires entity_type { IsTypeTree entity_type.now }
-    ensures { result ≡ spec.is_reference_to (root_of schema.now) k (tree_of entity_type.now) name.now }
+    ensures value { result ≡ spec.is_reference_to (root_of schema.now) k (tree_of entity_type.now) name.now }
 {
     match named(entity_type.navigations.as_slice(), name) {
         Some(navigation) => lacks("$Collection", navigation) && leads_to(schema, k, navigation),
@@ -70,7 +70,7 @@ pub fn is_reference_to(
 
 /// Whether both are types, and of one kind.
 pub fn are_of_one_kind(a: Option<EdmType>, b: Option<EdmType>) -> bool
-    ensures { result ≡ spec.are_of_one_kind a b }
+    ensures value { result ≡ spec.are_of_one_kind a b }
 {
     match (a, b) {
         (Some(a), Some(b)) => a.same_kind(b),

@@ -188,7 +188,7 @@ pub(crate) fn besides_kind<'v>(
 
 /// The one member of a list of exactly one.
 pub fn only<'v>(members: &[Member<'v>]) -> Option<Member<'v>>
-    ensures { option_map member_seen result ≡ tree.only (map member_seen members.now) }
+    ensures value { option_map member_seen result ≡ tree.only (map member_seen members.now) }
 {
     match members {
         [member] => Some(*member),
@@ -221,7 +221,7 @@ pub fn constraint(navigation: &Value) -> Option<Member<'_>>
 /// The value of the member of this name.
 pub fn named<'v>(members: &[Member<'v>], name: &str) -> Option<&'v Value>
     requires { AreOrdered (map (λ m. m.name.now) members.now) }
-    ensures { option_map (λ v. view v.now) result ≡ spec.named (map member_seen members.now) name.now }
+    ensures value { option_map (λ v. view v.now) result ≡ spec.named (map member_seen members.now) name.now }
 {
     match find_named(members, name) {
         Some(place) => {

@@ -14,7 +14,7 @@ pub trait Named {
 
     /// The name.
     fn name(&self) -> &str
-        ensures { result.now ≡ name_of self.now };
+        ensures value { result.now ≡ name_of self.now };
 }
 
 /// The place of the item of this name among items in byte order of their names.

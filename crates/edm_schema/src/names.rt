@@ -15,7 +15,7 @@ pub(crate) const DEFINITION_TERM: &str = "@Local.Apply.V1.Definition#";
 
 /// Whether the name holds `@`.
 pub fn is_annotation(name: &str) -> bool
-    ensures { result ≡ spec.is_annotation name.now }
+    ensures value { result ≡ spec.is_annotation name.now }
 {
     name.as_bytes().iter().any(|byte| b'@' == *byte)
 }
@@ -64,7 +64,7 @@ pub(crate) fn is_known_term(name: &str) -> bool
 
 /// Whether a member of this name is accepted and not read.
 pub fn is_unread(name: &str) -> bool
-    ensures { result ≡ spec.is_unread name.now }
+    ensures value { result ≡ spec.is_unread name.now }
 {
     (is_annotation(name) && !is_known_term(name))
         || matches!(
@@ -90,7 +90,7 @@ pub(crate) fn is_own(name: &str) -> bool
 /// Whether it is one of these names.
 #[tactic(auto, using(crate::proofs::Mapped::mapped))]
 pub fn is_one_of(names: &[&str], name: &str) -> bool
-    ensures { result ≡ lists.is_one_of (map (λ n. n.now) names.now) name.now }
+    ensures value { result ≡ lists.is_one_of (map (λ n. n.now) names.now) name.now }
 {
     for known in names {
         if name == *known {

@@ -24,7 +24,7 @@ use std::alloc::{AllocError, Global};
 
 /// Whether the parts of a text between its points are simple identifiers.
 pub fn are_names(text: &str) -> bool
-    ensures { result ≡ list_all names.is_name (slice_split is_point text.now) }
+    ensures value { result ≡ list_all names.is_name (slice_split is_point text.now) }
 {
     text.split('.').all(|part| is_name(part))
 }
@@ -43,7 +43,7 @@ fn has_one_schema(root: &Value) -> bool
 
 /// Whether a member of the schema is not read, or an entity type or a container.
 pub fn is_schema_member(member: Member<'_>) -> bool
-    ensures { let m = member_seen member.entry in result ≡ (spec.is_unread m.0 || spec.is_object_of_kind (codes "EntityType") m.1 || spec.is_object_of_kind (codes "EntityContainer") m.1) }
+    ensures value { let m = member_seen member.entry in result ≡ (spec.is_unread m.0 || spec.is_object_of_kind (codes "EntityType") m.1 || spec.is_object_of_kind (codes "EntityContainer") m.1) }
 {
     is_unread(member.name)
         || is_object_of_kind("EntityType", member.value)
@@ -73,7 +73,7 @@ fn has_one_container(schema: &Schema<'_>) -> bool
 
 /// Whether `$Key` is an array of one string.
 pub fn has_key_name(entity_type: &Value) -> bool
-    ensures { result ≡ passes_at (codes "$Key") (λ k. is_some (only_string k)) (view entity_type.now) }
+    ensures value { result ≡ passes_at (codes "$Key") (λ k. is_some (only_string k)) (view entity_type.now) }
 {
     match entity_type.get("$Key") {
         Some(key) => only_string(key).is_some(),
@@ -106,7 +106,7 @@ fn has_one_key(t: &TypeTree<'_>) -> bool
 
 /// Whether a member of a type is its key or a term, or a property or a navigation property.
 pub fn is_type_member(member: Member<'_>) -> bool
-    ensures { let m = member_seen member.entry in result ≡ (not (spec.is_own m.0) || spec.is_property m.1 || spec.is_navigation m.1) }
+    ensures value { let m = member_seen member.entry in result ≡ (not (spec.is_own m.0) || spec.is_property m.1 || spec.is_navigation m.1) }
 {
     !is_own(member.name) || is_property(member.value) || is_navigation(member.value)
 }
@@ -203,7 +203,7 @@ pub(crate) fn is_list_of_strings_at(name: &str, value: &Value) -> bool
 
 /// Whether there are paths of groups with an outer method, or neither.
 pub fn has_groups_or_none(definition: &Value) -> bool
-    ensures { result ≡ spec.has_groups_or_none (view definition.now) }
+    ensures value { result ≡ spec.has_groups_or_none (view definition.now) }
 {
     (lacks("Per", definition) && lacks("Then", definition))
         || (is_list_of_strings_at("Per", definition) && method_at("Then", definition).is_some())
@@ -286,7 +286,7 @@ pub(crate) fn is_simply_qualified(term: &str, name: &str) -> bool
 
 /// Whether the name of a member of a type is a simple identifier or has one as its qualifier.
 pub fn has_simple_name(name: &str) -> bool
-    ensures { result ≡ ((not (spec.is_own name.now) || names.is_name name.now) && spec.is_simply_qualified spec.hierarchy_term name.now && spec.is_simply_qualified spec.aggregate_term name.now && spec.is_simply_qualified spec.definition_term name.now) }
+    ensures value { result ≡ ((not (spec.is_own name.now) || names.is_name name.now) && spec.is_simply_qualified spec.hierarchy_term name.now && spec.is_simply_qualified spec.aggregate_term name.now && spec.is_simply_qualified spec.definition_term name.now) }
 {
     (!is_own(name) || is_name(name))
         && is_simply_qualified(HIERARCHY_TERM, name)
@@ -342,7 +342,7 @@ fn has_names(schema: &Schema<'_>) -> bool
 /// How many sets lead to each entity type.
 pub fn set_counts(alloc: Global, schema: &Schema<'_>) -> Result<Vec<usize>, AllocError>
     requires { IsSchema schema.now }
-    ensures { let d = root_of schema.now in IfOk result (λ v. v.items ≡ map (λ k. count_by (λ m. spec.leads_to d k m.1) (spec.set_members d)) (places (length (spec.type_members d)))) }
+    ensures value { let d = root_of schema.now in IfOk result (λ v. v.items ≡ map (λ k. count_by (λ m. spec.leads_to d k m.1) (spec.set_members d)) (places (length (spec.type_members d)))) }
 {
     let mut counts = Vec::from_elem(alloc, 0, schema.types.len())?;
     for member in &schema.sets {

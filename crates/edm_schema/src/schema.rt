@@ -68,7 +68,7 @@ fn cut_at_last_point(text: &str) -> (&str, &str)
 
 /// The namespace of the schema.
 pub fn namespace(root: &Value) -> &str
-    ensures { result.now ≡ spec.namespace (view root.now) }
+    ensures value { result.now ≡ spec.namespace (view root.now) }
 {
     let (before, _) = cut_at_last_point(text_at("$EntityContainer", root));
     before
@@ -76,7 +76,7 @@ pub fn namespace(root: &Value) -> &str
 
 /// The name of the entity container.
 pub fn container_name(root: &Value) -> &str
-    ensures { result.now ≡ after_last is_point (spec.container_path (view root.now)) }
+    ensures value { result.now ≡ after_last is_point (spec.container_path (view root.now)) }
 {
     let (_, after) = cut_at_last_point(text_at("$EntityContainer", root));
     after

@@ -10,7 +10,7 @@ use serde_json::Value;
 
 /// Whether it is this string.
 pub fn is_text(text: &str, value: &Value) -> bool
-    ensures { result ≡ spec.is_text text.now (view value.now) }
+    ensures value { result ≡ spec.is_text text.now (view value.now) }
 {
     match value.as_str() {
         Some(found) => text == found,
@@ -47,7 +47,7 @@ pub fn text_at<'v>(name: &str, value: &'v Value) -> &'v str
 
 /// Whether there is no such member.
 pub fn lacks(name: &str, value: &Value) -> bool
-    ensures { result ≡ spec.lacks name.now (view value.now) }
+    ensures value { result ≡ spec.lacks name.now (view value.now) }
 {
     value.get(name).is_none()
 }
@@ -69,7 +69,7 @@ pub(crate) fn is_object_of(names: &[&str], value: &Value) -> bool
 
 /// Whether the member is a string where it stands.
 pub fn is_string_if_there(name: &str, value: &Value) -> bool
-    ensures { result ≡ spec.passes_if_at name.now spec.is_string (view value.now) }
+    ensures value { result ≡ spec.passes_if_at name.now spec.is_string (view value.now) }
 {
     match value.get(name) {
         Some(found) => found.is_string(),
@@ -79,7 +79,7 @@ pub fn is_string_if_there(name: &str, value: &Value) -> bool
 
 /// Whether the member is true or false where it stands.
 pub fn is_boolean_if_there(name: &str, value: &Value) -> bool
-    ensures { result ≡ spec.passes_if_at name.now spec.is_boolean (view value.now) }
+    ensures value { result ≡ spec.passes_if_at name.now spec.is_boolean (view value.now) }
 {
     match value.get(name) {
         Some(found) => found.is_boolean(),
@@ -89,7 +89,7 @@ pub fn is_boolean_if_there(name: &str, value: &Value) -> bool
 
 /// Whether the member stands and is a string.
 pub fn is_string_at(name: &str, value: &Value) -> bool
-    ensures { result ≡ spec.passes_at name.now spec.is_string (view value.now) }
+    ensures value { result ≡ spec.passes_at name.now spec.is_string (view value.now) }
 {
     match value.get(name) {
         Some(found) => found.is_string(),
@@ -99,7 +99,7 @@ pub fn is_string_at(name: &str, value: &Value) -> bool
 
 /// Whether the member stands and is an object.
 pub fn is_object_at(name: &str, value: &Value) -> bool
-    ensures { result ≡ spec.passes_at name.now spec.is_object (view value.now) }
+    ensures value { result ≡ spec.passes_at name.now spec.is_object (view value.now) }
 {
     match value.get(name) {
         Some(found) => found.is_object(),
@@ -109,7 +109,7 @@ pub fn is_object_at(name: &str, value: &Value) -> bool
 
 /// Whether the member stands and is this string.
 pub fn is_text_at(name: &str, text: &str, value: &Value) -> bool
-    ensures { result ≡ spec.passes_at name.now (spec.is_text text.now) (view value.now) }
+    ensures value { result ≡ spec.passes_at name.now (spec.is_text text.now) (view value.now) }
 {
     match value.get(name) {
         Some(found) => is_text(text, found),

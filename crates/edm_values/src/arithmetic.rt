@@ -10,7 +10,7 @@ use crate::{Dec, Seen};
 /// The sum of two numbers: an integer of two integers, and else a decimal of the greater scale. Beside a value that is
 /// no number it is null.
 pub fn add<'a>(a: Seen<'a>, b: Seen<'a>) -> Seen<'a>
-    ensures { seen_value result ≡ spec.plus (seen_value a.entry) (seen_value b.entry) }
+    ensures value { seen_value result ≡ spec.plus (seen_value a.entry) (seen_value b.entry) }
 {
     match (a, b) {
         (_, Seen::Beyond) | (Seen::Beyond, _) => Seen::Beyond,
@@ -24,7 +24,7 @@ pub fn add<'a>(a: Seen<'a>, b: Seen<'a>) -> Seen<'a>
 
 /// The difference of two numbers, in the type of their sum.
 pub fn sub<'a>(a: Seen<'a>, b: Seen<'a>) -> Seen<'a>
-    ensures { seen_value result ≡ spec.minus (seen_value a.entry) (seen_value b.entry) }
+    ensures value { seen_value result ≡ spec.minus (seen_value a.entry) (seen_value b.entry) }
 {
     match (a, b) {
         (Seen::Beyond, _) | (_, Seen::Beyond) => Seen::Beyond,
@@ -38,7 +38,7 @@ pub fn sub<'a>(a: Seen<'a>, b: Seen<'a>) -> Seen<'a>
 
 /// The product of two numbers: an integer of two integers, and else a decimal whose scale is the sum of the scales.
 pub fn mul<'a>(a: Seen<'a>, b: Seen<'a>) -> Seen<'a>
-    ensures { seen_value result ≡ spec.times (seen_value a.entry) (seen_value b.entry) }
+    ensures value { seen_value result ≡ spec.times (seen_value a.entry) (seen_value b.entry) }
 {
     match (a, b) {
         (Seen::Beyond, _) | (_, Seen::Beyond) => Seen::Beyond,
@@ -52,7 +52,7 @@ pub fn mul<'a>(a: Seen<'a>, b: Seen<'a>) -> Seen<'a>
 
 /// The number with the other sign.
 pub fn neg<'a>(a: Seen<'a>) -> Seen<'a>
-    ensures { seen_value result ≡ spec.negated (seen_value a.entry) }
+    ensures value { seen_value result ≡ spec.negated (seen_value a.entry) }
 {
     match a {
         Seen::Beyond => Seen::Beyond,

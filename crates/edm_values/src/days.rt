@@ -14,7 +14,7 @@ const YEAR_MAX: i32 = 9999;
 impl Day {
     /// The day of this year, month and day of the month, if the calendar has it.
     pub fn new(year: i32, month: u8, day: u8) -> Option<Day>
-        ensures { result ≡ day_of year month day }
+        ensures value { result ≡ day_of year month day }
     {
         if year < YEAR_MIN || year > YEAR_MAX || month > 12 || day > 31 {
             return None;
@@ -31,21 +31,21 @@ impl Day {
 
     /// The year, from 1 to 9999.
     pub fn year(&self) -> i32
-        ensures { result ≡ pos self.now.year }
+        ensures value { result ≡ pos self.now.year }
     {
         i32::from(self.year)
     }
 
     /// The month, from 1 to 12.
     pub fn month(&self) -> u8
-        ensures { result ≡ self.now.month }
+        ensures value { result ≡ self.now.month }
     {
         self.month
     }
 
     /// The day of the month, from 1.
     pub fn day(&self) -> u8
-        ensures { result ≡ self.now.day }
+        ensures value { result ≡ self.now.day }
     {
         self.day
     }

@@ -17,7 +17,7 @@ pub const SCALE_MAX: u8 = 9;
 impl Dec {
     /// The decimal `m / 10^s`, if the mantissa and the scale keep their limits.
     pub fn new(m: i64, s: u8) -> Option<Dec>
-        ensures { result ≡ decimal_of m s }
+        ensures value { result ≡ decimal_of m s }
     {
         if m < -MANTISSA_MAX || m > MANTISSA_MAX || s > SCALE_MAX {
             return None;

@@ -7,14 +7,14 @@ use crate::EdmType;
 impl EdmType {
     /// Whether it is a type of numbers.
     pub fn is_number(self) -> bool
-        ensures { result ≡ is_number_kind self }
+        ensures value { result ≡ is_number_kind self }
     {
         matches!(self, EdmType::Int | EdmType::Dec { .. })
     }
 
     /// Whether the two are equal but for the precision.
     pub fn same_kind(self, other: EdmType) -> bool
-        ensures { result ≡ same_kind self other }
+        ensures value { result ≡ same_kind self other }
     {
         match (self, other) {
             (EdmType::Bool, EdmType::Bool)

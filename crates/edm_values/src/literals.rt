@@ -30,7 +30,7 @@ pub fn read_value(alloc: Global, text: &str, kind: EdmType) -> Result<Value, Rea
 /// A printed value reads as itself: this is a law, and the call does nothing.
 pub fn printed_value_reads(value: &Value, kind: EdmType)
     requires { IsTrue (has_literal kind value.now) }
-    ensures { literal kind (plain_text value.now) ≡ Written value.now }
+    ensures value { literal kind (plain_text value.now) ≡ Written value.now }
 {}
 
 fn read_boolean(text: &str) -> Result<Value, ReadRefused>

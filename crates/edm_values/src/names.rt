@@ -8,7 +8,7 @@ const LENGTH_MAX: usize = 128;
 
 /// Whether the text is a simple identifier and no word of expressions or pipelines.
 pub fn is_name(text: &str) -> bool
-    ensures { result ≡ spec.is_name text.now }
+    ensures value { result ≡ spec.is_name text.now }
 {
     let bytes = text.as_bytes();
     begins_as_name(bytes)

@@ -7,7 +7,7 @@ use std::cmp::Ordering;
 
 /// The total order of values, in which decimals of equal number stand by their scale, and an integer before them.
 pub fn order(a: Seen<'_>, b: Seen<'_>) -> Ordering
-    ensures { result ≡ value_cmp (seen_value a.entry) (seen_value b.entry) }
+    ensures value { result ≡ value_cmp (seen_value a.entry) (seen_value b.entry) }
 {
     match compare(a, b) {
         Some(found) => found.then(scale_place(a).cmp(&scale_place(b))),

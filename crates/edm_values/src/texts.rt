@@ -27,7 +27,7 @@ impl Text {
 
     /// The text.
     pub fn as_str(&self) -> &str
-        ensures { result.now ≡ self.now }
+        ensures value { result.now ≡ self.now }
     {
         self.text.as_str()
     }

@@ -10,7 +10,7 @@ use std::alloc::{AllocError, Global};
 impl Value {
     /// The value, with its text borrowed.
     pub fn seen(&self) -> Seen<'_>
-        ensures { seen_value result ≡ self.now }
+        ensures value { seen_value result ≡ self.now }
     {
         match self {
             Value::Null => Seen::Null,
@@ -43,28 +43,28 @@ impl<'a> Seen<'a> {
 
     /// Whether the value is null.
     pub fn is_null(self) -> bool
-        ensures { result ≡ spec.is_null (seen_value self.entry) }
+        ensures value { result ≡ spec.is_null (seen_value self.entry) }
     {
         matches!(self, Seen::Null)
     }
 
     /// Whether the value is past the range of its type.
     pub fn is_beyond(self) -> bool
-        ensures { result ≡ spec.is_beyond (seen_value self.entry) }
+        ensures value { result ≡ spec.is_beyond (seen_value self.entry) }
     {
         matches!(self, Seen::Beyond)
     }
 
     /// Whether the value is a number.
     pub fn is_number(self) -> bool
-        ensures { result ≡ spec.is_number (seen_value self.entry) }
+        ensures value { result ≡ spec.is_number (seen_value self.entry) }
     {
         matches!(self, Seen::Int(_) | Seen::Dec(_))
     }
 
     /// The mantissa of a number, an integer being its own; 0 of a value that is no number.
     pub fn mantissa(self) -> i64
-        ensures { result ≡ (number_part (seen_value self.entry)).0 }
+        ensures value { result ≡ (number_part (seen_value self.entry)).0 }
     {
         match self {
             Seen::Int(n) => n,

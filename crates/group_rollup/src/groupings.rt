@@ -47,7 +47,7 @@ pub fn group<R: Threads + Sync, G: Gate>(
     requires some { 0 < workers }
     requires few { workers ≤ 64 }
     requires of { IsTrue (all_of store.now rows.now) }
-    ensures { GivesFor (λ found. found ≡ groups store.now keys.now rows.now) store.now keys.now rows.now result }
+    ensures value { GivesFor (λ found. found ≡ groups store.now keys.now rows.now) store.now keys.now rows.now result }
 {
     let lists = key_lists(rt, alloc, store, keys, rows, workers)?;
     Ok(groups_of(rt, alloc, lists.as_slice(), keys.len(), workers, gate)?)
@@ -136,7 +136,7 @@ pub fn rollup<R: Threads + Sync, G: Gate>(
     requires some { 0 < workers }
     requires few { workers ≤ 64 }
     requires of { IsTrue (all_of store.now rows.now) }
-    ensures { GivesFor (λ found. found.items ≡ spec.level_groups store.now keys.now levels.now with_all rows.now) store.now (keys.now ++ levels.now) rows.now result }
+    ensures value { GivesFor (λ found. found.items ≡ spec.level_groups store.now keys.now levels.now with_all rows.now) store.now (keys.now ++ levels.now) rows.now result }
 {
     let paths = all_paths(alloc, keys, levels)?;
     let lists = key_lists(rt, alloc, store, paths.as_slice(), rows, workers)?;

@@ -57,7 +57,7 @@ pub fn nodes_of(
 /// The identifier of a node.
 pub fn identifier(alloc: Global, store: &Data, set: SetId, node: u32) -> Result<Value, AllocError>
     requires set { IsSet store.now.model set }
-    ensures { IfOk result (λ v. (f : HierarchyPlace) → f.set ≡ set → v ≡ spec.identifier store.now f node) }
+    ensures value { IfOk result (λ v. (f : HierarchyPlace) → f.set ≡ set → v ≡ spec.identifier store.now f node) }
 {
     let model = store.model();
     let key = model.key_of(model.set_type(set));

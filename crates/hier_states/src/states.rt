@@ -31,7 +31,7 @@ fn hier_state(alloc: Global, store: &Data, h: HierId) -> Result<HierState, Alloc
 
 /// The states of all hierarchies, in the order of `Model::hiers`. It takes time n log n for a hierarchy of n nodes.
 pub fn hier_states(alloc: Global, store: &Data) -> Result<Vec<HierState>, AllocError>
-    ensures { IfOk result (λ states. AreStates store.now states.items) }
+    ensures value { IfOk result (λ states. AreStates store.now states.items) }
 {
     let ids = store.model().hiers();
     let mut states = Vec::with_capacity(alloc, ids.len())?;

@@ -6,7 +6,7 @@ use std::alloc::{AllocError, Global};
 
 /// The rows of the lists, one list after the other. No row is made.
 pub fn concat(alloc: Global, parts: Vec<Vec<Row>>) -> Result<Vec<Row>, AllocError>
-    ensures { IfOk result (λ all. all.items ≡ flat_map (λ part. part.items) parts.items) }
+    ensures value { IfOk result (λ all. all.items ≡ flat_map (λ part. part.items) parts.items) }
 {
     let mut all = Vec::new(alloc);
     for part in parts {

@@ -31,7 +31,7 @@ impl LineBuffer {
     /// A buffer with nothing in it.
     pub fn new(alloc: Global, limit: usize) -> Result<LineBuffer, AllocError>
         requires small { limit < 2 ^ 32 }
-        ensures { IfOk result (λ line. line ≡ nothing_kept limit) }
+        ensures value { IfOk result (λ line. line ≡ nothing_kept limit) }
     {
         let bytes = Vec::with_capacity(alloc, limit + 1)?;
         Ok(LineBuffer {
@@ -43,7 +43,7 @@ impl LineBuffer {
 
     /// Takes the next bytes of the line, as many as there is room for.
     pub fn push(&mut self, piece: &[u8])
-        ensures { self.new ≡ kept_with self.old piece.now }
+        ensures value { self.new ≡ kept_with self.old piece.now }
     {
         let room = self.limit + 1 - self.bytes.len();
         let count = piece.len().min(room);
@@ -55,7 +55,7 @@ impl LineBuffer {
 
     /// The line as it stands.
     pub fn whole(&self) -> &[u8]
-        ensures { result.now ≡ self.now.bytes }
+        ensures value { result.now ≡ self.now.bytes }
     {
         self.bytes.as_slice()
     }
@@ -63,7 +63,7 @@ impl LineBuffer {
     /// The line that an LF ends: one CR before the LF is dropped. Of a line with more bytes than there is room for, what
     /// was kept.
     pub fn ended(&self) -> &[u8]
-        ensures { result.now ≡ ended_line self.now }
+        ensures value { result.now ≡ ended_line self.now }
     {
         match self.bytes.as_slice() {
             [front @ .., b'\r'] if !self.is_over => front,
@@ -73,7 +73,7 @@ impl LineBuffer {
 
     /// Begins the next line.
     pub fn clear(&mut self)
-        ensures { self.new ≡ nothing_kept self.old.limit }
+        ensures value { self.new ≡ nothing_kept self.old.limit }
     {
         self.bytes.clear();
         self.is_over = false;

@@ -49,14 +49,14 @@ impl Plan {
 
     /// The pipeline that is run.
     pub fn pipe(&self) -> &Pipe
-        ensures { result.now ≡ (own_of self.now).pipe }
+        ensures value { result.now ≡ (own_of self.now).pipe }
     {
         &self.typed().pipe
     }
 
     /// The pipeline that is run, with its entity set and its shape.
     pub fn typed(&self) -> &Typed
-        ensures { result.now ≡ own_of self.now }
+        ensures value { result.now ≡ own_of self.now }
     {
         match &self.own {
             Some(typed) => typed,

@@ -54,5 +54,5 @@ pub fn piece_bounds(n: usize, k: u32, j: u32) -> (usize, usize)
 /// The pieces, one after the other, are the whole list.
 pub fn pieces_are_all<T>(items: &[T], k: u32)
     requires some { 0 < k }
-    ensures { first_pieces k k items.now ≡ placed 0 items.now }
+    ensures value { first_pieces k k items.now ≡ placed 0 items.now }
 {}

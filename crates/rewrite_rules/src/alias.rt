@@ -11,7 +11,7 @@ use context_typing::begins;
 
 /// Whether a path of an expression begins with an alias.
 pub fn any_begins(alias: &Name, e: &Expr) -> bool
-    ensures { result ≡ list_any (path.begins alias.now) (paths (expr_of e.now)) }
+    ensures value { result ≡ list_any (path.begins alias.now) (paths (expr_of e.now)) }
 {
     match e {
         Expr::Path(path) => begins(alias, path),
@@ -30,7 +30,7 @@ pub fn any_begins(alias: &Name, e: &Expr) -> bool
 
 /// Whether an expression has a path.
 pub fn has_path(e: &Expr) -> bool
-    ensures { result ≡ is_nonempty (paths (expr_of e.now)) }
+    ensures value { result ≡ is_nonempty (paths (expr_of e.now)) }
 {
     match e {
         Expr::Path(_) => true,
@@ -68,7 +68,7 @@ fn each_begins(alias: &Name, e: &Expr) -> bool
 
 /// Whether an expression has a path, and each begins with an alias.
 pub fn all_begin(alias: &Name, e: &Expr) -> bool
-    ensures { result ≡ (is_nonempty (paths (expr_of e.now)) && list_all (path.begins alias.now) (paths (expr_of e.now))) }
+    ensures value { result ≡ (is_nonempty (paths (expr_of e.now)) && list_all (path.begins alias.now) (paths (expr_of e.now))) }
 {
     has_path(e) && each_begins(alias, e)
 }

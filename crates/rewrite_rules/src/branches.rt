@@ -29,7 +29,7 @@ use std::alloc::{AllocError, Global};
 /// Whether an expression is a test on each of these shapes.
 pub fn is_test_on(m: &Model, shapes: &[Shape], e: &Expr) -> bool
     requires { IsTrue (list_all (has_types m.now) shapes.now) }
-    ensures { result ≡ spec.is_test_on m.now shapes.now (expr_of e.now) }
+    ensures value { result ≡ spec.is_test_on m.now shapes.now (expr_of e.now) }
 {
     for shape in shapes {
         if !is_test(m, shape, e) {

@@ -48,7 +48,7 @@ pub(crate) enum Condition<'a> {
 /// Whether all items of an order are sure.
 pub fn order_sure(m: &Model, shape: &Shape, items: &[OrderItem]) -> bool
     requires { IsTrue (has_types m.now shape.now) }
-    ensures { result ≡ typing.order_sure m.now shape.now (map item_of items.now) }
+    ensures value { result ≡ typing.order_sure m.now shape.now (map item_of items.now) }
 {
     each_sure(m, shape, items)
 }
@@ -109,7 +109,7 @@ fn may_choose(
 
 /// Whether a path of an expression is one of the new columns.
 pub fn names_any(e: &Expr, made: &[Named]) -> bool
-    ensures { result ≡ list_any (is_among (spec.new_paths (map named_of made.now))) (paths (expr_of e.now)) }
+    ensures value { result ≡ list_any (is_among (spec.new_paths (map named_of made.now))) (paths (expr_of e.now)) }
 {
     match e {
         Expr::Path(path) => is_made(path, made),
@@ -128,7 +128,7 @@ pub fn names_any(e: &Expr, made: &[Named]) -> bool
 
 /// Whether a path is one of the new columns.
 pub fn is_made(path: &Path, made: &[Named]) -> bool
-    ensures { result ≡ is_among (spec.new_paths (map named_of made.now)) path.now }
+    ensures value { result ≡ is_among (spec.new_paths (map named_of made.now)) path.now }
 {
     let names = path.names();
     if names.len() != 1 {

@@ -135,7 +135,7 @@ fn count_of(limit: &Limit) -> Option<u64>
 
 /// The number of a count from the top, and what it counts by.
 pub fn count_by(top: &TopStep) -> Option<(u64, &Expr)>
-    ensures { option_map (λ x. (x.0, expr_of x.1.now)) result ≡ spec.count_by (top_of top.now) }
+    ensures value { option_map (λ x. (x.0, expr_of x.1.now)) result ≡ spec.count_by (top_of top.now) }
 {
     if top.bottom {
         return None;
@@ -148,7 +148,7 @@ pub fn count_by(top: &TopStep) -> Option<(u64, &Expr)>
 
 /// The number of a step that counts from the top, and what it counts by.
 pub fn count_from_top(step: &Step) -> Option<(u64, &Expr)>
-    ensures { option_map (λ x. (x.0, expr_of x.1.now)) result ≡ spec.count_from_top (step_of step.now) }
+    ensures value { option_map (λ x. (x.0, expr_of x.1.now)) result ≡ spec.count_from_top (step_of step.now) }
 {
     match step {
         Step::TopBy(top) => count_by(top),

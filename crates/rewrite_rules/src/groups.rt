@@ -117,7 +117,7 @@ pub fn inner_quiet(
     requires types { IsTrue (has_types m.now shape.now) }
     requires customs { AreTypedOver m.now c.now }
     requires typed { IfSome inner.now (λ p. IsTrue (is_some (typing.steps_shape m.now (readings c.now) shape.now (pipe_of p)))) }
-    ensures { IfOk result (λ quiet. quiet ≡ typing.inner_quiet m.now (readings c.now) shape.now (inner_of (option_map pipe_of inner.now))) }
+    ensures value { IfOk result (λ quiet. quiet ≡ typing.inner_quiet m.now (readings c.now) shape.now (inner_of (option_map pipe_of inner.now))) }
 {
     match inner {
         Some(pipe) => is_quiet(alloc, m, c, shape, pipe),
@@ -137,7 +137,7 @@ pub fn grouping_quiet(
     requires types { IsTrue (has_types m.now shape.now) }
     requires customs { AreTypedOver m.now c.now }
     requires typed { IfSome inner.now (λ p. IsTrue (is_some (typing.steps_shape m.now (readings c.now) shape.now (pipe_of p)))) }
-    ensures { IfOk result (λ quiet. quiet ≡ rule.grouping_quiet m.now (readings c.now) shape.now (keys_from (map key_of keys.now)) (inner_of (option_map pipe_of inner.now))) }
+    ensures value { IfOk result (λ quiet. quiet ≡ rule.grouping_quiet m.now (readings c.now) shape.now (keys_from (map key_of keys.now)) (inner_of (option_map pipe_of inner.now))) }
 {
     if any_risky(shape, keys) {
         return Ok(false);

@@ -47,7 +47,7 @@ fn recursive(key: &KeyItem) -> Option<(&HierName, &Path, &Option<Pipe>)>
 
 /// The same of the first key that is no plain path.
 pub fn recursive_key(keys: &[KeyItem]) -> Option<(&HierName, &Path, &Option<Pipe>)>
-    ensures { option_map (λ x. (hier_of x.0.now, (x.1.now, inner_of (option_map pipe_of x.2.now)))) result ≡ spec.recursive_key (map key_of keys.now) }
+    ensures value { option_map (λ x. (hier_of x.0.now, (x.1.now, inner_of (option_map pipe_of x.2.now)))) result ≡ spec.recursive_key (map key_of keys.now) }
 {
     match first_rollup(keys) {
         Some(key) => recursive(key),
@@ -170,7 +170,7 @@ fn rollup_in_every_row(keys: &[KeyItem]) -> Option<&Path>
 
 /// Copies of the keys that stand in every row of a grouping.
 pub fn in_every_row(alloc: Global, keys: &[KeyItem]) -> Result<Vec<Path>, AllocError>
-    ensures { IfOk result (λ v. v.items ≡ spec.in_every_row (keys_from (map key_of keys.now))) }
+    ensures value { IfOk result (λ v. v.items ≡ spec.in_every_row (keys_from (map key_of keys.now))) }
 {
     let mut paths = plain_paths(alloc, keys)?;
     match rollup_in_every_row(keys) {

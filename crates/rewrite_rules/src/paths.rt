@@ -8,7 +8,7 @@ use context_typing::same_path;
 
 /// Whether each path of an expression is one of these.
 pub fn over(paths: &[Path], e: &Expr) -> bool
-    ensures { result ≡ rule.over paths.now (expr_of e.now) }
+    ensures value { result ≡ rule.over paths.now (expr_of e.now) }
 {
     match e {
         Expr::Path(path) => is_among(paths, path),

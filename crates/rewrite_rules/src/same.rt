@@ -8,7 +8,7 @@ use context_typing::same_path;
 
 /// Whether two expressions are equal: the same operators, functions, literals and paths in the same places.
 pub fn same_expr(a: &Expr, b: &Expr) -> bool
-    ensures { result ≡ spec.expr_same (expr_of a.now) (expr_of b.now) }
+    ensures value { result ≡ spec.expr_same (expr_of a.now) (expr_of b.now) }
 {
     match a {
         Expr::Null => match b {

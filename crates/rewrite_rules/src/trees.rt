@@ -177,7 +177,7 @@ pub(crate) fn with_starts(
 
 /// The same pipeline, where there is one.
 pub fn copy_inner(alloc: Global, inner: &Option<Pipe>) -> Result<Option<Pipe>, AllocError>
-    ensures { IfOk result (λ o. option_map pipe_of o ≡ option_map pipe_of inner.now) }
+    ensures value { IfOk result (λ o. option_map pipe_of o ≡ option_map pipe_of inner.now) }
 {
     match inner {
         Some(pipe) => Ok(Some(pipe.copy(alloc)?)),

@@ -68,7 +68,7 @@ pub fn order_rows(
     rows: Vec<Row>,
 ) -> Result<Vec<Row>, RunRefused>
     requires { IsTrue (all_of store.now rows.items) }
-    ensures { let xs = map item_of items.now in Gives result (refused_at_beyond (order_values store.now xs rows.items) (sorted (order_before store.now xs) rows.items)) }
+    ensures value { let xs = map item_of items.now in Gives result (refused_at_beyond (order_values store.now xs rows.items) (sorted (order_before store.now xs) rows.items)) }
 {
     let items = items.as_slice();
     let mut ranked = ranked_rows(alloc, store, items, rows)?;

@@ -122,7 +122,7 @@ pub fn row_ranks(
 ) -> Result<Vec<u32>, RunRefused>
     requires of { IsTrue (all_of store.now rows.now) }
     requires small { length rows.now < 2 ^ 32 }
-    ensures { let xs = map item_of items.now in GivesNumbers result (refused_at_beyond (order_values store.now xs rows.now) (ranks store.now xs rows.now)) }
+    ensures value { let xs = map item_of items.now in GivesNumbers result (refused_at_beyond (order_values store.now xs rows.now) (ranks store.now xs rows.now)) }
 {
     let items = items.as_slice();
     let sorted = sorted_places(alloc, store, items, rows)?;

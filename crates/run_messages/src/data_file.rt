@@ -248,7 +248,7 @@ pub(crate) fn data_reason(
     model_bytes: &[u8],
     bytes: &[u8],
 ) -> Result<Option<String>, AllocError>
-    ensures { IfOk result (λ o. IsSome o → ¬ IsDataFile model_bytes.now bytes.now) }
+    ensures value { IfOk result (λ o. IsSome o → ¬ IsDataFile model_bytes.now bytes.now) }
 {
     let (Ok(given), Ok(model)) = (
         read_model(alloc, model_bytes),

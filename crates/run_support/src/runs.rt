@@ -40,7 +40,7 @@ pub struct RunResult {
 
 /// The number alone, or nothing for 0.
 pub fn only(alloc: Global, number: u64) -> Result<Vec<u64>, Fail>
-    ensures { IfOk result (λ v. v.items ≡ failing_calls number) }
+    ensures value { IfOk result (λ v. v.items ≡ failing_calls number) }
 {
     let mut numbers = Vec::new(alloc);
     if number > 0 {
@@ -51,7 +51,7 @@ pub fn only(alloc: Global, number: u64) -> Result<Vec<u64>, Fail>
 
 /// Words as texts.
 pub fn texts(alloc: Global, words: &[&str]) -> Result<Vec<String>, Fail>
-    ensures { IfOk result (λ v. map string_bytes v.items ≡ map (λ w. w.now) words.now) }
+    ensures value { IfOk result (λ v. map string_bytes v.items ≡ map (λ w. w.now) words.now) }
 {
     let mut texts = Vec::new(alloc);
     for word in words {
@@ -62,7 +62,7 @@ pub fn texts(alloc: Global, words: &[&str]) -> Result<Vec<String>, Fail>
 
 /// The words that name the two files, and those of the case.
 pub fn words(alloc: Global, case: &Case<'_>) -> Result<Vec<String>, Fail>
-    ensures { IfOk result (λ v. map string_bytes v.items ≡ case_words case.now) }
+    ensures value { IfOk result (λ v. map string_bytes v.items ≡ case_words case.now) }
 {
     let mut words = texts(alloc, &["--model", "m", "--data", "d"])?;
     for word in case.words {
@@ -73,7 +73,7 @@ pub fn words(alloc: Global, case: &Case<'_>) -> Result<Vec<String>, Fail>
 
 /// The two files of a case.
 pub fn files(alloc: Global, case: &Case<'_>) -> Result<Vec<(String, Vec<u8>)>, Fail>
-    ensures { IfOk result (λ v. files_of v.items ≡ case_files case.now) }
+    ensures value { IfOk result (λ v. files_of v.items ≡ case_files case.now) }
 {
     let mut files = Vec::new(alloc);
     files.push((
@@ -155,7 +155,7 @@ pub fn outcome_over<R: Threads + Sync, S: Source>(
     words: &[String],
     input: &mut S,
 ) -> Result<RunResult, Fail>
-    ensures { IfOk result (λ r. EndsOver (map string_bytes words.now) case.now
+    ensures value { IfOk result (λ r. EndsOver (map string_bytes words.now) case.now
         (record { left = S.left input.old; left_after = S.left input.new; faults = S.fault_count input.old; faults_after = S.fault_count input.new; ends_in_one_read = EndsInOneRead S.left S.reads_once input.old input.new })
         (input.new ≡ input.old) r) }
 {
@@ -169,7 +169,7 @@ pub fn outcome_at<R: Threads + Sync, G: Gate>(
     case: &Case<'_>,
     gate: &G,
 ) -> Result<RunResult, Fail>
-    ensures { IfOk result (λ r. Ends (case_words case.now) case.now case.now.input.now r) }
+    ensures value { IfOk result (λ r. Ends (case_words case.now) case.now case.now.input.now r) }
 {
     let words = words(alloc, case)?;
     let bytes = case.input.to_vec(alloc)?;
@@ -185,7 +185,7 @@ pub fn outcome_of<R: Threads + Sync>(
     words: &[String],
     input: Vec<u8>,
 ) -> Result<RunResult, Fail>
-    ensures { IfOk result (λ r. Ends (map string_bytes words.now) case.now input.items r) }
+    ensures value { IfOk result (λ r. Ends (map string_bytes words.now) case.now input.items r) }
 {
     let mut input = MemSource::new(input, case.most.max(1), only(alloc, case.input_fails)?);
     outcome_over(rt, alloc, case, words, &mut input)
@@ -193,7 +193,7 @@ pub fn outcome_of<R: Threads + Sync>(
 
 /// Runs the service over the case's input.
 pub fn outcome<R: Threads + Sync>(rt: &R, alloc: Global, case: &Case<'_>) -> Result<RunResult, Fail>
-    ensures { IfOk result (λ r. Ends (case_words case.now) case.now case.now.input.now r) }
+    ensures value { IfOk result (λ r. Ends (case_words case.now) case.now case.now.input.now r) }
 {
     let words = words(alloc, case)?;
     outcome_of(rt, alloc, case, words.as_slice(), case.input.to_vec(alloc)?)

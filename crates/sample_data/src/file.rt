@@ -63,7 +63,7 @@ fn data_tree(alloc: Global, n: u32) -> Result<Value, AllocError>
 pub fn gen_data(alloc: Global, n: u32) -> Result<Vec<u8>, AllocError>
     requires some { 1 ≤ n }
     requires few { n ≤ 200000 }
-    ensures { IfOk result (λ file. data_reading sample_model file.items ≡ World' (spec.generated_world n)) }
+    ensures value { IfOk result (λ file. data_reading sample_model file.items ≡ World' (spec.generated_world n)) }
 {
     let tree = data_tree(alloc, n)?;
     Ok(tree.to_string(alloc)?.into_bytes())

@@ -22,7 +22,7 @@ const SAMPLE_MODEL: &[u8] = b"{\"$Version\":\"4.01\",\"$EntityContainer\":\"W.C\
 
 /// The file of the sample model.
 pub fn sample_model_text() -> &'static [u8]
-    ensures { model_reading result.now ≡ Model' sample_model }
+    ensures value { model_reading result.now ≡ Model' sample_model }
 {
     SAMPLE_MODEL
 }

@@ -6,7 +6,7 @@ use std::alloc::{AllocError, Global};
 
 /// The name that the text is; a refusal also where it is none.
 pub fn name(alloc: Global, text: &str) -> Result<Name, AllocError>
-    ensures { IfOk result (λ n. n ≡ text.now) }
+    ensures value { IfOk result (λ n. n ≡ text.now) }
 {
     match Name::new(alloc, text)? {
         Some(name) => Ok(name),
@@ -16,7 +16,7 @@ pub fn name(alloc: Global, text: &str) -> Result<Name, AllocError>
 
 /// The path of one name.
 pub fn path(alloc: Global, text: &str) -> Result<Path, AllocError>
-    ensures { IfOk result (λ p. p ≡ text.now ∷ []) }
+    ensures value { IfOk result (λ p. p ≡ text.now ∷ []) }
 {
     let name = name(alloc, text)?;
     Ok(Path::new(vec![in alloc; name]?))
@@ -24,7 +24,7 @@ pub fn path(alloc: Global, text: &str) -> Result<Path, AllocError>
 
 /// The path of two names.
 pub fn longer_path(alloc: Global, first: &str, second: &str) -> Result<Path, AllocError>
-    ensures { IfOk result (λ p. p ≡ first.now ∷ second.now ∷ []) }
+    ensures value { IfOk result (λ p. p ≡ first.now ∷ second.now ∷ []) }
 {
     let first = name(alloc, first)?;
     let second = name(alloc, second)?;

@@ -14,7 +14,7 @@ fn slash_before(place: usize) -> &'static str
 
 /// Appends the names of a path with slashes between them.
 pub fn push_path(text: &mut String, path: &Path) -> Result<(), AllocError>
-    ensures { OnOk result (string_bytes text.new ≡ string_bytes text.old ++ print_path path.now) }
+    ensures value { OnOk result (string_bytes text.new ≡ string_bytes text.old ++ print_path path.now) }
 {
     for (i, name) in path.names().iter().enumerate() {
         text.push_str(slash_before(i))?;

@@ -12,14 +12,14 @@ use std::alloc::Global;
 
 /// The places of the `n` greatest values, ascending.
 pub fn top_count(alloc: Global, values: &[Seen<'_>], n: u64) -> Result<Vec<usize>, TopRefused>
-    ensures { Takes (top_places (reaches_count n) false (seen_values values.now)) result }
+    ensures value { Takes (top_places (reaches_count n) false (seen_values values.now)) result }
 {
     by_count(alloc, values, n, false)
 }
 
 /// The places of the `n` least values, ascending.
 pub fn bottom_count(alloc: Global, values: &[Seen<'_>], n: u64) -> Result<Vec<usize>, TopRefused>
-    ensures { Takes (top_places (reaches_count n) true (seen_values values.now)) result }
+    ensures value { Takes (top_places (reaches_count n) true (seen_values values.now)) result }
 {
     by_count(alloc, values, n, true)
 }
@@ -32,7 +32,7 @@ pub fn top_sum(
     bound: Seen<'_>,
 ) -> Result<Vec<usize>, TopRefused>
     requires numbers { AreNumbers (seen_values values.now) }
-    ensures { Takes (top_places (reaches_sum (number_part (seen_value bound.entry))) false (seen_values values.now)) result }
+    ensures value { Takes (top_places (reaches_sum (number_part (seen_value bound.entry))) false (seen_values values.now)) result }
 {
     by_sum(alloc, values, bound, false)
 }
@@ -45,7 +45,7 @@ pub fn bottom_sum(
     bound: Seen<'_>,
 ) -> Result<Vec<usize>, TopRefused>
     requires numbers { AreNumbers (seen_values values.now) }
-    ensures { Takes (top_places (reaches_sum (number_part (seen_value bound.entry))) true (seen_values values.now)) result }
+    ensures value { Takes (top_places (reaches_sum (number_part (seen_value bound.entry))) true (seen_values values.now)) result }
 {
     by_sum(alloc, values, bound, true)
 }
@@ -54,7 +54,7 @@ pub fn bottom_sum(
 pub fn top_percent(alloc: Global, values: &[Seen<'_>], p: u32) -> Result<Vec<usize>, TopRefused>
     requires numbers { AreNumbers (seen_values values.now) }
     requires percent { p ≤ 100 }
-    ensures { let vs = seen_values values.now in Takes (top_places (reaches_percent p vs) false vs) result }
+    ensures value { let vs = seen_values values.now in Takes (top_places (reaches_percent p vs) false vs) result }
 {
     by_percent(alloc, values, p, false)
 }
@@ -63,7 +63,7 @@ pub fn top_percent(alloc: Global, values: &[Seen<'_>], p: u32) -> Result<Vec<usi
 pub fn bottom_percent(alloc: Global, values: &[Seen<'_>], p: u32) -> Result<Vec<usize>, TopRefused>
     requires numbers { AreNumbers (seen_values values.now) }
     requires percent { p ≤ 100 }
-    ensures { let vs = seen_values values.now in Takes (top_places (reaches_percent p vs) true vs) result }
+    ensures value { let vs = seen_values values.now in Takes (top_places (reaches_percent p vs) true vs) result }
 {
     by_percent(alloc, values, p, true)
 }

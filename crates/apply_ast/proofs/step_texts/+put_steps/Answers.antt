@@ -48,7 +48,7 @@ pub put_key-returns-in-Plain : goal.put_key-returns-in-Plain
 put_key-returns-in-Plain t c = rw (c.in-Plain.is, key_of-Plain, print_key-Plain) c.put_path.ensures
 
 pub put_key-returns-in-Rollup : goal.put_key-returns-in-Rollup
-put_key-returns-in-Rollup t c = rw (c.in-Rollup.is, key_of-Rollup, print_key-Rollup, ← c.as_slice.ensures) c.put_rollup.ensures
+put_key-returns-in-Rollup t c = rw (c.in-Rollup.is, key_of-Rollup, print_key-Rollup, ← c.as_slice.ensures.value) c.put_rollup.ensures
 
 pub put_key-returns-in_ok-put_inner-in-Recursive : goal.put_key-returns-in_ok-put_inner-in-Recursive
 put_key-returns-in_ok-put_inner-in-Recursive t c =
@@ -70,10 +70,10 @@ pub put_step-returns-in-Filter : goal.put_step-returns-in-Filter
 put_step-returns-in-Filter t c = rw (c.in-Filter.is, step_of-Filter, print_step-Filter) c.put_filter.ensures
 
 pub put_step-returns-in-Compute : goal.put_step-returns-in-Compute
-put_step-returns-in-Compute t c = rw (c.in-Compute.is, step_of-Compute, print_step-Compute, ← c.as_slice.ensures) c.put_compute.ensures
+put_step-returns-in-Compute t c = rw (c.in-Compute.is, step_of-Compute, print_step-Compute, ← c.as_slice.ensures.value) c.put_compute.ensures
 
 pub put_step-returns-in-OrderBy : goal.put_step-returns-in-OrderBy
-put_step-returns-in-OrderBy t c = rw (c.in-OrderBy.is, step_of-OrderBy, print_step-OrderBy, ← c.as_slice-in-OrderBy.ensures) c.put_orderby.ensures
+put_step-returns-in-OrderBy t c = rw (c.in-OrderBy.is, step_of-OrderBy, print_step-OrderBy, ← c.as_slice-in-OrderBy.ensures.value) c.put_orderby.ensures
 
 pub put_step-returns-in-Skip : goal.put_step-returns-in-Skip
 put_step-returns-in-Skip t c = rw (c.in-Skip.is, step_of-Skip, print_step-Skip) c.put_skip.ensures
@@ -82,7 +82,7 @@ pub put_step-returns-in-Top : goal.put_step-returns-in-Top
 put_step-returns-in-Top t c = rw (c.in-Top.is, step_of-Top, print_step-Top) c.put_top.ensures
 
 pub put_step-returns-in-Aggregate : goal.put_step-returns-in-Aggregate
-put_step-returns-in-Aggregate t c = rw (c.in-Aggregate.is, step_of-Aggregate, print_step-Aggregate, ← c.as_slice-in-Aggregate.ensures) c.put_aggregate.ensures
+put_step-returns-in-Aggregate t c = rw (c.in-Aggregate.is, step_of-Aggregate, print_step-Aggregate, ← c.as_slice-in-Aggregate.ensures.value) c.put_aggregate.ensures
 
 pub put_step-returns-in_ok-put_inner-in-GroupBy : goal.put_step-returns-in_ok-put_inner-in-GroupBy
 put_step-returns-in_ok-put_inner-in-GroupBy t c =
@@ -94,7 +94,7 @@ put_step-returns-in_ok-put_inner-in-GroupBy t c =
     (λ e. then5 old (codes "groupby((") keys (codes ")") (each_behind_byte 44 inner) (codes ")")
     c.in_ok-put-in-GroupBy.ensures c.in_ok-put_keys-in-GroupBy.ensures c.in_ok-put-in-GroupBy-2.ensures c.in_ok-put_inner-in-GroupBy.ensures e
     ∙ ap (λ t. old ++ t) (call_list (codes "groupby") keys inner)
-    ∙ ap (λ ts. old ++ call (codes "groupby") (enclosed (join_with_byte 44 ts) ∷ inner)) (ap (λ l. map print_key (map key_of l)) c.as_slice-in-GroupBy.ensures ∙ printed_keys c.in-GroupBy.keys))
+    ∙ ap (λ ts. old ++ call (codes "groupby") (enclosed (join_with_byte 44 ts) ∷ inner)) (ap (λ l. map print_key (map key_of l)) c.as_slice-in-GroupBy.ensures.value ∙ printed_keys c.in-GroupBy.keys))
     c.put-in-GroupBy-3.ensures)
 
 pub put_step-returns-in_ok-put_pipes-in-Concat : goal.put_step-returns-in_ok-put_pipes-in-Concat
@@ -104,7 +104,7 @@ put_step-returns-in_ok-put_pipes-in-Concat t c =
     (on_ok c.put-in-Concat-2.result
     (λ e. then3 old (codes "concat(") (join_with_byte 44 (map print (map pipe_of c.as_slice-in-Concat.result.now))) (codes ")")
     c.in_ok-put-in-Concat.ensures c.in_ok-put_pipes-in-Concat.ensures e
-    ∙ ap (λ ts. old ++ call (codes "concat") ts) (ap (λ l. map print (map pipe_of l)) c.as_slice-in-Concat.ensures ∙ printed_pipes c.in-Concat.pipes))
+    ∙ ap (λ ts. old ++ call (codes "concat") ts) (ap (λ l. map print (map pipe_of l)) c.as_slice-in-Concat.ensures.value ∙ printed_pipes c.in-Concat.pipes))
     c.put-in-Concat-2.ensures)
 
 pub put_step-returns-in_ok-put_inner-in-Join : goal.put_step-returns-in_ok-put_inner-in-Join

@@ -13,6 +13,6 @@ returns c =
     on_ok c.put-3.result
     (λ e. then6 old (codes "traverse(") (h ++ (codes "," ++ p)) (codes ",") o (each_behind_byte 44 (map print_item (map item_of c.as_slice.result.now))) (codes ")")
     c.in_ok-put.ensures c.in_ok-put_hier_and_path.ensures c.in_ok-put-2.ensures c.in_ok-put_walk_word.ensures c.in_ok-put_more_items.ensures e
-    ∙ ap (λ l. old ++ (codes "traverse(" ++ ((h ++ (codes "," ++ p)) ++ (codes "," ++ (o ++ (each_behind_byte 44 (map print_item (map item_of l)) ++ codes ")")))))) c.as_slice.ensures
+    ∙ ap (λ l. old ++ (codes "traverse(" ++ ((h ++ (codes "," ++ p)) ++ (codes "," ++ (o ++ (each_behind_byte 44 (map print_item (map item_of l)) ++ codes ")")))))) c.as_slice.ensures.value
     ∙ ap (λ t. old ++ t) (call_third (codes "traverse") h p o (map print_item (map item_of c.args.walk.now.items))))
     c.put-3.ensures

@@ -30,4 +30,4 @@ pub loop-behind-preserved : goal.loop-behind-preserved
 loop-behind-preserved c = rw (c.in_ok-push-2.ensures.items, map_push agg_of c.loop-behind.list.items c.in_ok-item.item) (list_turn (agg_items served c.args.depth) _ _ _ _ _ _ c.in-Some.ensures c.in_ok-item.ensures c.loop-behind.invariant)
 
 pub returns : goal.returns
-returns c = list_stop comma_at (agg_at served c.args.depth) _ _ _ c.in_default.ensures c.loop-behind.invariant ∙ ap (λ n. Some (map agg_of n, c.loop-behind.rest.now)) (sym c.new.ensures)
+returns c = list_stop comma_at (agg_at served c.args.depth) _ _ _ c.in_default.ensures c.loop-behind.invariant ∙ ap (λ n. Some (map agg_of n, c.loop-behind.rest.now)) (sym c.new.ensures.value)

@@ -28,4 +28,4 @@ loop-behind-preserved c =
     rw c.in_ok-push-2.ensures.items (list_turn names _ _ _ _ _ _ c.in-Some.ensures c.in_ok-name.ensures c.loop-behind.invariant.0, omega (arith, length-append c.loop-behind.names.items (c.in_ok-name.name ∷ [])))
 
 pub returns : goal.returns
-returns c = list_stop (after 47) name_at _ _ _ c.in_default.ensures c.loop-behind.invariant.0 ∙ ap (λ n. Some (n, c.loop-behind.rest.now)) (sym c.new.ensures)
+returns c = list_stop (after 47) name_at _ _ _ c.in_default.ensures c.loop-behind.invariant.0 ∙ ap (λ n. Some (n, c.loop-behind.rest.now)) (sym c.new.ensures.value)

@@ -26,4 +26,4 @@ pub loop-behind-preserved : goal.loop-behind-preserved
 loop-behind-preserved c = rw c.in_ok-push-2.ensures.items (list_turn path_items _ _ _ _ _ _ c.in-Some.ensures c.in_ok-item.ensures c.loop-behind.invariant)
 
 pub returns : goal.returns
-returns c = list_stop comma_at path_at _ _ _ c.in_default.ensures c.loop-behind.invariant ∙ ap (λ n. Some (n, c.loop-behind.rest.now)) (sym c.new.ensures)
+returns c = list_stop comma_at path_at _ _ _ c.in_default.ensures c.loop-behind.invariant ∙ ap (λ n. Some (n, c.loop-behind.rest.now)) (sym c.new.ensures.value)

@@ -21,7 +21,7 @@ returns-in-Err-Refused-load_data-clause-stop g c =
 
 pub returns-in-Ok-hier_states-clause-ok : goal.returns-in-Ok-hier_states-clause-ok
 returns-in-Ok-hier_states-clause-ok g c =
-    rw c.new.ensures (FilesMake-world _ _ _ _ _ c.in-Ok.ensures.keeps c.in-Ok.ensures.ok c.in-Ok-load_customs.ensures.all _ c.in-Ok-load_data.ensures.ok)
+    rw c.new.ensures.value (FilesMake-world _ _ _ _ _ c.in-Ok.ensures.keeps c.in-Ok.ensures.ok c.in-Ok-load_customs.ensures.all _ c.in-Ok-load_data.ensures.ok)
 
 pub returns-in-Ok-hier_states-clause-keeps : goal.returns-in-Ok-hier_states-clause-keeps
 returns-in-Ok-hier_states-clause-keeps g c = KeepsFiles-more _ _ _ c.in-Ok.ensures.keeps c.load_data.ensures.keeps

@@ -11,7 +11,7 @@ set_name-requires c =
 pub loop-set-preserved : goal.loop-set-preserved
 loop-set-preserved c =
     let at = set_at (length c.args.model.now.sets) c.loop-set.set-index c.set-item.result _ c.sets-set-items.ensures.value c.loop-set-test.true c.set-item.is in
-    ap (map string_bytes) c.in_ok-push.ensures.items ∙ map-append string_bytes c.loop-set.names.items (c.in_ok-name.name ∷ []) ∙ name_more c.args.model.now _ c.loop-set.set-index c.set-item.result (string_bytes c.in_ok-name.name) at.1 at.0 (c.in_ok-name.ensures.ok ∙ c.set_name.ensures) c.loop-set.invariant
+    ap (map string_bytes) c.in_ok-push.ensures.items ∙ map-append string_bytes c.loop-set.names.items (c.in_ok-name.name ∷ []) ∙ name_more c.args.model.now _ c.loop-set.set-index c.set-item.result (string_bytes c.in_ok-name.name) at.1 at.0 (c.in_ok-name.ensures.ok ∙ c.set_name.ensures.value) c.loop-set.invariant
 
 pub returns : goal.returns
 returns c = name_all c.args.model.now _ c.loop-set.set-index _ c.sets-set-items.ensures.value c.loop-set-test.false c.loop-set.invariant

@@ -17,6 +17,6 @@ loop-value-preserved c =
           rw w.seen-is (w.in_ok-insert.ensures.keys
           ∙ ap (λ ks. insert_key same_value ks w.in_ok-own.field-0) c.loop-value.invariant
           ∙ ap (insert_key same_value (distinct same_value (kept (map seen_value (take k vs))))) w.in_ok-own.ensures.value
-          ∙ distinct-more vs k v c.loop-value-test.true c.value-item.is (sym c.is_null.ensures ∙ w.if-not-is_null.true))
-      | else-not-is_null w ↦ rw w.seen-is (c.loop-value.invariant ∙ distinct-same vs k v c.loop-value-test.true c.value-item.is (sym c.is_null.ensures ∙ w.if-not-is_null.false))
+          ∙ distinct-more vs k v c.loop-value-test.true c.value-item.is (sym c.is_null.ensures.value ∙ w.if-not-is_null.true))
+      | else-not-is_null w ↦ rw w.seen-is (c.loop-value.invariant ∙ distinct-same vs k v c.loop-value-test.true c.value-item.is (sym c.is_null.ensures.value ∙ w.if-not-is_null.false))
     ]

@@ -2,4 +2,4 @@ use Rattle.apply_meaning.proofs.MeaningProved.{loaded-quiet}
 use Rattle.apply_meaning.proofs.laws.quiet_is_not_refused.Goals as goal
 
 pub returns : goal.returns
-returns c = loaded-quiet
+returns c = record { value = loaded-quiet }

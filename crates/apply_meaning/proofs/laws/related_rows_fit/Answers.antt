@@ -2,4 +2,4 @@ use Rattle.apply_meaning.proofs.MeaningProved.{loaded-related}
 use Rattle.apply_meaning.proofs.laws.related_rows_fit.Goals as goal
 
 pub returns : goal.returns
-returns c = loaded-related
+returns c = record { value = loaded-related }

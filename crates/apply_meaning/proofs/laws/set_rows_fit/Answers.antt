@@ -2,4 +2,4 @@ use Rattle.apply_meaning.proofs.MeaningProved.{loaded-rows}
 use Rattle.apply_meaning.proofs.laws.set_rows_fit.Goals as goal
 
 pub returns : goal.returns
-returns c = loaded-rows
+returns c = record { value = loaded-rows }

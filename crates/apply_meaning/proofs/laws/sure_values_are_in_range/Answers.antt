@@ -2,4 +2,4 @@ use Rattle.apply_meaning.proofs.MeaningProved.{loaded-sure}
 use Rattle.apply_meaning.proofs.laws.sure_values_are_in_range.Goals as goal
 
 pub returns : goal.returns
-returns c = loaded-sure
+returns c = record { value = loaded-sure }

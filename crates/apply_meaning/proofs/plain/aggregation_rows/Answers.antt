@@ -18,4 +18,4 @@ returns-clause-mean g c = λ c' S.
     let w = c.args.store.now in
     let row : List Instance → List code.AggItem → Instance = λ l xs. record no_instance { columns = map (item_value w c' S l) (map agg_of xs) } in
     step_mean-Aggregate w c' S (map agg_of c.args.items.now) c.args.rows.items
-    ∙ ap Some (sym (c.in_ok-push.ensures.items ∙ (λ i. c.new-made.ensures.items i ++ (c.in_ok-aggregate_rows.ensures.row c' S ∙ (λ j. row (c.as_slice-3.ensures.value j) (c.as_slice-2.ensures j))) i ∷ [])))
+    ∙ ap Some (sym (c.in_ok-push.ensures.items ∙ (λ i. c.new-made.ensures.items i ++ (c.in_ok-aggregate_rows.ensures.row c' S ∙ (λ j. row (c.as_slice-3.ensures.value j) (c.as_slice-2.ensures.value j))) i ∷ [])))

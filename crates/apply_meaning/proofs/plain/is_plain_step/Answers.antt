@@ -8,5 +8,7 @@ use Rattle.apply_meaning.proofs.plain.is_plain_step.Goals as goal
 
 pub returns-in-Aggregate : goal.returns-in-Aggregate
 returns-in-Aggregate c =
-    c.are_standard.ensures ∙ ap (list_all (λ i. is_standard (agg_of i))) c.as_slice.ensures ∙ sym (list_all-map is_standard agg_of c.in-Aggregate.items)
-    ∙ sym (ap is_plain_step (ap step_of c.in-Aggregate.is ∙ step_of-Aggregate c.in-Aggregate.items))
+    record {
+      value = c.are_standard.ensures ∙ ap (list_all (λ i. is_standard (agg_of i))) c.as_slice.ensures.value ∙ sym (list_all-map is_standard agg_of c.in-Aggregate.items)
+          ∙ sym (ap is_plain_step (ap step_of c.in-Aggregate.is ∙ step_of-Aggregate c.in-Aggregate.items));
+    }

@@ -21,30 +21,30 @@ pub compute_rows-requires-clause-free : goal.compute_rows-requires-clause-free
 compute_rows-requires-clause-free g c =
     let w = c.args.store.now in
     let e = ap step_of c.in-Compute.is ∙ step_of-Compute c.in-Compute.items in
-    subst (λ xs. IsTrue (all_free w (map named_of xs) c.args.rows.items)) (sym c.as_slice.ensures)
-    (compute-free w c.requires.ready.0 c.requires.ready.1 c.requires.ready.2 (map named_of c.in-Compute.items) c.args.rows.items c.data_is_loaded.ensures (subst (λ s. StepRuns w c.requires.ready.0 c.requires.ready.1 c.requires.ready.2 s c.args.rows.items) e c.requires.ready.3))
+    subst (λ xs. IsTrue (all_free w (map named_of xs) c.args.rows.items)) (sym c.as_slice.ensures.value)
+    (compute-free w c.requires.ready.0 c.requires.ready.1 c.requires.ready.2 (map named_of c.in-Compute.items) c.args.rows.items c.data_is_loaded.ensures.value (subst (λ s. StepRuns w c.requires.ready.0 c.requires.ready.1 c.requires.ready.2 s c.args.rows.items) e c.requires.ready.3))
 
 pub returns-in-Identity-clause-mean : goal.returns-in-Identity-clause-mean
 returns-in-Identity-clause-mean g c = λ c' S S' R. ap (λ s. step_mean c.args.store.now c' S s c.args.rows.items) (ap step_of c.in-Identity.is ∙ step_of-Identity) ∙ step_mean-Identity c.args.store.now c' S c.args.rows.items
 
 pub returns-in-Filter-clause-mean : goal.returns-in-Filter-clause-mean
 returns-in-Filter-clause-mean g c = λ c' S S' R.
-    subst (Gives c.filter_rows.result) (sym (ap (λ s. step_mean c.args.store.now c' S s c.args.rows.items) (ap step_of c.in-Filter.is ∙ step_of-Filter c.in-Filter.e) ∙ step_mean-Filter c.args.store.now c' S (expr_of c.in-Filter.e) c.args.rows.items)) c.filter_rows.ensures
+    subst (Gives c.filter_rows.result) (sym (ap (λ s. step_mean c.args.store.now c' S s c.args.rows.items) (ap step_of c.in-Filter.is ∙ step_of-Filter c.in-Filter.e) ∙ step_mean-Filter c.args.store.now c' S (expr_of c.in-Filter.e) c.args.rows.items)) c.filter_rows.ensures.value
 
 pub returns-in_ok-compute_rows-in-Compute-clause-mean : goal.returns-in_ok-compute_rows-in-Compute-clause-mean
 returns-in_ok-compute_rows-in-Compute-clause-mean g c = λ c' S S' R.
     let w = c.args.store.now in
     ap (λ s. step_mean w c' S s c.args.rows.items) (ap step_of c.in-Compute.is ∙ step_of-Compute c.in-Compute.items) ∙ step_mean-Compute w c' S (map named_of c.in-Compute.items) c.args.rows.items
-    ∙ ap (λ xs. Some (map (λ i. extended i (new_columns w (map named_of xs) i)) c.args.rows.items)) (sym c.as_slice.ensures)
+    ∙ ap (λ xs. Some (map (λ i. extended i (new_columns w (map named_of xs) i)) c.args.rows.items)) (sym c.as_slice.ensures.value)
     ∙ ap Some (sym c.in_ok-compute_rows-in-Compute.ensures.rows)
 
 pub returns-in-Skip-clause-mean : goal.returns-in-Skip-clause-mean
 returns-in-Skip-clause-mean g c = λ c' S S' R.
-    ap (λ s. step_mean c.args.store.now c' S s c.args.rows.items) (ap step_of c.in-Skip.is ∙ step_of-Skip c.in-Skip.n) ∙ step_mean-Skip c.args.store.now c' S c.in-Skip.n c.args.rows.items ∙ ap Some (sym c.skip_rows.ensures)
+    ap (λ s. step_mean c.args.store.now c' S s c.args.rows.items) (ap step_of c.in-Skip.is ∙ step_of-Skip c.in-Skip.n) ∙ step_mean-Skip c.args.store.now c' S c.in-Skip.n c.args.rows.items ∙ ap Some (sym c.skip_rows.ensures.value)
 
 pub returns-in-Top-clause-mean : goal.returns-in-Top-clause-mean
 returns-in-Top-clause-mean g c = λ c' S S' R.
-    ap (λ s. step_mean c.args.store.now c' S s c.args.rows.items) (ap step_of c.in-Top.is ∙ step_of-Top c.in-Top.n) ∙ step_mean-Top c.args.store.now c' S c.in-Top.n c.args.rows.items ∙ ap Some (sym c.top_rows.ensures)
+    ap (λ s. step_mean c.args.store.now c' S s c.args.rows.items) (ap step_of c.in-Top.is ∙ step_of-Top c.in-Top.n) ∙ step_mean-Top c.args.store.now c' S c.in-Top.n c.args.rows.items ∙ ap Some (sym c.top_rows.ensures.value)
 
 pub returns-in-Identity-clause-each : goal.returns-in-Identity-clause-each
 returns-in-Identity-clause-each g c =

@@ -69,7 +69,7 @@ loop-i-preserved g c =
     let spent = c.in_ok-rows-2.ensures.each in
     let left = i.4 in (
       u.between,
-      u.next c.in_ok-rows-2.rows.items c.data_is_loaded.ensures m,
+      u.next c.in_ok-rows-2.rows.items c.data_is_loaded.ensures.value m,
       i.2 ∙ u.meaning ∙ ap (option_and_then (mean w cs u.between rest)) m,
       steps-next is_plain_step ss c.loop-i.i c.index-all-i.result c.loop-i-test.true c.index-all-i.is i.3,
       omega (arith, left, made, spent),

@@ -8,14 +8,14 @@ use Rattle.apply_replies.specs.Costs.{IsRunFor}
 use Rattle.apply_replies.proofs.replies.plan_for.Goals as goal
 
 pub returns-then-is_optimised-clause-plan : goal.returns-then-is_optimised-clause-plan
-returns-then-is_optimised-clause-plan c = rw (c.model.ensures, c.customs.ensures.value) at c.optimise.ensures.plan
+returns-then-is_optimised-clause-plan c = rw (c.model.ensures.value, c.customs.ensures.value) at c.optimise.ensures.plan
 
 pub returns-then-is_optimised-clause-own : goal.returns-then-is_optimised-clause-own
 returns-then-is_optimised-clause-own c =
     let w = c.args.store.now.world in
     let cs = readings c.args.store.now.customs in
     let P : Bool → Type 0 = λ b. IfOk c.optimise.result (λ p. IsRunFor b w.model cs (shape_of_set w.model c.args.typed.set) (pipe_of c.args.typed.pipe) (pipe_of (own_of p).pipe)) in
-    subst P (sym c.if-is_optimised.true) (rw (c.model.ensures, c.customs.ensures.value) at c.optimise.ensures.own)
+    subst P (sym c.if-is_optimised.true) (rw (c.model.ensures.value, c.customs.ensures.value) at c.optimise.ensures.own)
 
 pub returns-clause-plan : goal.returns-clause-plan
 returns-clause-plan c = c.written.ensures.plan c.args.store.now.world.model (readings c.args.store.now.customs) c.requires.typing

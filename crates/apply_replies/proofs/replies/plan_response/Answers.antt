@@ -14,6 +14,6 @@ returns c =
     let w = c.args.store.now.world in
     let t = c.args.typed.now in
     told-plan c.explained.result (IsPlanOf w.model (readings c.args.store.now.customs) (shape_of_set w.model t.set) (pipe_of t.pipe)) (pipe_of (own_of c.in_ok-plan.plan).pipe) c.as_str.result.now
-    (rw (c.model.ensures, c.customs.ensures.value) at c.in_ok-plan.ensures.own)
-    (c.as_str.ensures.value ∙ c.in_ok-text.ensures.text ∙ ap (λ (p : Pipe). print (pipe_of p)) c.pipe.ensures)
+    (rw (c.model.ensures.value, c.customs.ensures.value) at c.in_ok-plan.ensures.own)
+    (c.as_str.ensures.value ∙ c.in_ok-text.ensures.text ∙ ap (λ (p : Pipe). print (pipe_of p)) c.pipe.ensures.value)
     c.explained.ensures

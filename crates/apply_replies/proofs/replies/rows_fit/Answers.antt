@@ -19,7 +19,7 @@ returns-clause-fit c =
     let w = c.args.store.now.world in
     let cs = readings c.args.store.now.customs in
     let t = written_of c.args.plan.now in
-    let L : IsLoaded w = subst IsLoaded c.«data».ensures c.data_is_loaded.ensures in
+    let L : IsLoaded w = subst IsLoaded c.«data».ensures.value c.data_is_loaded.ensures.value in
     subst (λ (S : Shape). AllFit w S c.args.rows.now.items) (sym c.requires.plan.shape)
     (loaded-mean_fits w cs (shape_of_set w.model t.set) t.shape (pipe_of t.pipe) (instances.rows w t.set) c.args.rows.now.items L (rw (sym c.customs-customs.ensures.value) c.customs-customs.ensures.whole)
     (own_is_lawful w.model (set_type w.model t.set)) c.requires.plan.typing (loaded-rows w t.set L c.requires.set) c.requires.mean)

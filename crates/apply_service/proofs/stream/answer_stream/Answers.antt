@@ -60,10 +60,10 @@ returns-in-Ok-answer_line-clause-ok g c =
     let bound = subst (LongBounds (BoundsLineOf c.args.replies.now.is_optimised c.args.replies.now.store.now)) (sym c.in-Ok-eq0.ensures.limit) (long_costs c.args.replies.now.store.now.world (readings c.args.replies.now.store.now.customs) c.args.replies.now.is_optimised) in
     let last = Advances-more _ _ _ _ _ _ _ _ _ _ _ _ _ _ _ _ c.loop-count.invariant.advanced c.in-Ok-eq0.ensures.ok in
     let within = c.in-Ok-eq0.ensures.count in
-    Responds-all _ _ _ _ _ _ _ _ _ _ _ _ _ _ (omega (arith, within, c.loop-count.invariant.within)) long bound last (rw c.whole.ensures at c.in-Ok-answer_line.ensures.ok) (rw c.whole.ensures at c.answer_line.ensures.counted)
+    Responds-all _ _ _ _ _ _ _ _ _ _ _ _ _ _ (omega (arith, within, c.loop-count.invariant.within)) long bound last (rw c.whole.ensures.value at c.in-Ok-answer_line.ensures.ok) (rw c.whole.ensures.value at c.answer_line.ensures.counted)
 
 pub returns-in-Err-answer_line-clause-write : goal.returns-in-Err-answer_line-clause-write
 returns-in-Err-answer_line-clause-write g c = λ _.
     let long = subst (LongLines (IsReplyOf c.args.replies.now.store.now)) (sym c.in-Ok-eq0.ensures.limit) (long_lines c.args.replies.now.store.now.world (readings c.args.replies.now.store.now.customs)) in
     let bound = subst (LongBounds (BoundsLineOf c.args.replies.now.is_optimised c.args.replies.now.store.now)) (sym c.in-Ok-eq0.ensures.limit) (long_costs c.args.replies.now.store.now.world (readings c.args.replies.now.store.now.customs) c.args.replies.now.is_optimised) in
-    RespondsInPart-last _ _ g.S.Source.left g.S.Source.reads_once _ _ c.loop-count.input _ _ _ _ _ _ _ _ _ _ _ _ _ _ _ c.loop-count.invariant.within (omega arith) (c.in-Ok-eq0.ensures.end (omega arith)) long bound c.loop-count.invariant.advanced c.in-Ok-eq0.ensures.ok c.answer_piece.ensures.once (rw c.whole.ensures at c.in-Err-answer_line.ensures.err) (rw c.whole.ensures at c.answer_line.ensures.counted)
+    RespondsInPart-last _ _ g.S.Source.left g.S.Source.reads_once _ _ c.loop-count.input _ _ _ _ _ _ _ _ _ _ _ _ _ _ _ c.loop-count.invariant.within (omega arith) (c.in-Ok-eq0.ensures.end (omega arith)) long bound c.loop-count.invariant.advanced c.in-Ok-eq0.ensures.ok c.answer_piece.ensures.once (rw c.whole.ensures.value at c.in-Err-answer_line.ensures.err) (rw c.whole.ensures.value at c.answer_line.ensures.counted)

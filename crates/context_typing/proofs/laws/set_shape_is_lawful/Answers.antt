@@ -2,4 +2,4 @@ use Rattle.context_typing.proofs.LawfulShapes.{own_is_lawful}
 use Rattle.context_typing.proofs.laws.set_shape_is_lawful.Goals as goal
 
 pub returns : goal.returns
-returns c = own_is_lawful
+returns c = record { value = own_is_lawful }

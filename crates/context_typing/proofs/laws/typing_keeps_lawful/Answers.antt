@@ -2,4 +2,4 @@ use Rattle.context_typing.proofs.TypingLaw.{typing_keeps_lawful}
 use Rattle.context_typing.proofs.laws.typing_keeps_lawful.Goals as goal
 
 pub returns : goal.returns
-returns c = typing_keeps_lawful
+returns c = record { value = typing_keeps_lawful }

@@ -10,7 +10,7 @@ pub returns-in-Some : goal.returns-in-Some
 returns-in-Some c =
     let f = λ (t : List ColumnShape). all_some (map (joined_column c.args.m.now c.args.shapes.now) t) in
     let P : Option (List ColumnShape) → Type 0 = λ r. IfOk c.joined_columns.result (λ o. o ≡ r) in
-    subst P (ap f c.as_slice.ensures ∙ ap (option_and_then f) (sym c.in-Some.is ∙ c.in_ok-table.ensures) ∙ columns-from c.args.m.now c.args.shapes.now) c.joined_columns.ensures
+    subst P (ap f c.as_slice.ensures.value ∙ ap (option_and_then f) (sym c.in-Some.is ∙ c.in_ok-table.ensures) ∙ columns-from c.args.m.now c.args.shapes.now) c.joined_columns.ensures
 
 pub returns-in-None : goal.returns-in-None
 returns-in-None c =

@@ -12,7 +12,7 @@ returns-then-same_path c =
     place-old c.args.columns.now c.args.places.items c.requires c.args.column.now c.deref.result.now c.names.result.now c.deref.ensures.value (c.names.ensures.names ∙ ap (λ x. x.path) c.column.view_is)
     c.places_before-at.result c.places_before-at.ensures c.index.result.now c.index-columns-index.result c.names-then-at-len.result.now c.names-then-at-len-2.result.now h
     (get_or_read c.args.places.items c.places_before-at.result c.index.result.now h c.index.ensures 0) c.index-columns-index.is (c.names-then-at-len.ensures.names ∙ ap (λ x. x.path) c.other.view_is)
-    (c.names-then-at-len-2.ensures.names ∙ ap (λ x. x.path) c.column.view_is) (sym c.same_path.ensures ∙ c.if-same_path.true)
+    (c.names-then-at-len-2.ensures.names ∙ ap (λ x. x.path) c.column.view_is) (sym c.same_path.ensures.value ∙ c.if-same_path.true)
 
 pub returns : goal.returns
 returns c =
@@ -24,6 +24,6 @@ returns c =
           let h : c.places_before-at.result < length c.args.places.items = omega arith in
           read-miss c.args.columns.now c.args.places.items c.requires c.args.column.now.path c.places_before-at.result w.index.result.now w.index-columns-index.result w.names-then-at-len.result.now h
           (get_or_read c.args.places.items c.places_before-at.result w.index.result.now h w.index.ensures 0) w.index-columns-index.is (w.names-then-at-len.ensures.names ∙ ap (λ x. x.path) w.other.view_is)
-          (ap (same_path w.names-then-at-len.result.now) (sym (w.names-then-at-len-2.ensures.names ∙ ap (λ x. x.path) c.column.view_is)) ∙ sym w.same_path.ensures ∙ w.if-same_path.false)
+          (ap (same_path w.names-then-at-len.result.now) (sym (w.names-then-at-len-2.ensures.names ∙ ap (λ x. x.path) c.column.view_is)) ∙ sym w.same_path.ensures.value ∙ w.if-same_path.false)
       | else-at-len w ↦ read-past c.args.columns.now c.args.places.items c.requires c.args.column.now.path c.places_before-at.result (omega arith)
     ]))

@@ -36,7 +36,7 @@ type_concat-returns t c =
 
 pub type_groups-returns-in_ok-copy-in-Some : goal.type_groups-returns-in_ok-copy-in-Some
 type_groups-returns-in_ok-copy-in-Some t c =
-    rw (c.in-Some.is, inner-some, ← c.in_ok-copy-in-Some.ensures) c.type_long.ensures
+    rw (c.in-Some.is, inner-some, ← c.in_ok-copy-in-Some.ensures.value) c.type_long.ensures
 
 pub type_groups-returns-in-None : goal.type_groups-returns-in-None
 type_groups-returns-in-None t c =
@@ -62,33 +62,33 @@ type_long-returns-in-Untyped t c =
 
 pub type_on_set-returns-in-Some : goal.type_on_set-returns-in-Some
 type_on_set-returns-in-Some t c =
-    rw (c.in-Some.is, inner-some, ← c.set_shape-shape.ensures) c.type_long.ensures
+    rw (c.in-Some.is, inner-some, ← c.set_shape-shape.ensures.value) c.type_long.ensures
 
 pub type_on_set-returns-in-None : goal.type_on_set-returns-in-None
 type_on_set-returns-in-None t c =
-    rw (c.in-None.is, inner-none, ← c.set_shape-shape.ensures) refl
+    rw (c.in-None.is, inner-none, ← c.set_shape-shape.ensures.value) refl
 
 pub type_step-returns-in-Identity : goal.type_step-returns-in-Identity
 type_step-returns-in-Identity t c =
-    rw (c.in-Identity.is, step_of-Identity) (c.kept.ensures ∙ outcome-Identity c.args.m.now (readings c.args.c.now) c.args.shape)
+    record { value = rw (c.in-Identity.is, step_of-Identity) (c.kept.ensures ∙ outcome-Identity c.args.m.now (readings c.args.c.now) c.args.shape) }
 
 pub type_step-returns-in_ok-compute_shape-in-Compute :
     goal.type_step-returns-in_ok-compute_shape-in-Compute
 type_step-returns-in_ok-compute_shape-in-Compute t c =
-    rw (c.in-Compute.is, step_of-Compute) (c.quiet.ensures ∙ ap (λ o. outcome o true) c.in_ok-compute_shape-in-Compute.ensures ∙ outcome-Compute c.args.m.now (readings c.args.c.now) c.args.shape _)
+    record { value = rw (c.in-Compute.is, step_of-Compute) (c.quiet.ensures ∙ ap (λ o. outcome o true) c.in_ok-compute_shape-in-Compute.ensures ∙ outcome-Compute c.args.m.now (readings c.args.c.now) c.args.shape _) }
 
 pub type_step-returns-in-Skip : goal.type_step-returns-in-Skip
 type_step-returns-in-Skip t c =
-    rw (c.in-Skip.is, step_of-Skip) (c.kept-in-Skip.ensures ∙ ap (λ b. kept c.args.shape b true) c.is_count.ensures ∙ outcome-Skip c.args.m.now (readings c.args.c.now) c.args.shape c.in-Skip.n)
+    record { value = rw (c.in-Skip.is, step_of-Skip) (c.kept-in-Skip.ensures ∙ ap (λ b. kept c.args.shape b true) c.is_count.ensures ∙ outcome-Skip c.args.m.now (readings c.args.c.now) c.args.shape c.in-Skip.n) }
 
 pub type_step-returns-in-Top : goal.type_step-returns-in-Top
 type_step-returns-in-Top t c =
-    rw (c.in-Top.is, step_of-Top) (c.kept-in-Top.ensures ∙ ap (λ b. kept c.args.shape b true) c.is_count-in-Top.ensures ∙ outcome-Top c.args.m.now (readings c.args.c.now) c.args.shape c.in-Top.n)
+    record { value = rw (c.in-Top.is, step_of-Top) (c.kept-in-Top.ensures ∙ ap (λ b. kept c.args.shape b true) c.is_count-in-Top.ensures ∙ outcome-Top c.args.m.now (readings c.args.c.now) c.args.shape c.in-Top.n) }
 
 pub type_step-returns-in_ok-aggregate_shape-in-Aggregate :
     goal.type_step-returns-in_ok-aggregate_shape-in-Aggregate
 type_step-returns-in_ok-aggregate_shape-in-Aggregate t c =
-    rw (c.in-Aggregate.is, step_of-Aggregate) (c.quiet-in-Aggregate.ensures ∙ ap (λ o. outcome o true) c.in_ok-aggregate_shape-in-Aggregate.ensures ∙ outcome-Aggregate c.args.m.now (readings c.args.c.now) c.args.shape _)
+    record { value = rw (c.in-Aggregate.is, step_of-Aggregate) (c.quiet-in-Aggregate.ensures ∙ ap (λ o. outcome o true) c.in_ok-aggregate_shape-in-Aggregate.ensures ∙ outcome-Aggregate c.args.m.now (readings c.args.c.now) c.args.shape _) }
 
 pub type_steps-loop-i-preserved : goal.type_steps-loop-i-preserved
 type_steps-loop-i-preserved t c =
@@ -96,7 +96,7 @@ type_steps-loop-i-preserved t c =
     let cs = readings c.args.c.now in
     let x : Outcome = record { shape = c.loop-i.shape; quiet = c.loop-i.quiet } in
     let y : Outcome = record { shape = c.next.inside.shape; quiet = c.next.inside.quiet } in
-    let e : step_outcome m cs c.loop-i.shape (step_of c.step-item.result) ≡ Some y = sym c.in_ok-next.ensures ∙ c.in-Some.is ∙ ap Some (sym c.next.view_is) in (
+    let e : step_outcome m cs c.loop-i.shape (step_of c.step-item.result) ≡ Some y = sym c.in_ok-next.ensures.value ∙ c.in-Some.is ∙ ap Some (sym c.next.view_is) in (
       step-types m cs c.requires.sound (step_of c.step-item.result) c.loop-i.shape c.next.inside.shape c.loop-i.invariant.0 (outcome-parts _ _ y e).0,
       walk-next m cs c.args.shape step_of c.steps-step-items.result.now c.loop-i.i c.step-item.result x y (omega arith) c.step-item.is c.loop-i.invariant.1 e
           ∙ ap (λ q. Some (record { shape = c.next.inside.shape; quiet = q })) (sym c.both-both_quiet.ensures),
@@ -111,7 +111,7 @@ pub type_steps-returns-in-None-clause-walk : goal.type_steps-returns-in-None-cla
 type_steps-returns-in-None-clause-walk t c =
     let P : Pipe → Type 0 = λ p. IsUntypedAt c.args.m.now (readings c.args.c.now) c.args.shape p (c.loop-i.i + 1) in
     subst P (sym c.steps-step-items.ensures.tree)
-    (walk-missing c.args.m.now (readings c.args.c.now) c.args.shape step_of c.steps-step-items.result.now c.loop-i.i c.step-item.result (record { shape = c.loop-i.shape; quiet = c.loop-i.quiet }) (omega arith) c.step-item.is c.loop-i.invariant.1 (sym c.in-None.is ∙ c.in_ok-next.ensures))
+    (walk-missing c.args.m.now (readings c.args.c.now) c.args.shape step_of c.steps-step-items.result.now c.loop-i.i c.step-item.result (record { shape = c.loop-i.shape; quiet = c.loop-i.quiet }) (omega arith) c.step-item.is c.loop-i.invariant.1 (sym c.in-None.is ∙ c.in_ok-next.ensures.value))
 
 pub type_steps-loop-i-init : goal.type_steps-loop-i-init
 type_steps-loop-i-init t c =
@@ -128,12 +128,12 @@ type_keys-loop-key-preserved t c =
 pub type_keys-returns-in-None : goal.type_keys-returns-in-None
 type_keys-returns-in-None t c =
     keys-missing c.args.m.now (readings c.args.c.now) c.args.shape.now key_of c.as_slice-key-items.result.now c.loop-key.key-index c.key-item.result (keys_of c.args.keys.now) (omega arith) c.key-item.is
-    (keys_of-is c.args.keys.now ∙ ap (λ l. keys_from (map key_of l)) (sym c.as_slice-key-items.ensures)) (sym c.in-None.is ∙ c.in_ok-next.ensures)
+    (keys_of-is c.args.keys.now ∙ ap (λ l. keys_from (map key_of l)) (sym c.as_slice-key-items.ensures.value)) (sym c.in-None.is ∙ c.in_ok-next.ensures)
 
 pub type_keys-returns : goal.type_keys-returns
 type_keys-returns t c =
     keys-all c.args.m.now (readings c.args.c.now) c.args.shape.now key_of c.as_slice-key-items.result.now c.loop-key.key-index c.loop-key.quiet (keys_of c.args.keys.now) c.loop-key-test.false
-    (keys_of-is c.args.keys.now ∙ ap (λ l. keys_from (map key_of l)) (sym c.as_slice-key-items.ensures)) c.loop-key.invariant
+    (keys_of-is c.args.keys.now ∙ ap (λ l. keys_from (map key_of l)) (sym c.as_slice-key-items.ensures.value)) c.loop-key.invariant
 
 pub type_branches-loop-branch-init : goal.type_branches-loop-branch-init
 type_branches-loop-branch-init t c = branches-start c.args.m.now (readings c.args.c.now) c.args.shape.now ∙ ap (λ l. Some (l, true)) (sym c.new-shapes.ensures.items)
@@ -141,29 +141,31 @@ type_branches-loop-branch-init t c = branches-start c.args.m.now (readings c.arg
 pub type_branches-loop-branch-preserved : goal.type_branches-loop-branch-preserved
 type_branches-loop-branch-preserved t c =
     branches-next c.args.m.now (readings c.args.c.now) c.args.shape.now pipe_of c.as_slice-branch-items.result.now c.loop-branch.branch-index c.branch-item.result c.loop-branch.shapes.items c.loop-branch.quiet (record { shape = c.next.inside.shape; quiet = c.next.inside.quiet }) (omega arith) c.branch-item.is c.loop-branch.invariant
-    (ap (λ S. long_outcome c.args.m.now (readings c.args.c.now) S (pipe_of c.branch-item.result)) (sym c.in_ok-copy.ensures) ∙ sym c.in_ok-next.ensures ∙ c.in-Some.is ∙ ap Some (sym c.next.view_is))
+    (ap (λ S. long_outcome c.args.m.now (readings c.args.c.now) S (pipe_of c.branch-item.result)) (sym c.in_ok-copy.ensures.value) ∙ sym c.in_ok-next.ensures ∙ c.in-Some.is ∙ ap Some (sym c.next.view_is))
     ∙ (λ j. Some (sym c.in_ok-push-in-Some.ensures.items j, sym c.both-both_quiet.ensures j))
 
 pub type_branches-returns-in-None : goal.type_branches-returns-in-None
 type_branches-returns-in-None t c =
     branches-missing c.args.m.now (readings c.args.c.now) c.args.shape.now pipe_of c.as_slice-branch-items.result.now c.loop-branch.branch-index c.branch-item.result (pipes_of c.args.branches.now) (omega arith) c.branch-item.is
-    (pipes_of-is c.args.branches.now ∙ ap (λ l. pipes_from (map pipe_of l)) (sym c.as_slice-branch-items.ensures))
-    (sym c.in-None.is ∙ c.in_ok-next.ensures ∙ ap (λ S. long_outcome c.args.m.now (readings c.args.c.now) S (pipe_of c.branch-item.result)) c.in_ok-copy.ensures)
+    (pipes_of-is c.args.branches.now ∙ ap (λ l. pipes_from (map pipe_of l)) (sym c.as_slice-branch-items.ensures.value))
+    (sym c.in-None.is ∙ c.in_ok-next.ensures ∙ ap (λ S. long_outcome c.args.m.now (readings c.args.c.now) S (pipe_of c.branch-item.result)) c.in_ok-copy.ensures.value)
 
 pub type_branches-returns : goal.type_branches-returns
 type_branches-returns t c =
     branches-all c.args.m.now (readings c.args.c.now) c.args.shape.now pipe_of c.as_slice-branch-items.result.now c.loop-branch.branch-index c.loop-branch.shapes.items c.loop-branch.quiet (pipes_of c.args.branches.now) c.loop-branch-test.false
-    (pipes_of-is c.args.branches.now ∙ ap (λ l. pipes_from (map pipe_of l)) (sym c.as_slice-branch-items.ensures)) c.loop-branch.invariant
+    (pipes_of-is c.args.branches.now ∙ ap (λ l. pipes_from (map pipe_of l)) (sym c.as_slice-branch-items.ensures.value)) c.loop-branch.invariant
 
 pub type_step-returns-in_ok-groups-in-GroupBy : goal.type_step-returns-in_ok-groups-in-GroupBy
 type_step-returns-in_ok-groups-in-GroupBy t c =
-    let m = c.args.m.now in
-    let cs = readings c.args.c.now in
-    let S = c.args.shape in
-    rw (c.in-GroupBy.is, step_of-GroupBy)
-    (subst (λ (z : Option Outcome). IfOk c.group_outcome.result (λ o. o ≡ z))
-    ((λ i. group_outcome m S (group_keys (keys_of c.in-GroupBy.keys)) (c.in_ok-keys_quiet-in-GroupBy.ensures i) (c.in_ok-groups-in-GroupBy.ensures i)) ∙ outcome-GroupBy m cs S (keys_of c.in-GroupBy.keys) (inner_of (option_map pipe_of c.in-GroupBy.inner)))
-    c.group_outcome.ensures)
+    record {
+      value = let m = c.args.m.now in
+          let cs = readings c.args.c.now in
+          let S = c.args.shape in
+          rw (c.in-GroupBy.is, step_of-GroupBy)
+          (subst (λ (z : Option Outcome). IfOk c.group_outcome.result (λ o. o ≡ z))
+          ((λ i. group_outcome m S (group_keys (keys_of c.in-GroupBy.keys)) (c.in_ok-keys_quiet-in-GroupBy.ensures i) (c.in_ok-groups-in-GroupBy.ensures i)) ∙ outcome-GroupBy m cs S (keys_of c.in-GroupBy.keys) (inner_of (option_map pipe_of c.in-GroupBy.inner)))
+          c.group_outcome.ensures);
+    }
 
 pub type_join-returns : goal.type_join-returns
 type_join-returns t c =
@@ -181,7 +183,7 @@ pub type_climb-climb_outcome-requires : goal.type_climb-climb_outcome-requires
 type_climb-climb_outcome-requires t c =
     record {
       types = c.requires.types;
-      starts = long-types c.args.m.now (readings c.args.c.now) c.requires.sound c.in_ok-copy.field-0 (pipe_of c.args.climb.now.inner) c.in_ok-starts.starts (ap (has_types c.args.m.now) c.in_ok-copy.ensures ∙ c.requires.types) c.in_ok-starts.ensures;
+      starts = long-types c.args.m.now (readings c.args.c.now) c.requires.sound c.in_ok-copy.field-0 (pipe_of c.args.climb.now.inner) c.in_ok-starts.starts (ap (has_types c.args.m.now) c.in_ok-copy.ensures.value ∙ c.requires.types) c.in_ok-starts.ensures;
     }
 
 pub type_climb-returns : goal.type_climb-returns
@@ -190,7 +192,7 @@ type_climb-returns t c =
     let cs = readings c.args.c.now in
     let S = c.args.shape in
     let j = c.args.climb.now in
-    c.climb_outcome.ensures ∙ (λ i. climb_outcome m S j.path j.distance (c.nodes_of-nodes.ensures.value i) ((c.in_ok-starts.ensures ∙ ap (λ T. long_outcome m cs T (pipe_of j.inner)) c.in_ok-copy.ensures) i))
+    c.climb_outcome.ensures ∙ (λ i. climb_outcome m S j.path j.distance (c.nodes_of-nodes.ensures.value i) ((c.in_ok-starts.ensures ∙ ap (λ T. long_outcome m cs T (pipe_of j.inner)) c.in_ok-copy.ensures.value) i))
     ∙ outcome-Climb m cs S j.up (hier_of j.hier) j.path (pipe_of j.inner) j.distance j.keep ∙ ap (step_outcome m cs S) (sym (climb_of-is j))
 
 pub type_recursive-returns : goal.type_recursive-returns

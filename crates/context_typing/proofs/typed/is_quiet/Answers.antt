@@ -14,5 +14,5 @@ unreachable-requires c =
     let cs = readings c.args.c.now in
     let p = pipe_of c.args.p.now in
     both_ways (is_some (steps_shape m cs c.args.s.now p))
-    (ap is_some (ap (λ S. steps_shape m cs S p) (sym c.in_ok-copy.ensures) ∙ untyped-none m cs c.in_ok-copy.field-0 p _ (subst (IsWalk m cs c.in_ok-copy.field-0 p) c.in-Untyped.is c.in_ok-outcome.ensures.walk)))
+    (ap is_some (ap (λ S. steps_shape m cs S p) (sym c.in_ok-copy.ensures.value) ∙ untyped-none m cs c.in_ok-copy.field-0 p _ (subst (IsWalk m cs c.in_ok-copy.field-0 p) c.in-Untyped.is c.in_ok-outcome.ensures.walk)))
     c.requires.typed

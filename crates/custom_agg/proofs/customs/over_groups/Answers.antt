@@ -17,7 +17,7 @@ aggregate_values-requires-clause-kind g c κs within =
     let results =
     c.as_slice.ensures.value ∙ c.in_ok-results.ensures ∙ ap (results_at w e c.args.method c.args.rows.now) c.in_ok-groups.ensures
     ∙ results-of_groups w c.as_slice-paths.result.now c.args.rows.now e c.args.method
-    ∙ ap (λ ps. group_results w e c.args.method ps c.args.rows.now) c.as_slice-paths.ensures in
+    ∙ ap (λ ps. group_results w e c.args.method ps c.args.rows.now) c.as_slice-paths.ensures.value in
     subst (AreFoldable c.args.outer) (sym results) c.requires.results
 
 pub returns : goal.returns
@@ -27,5 +27,5 @@ returns g c =
     let results =
     c.as_slice.ensures.value ∙ c.in_ok-results.ensures ∙ ap (results_at w e c.args.method c.args.rows.now) c.in_ok-groups.ensures
     ∙ results-of_groups w c.as_slice-paths.result.now c.args.rows.now e c.args.method
-    ∙ ap (λ ps. group_results w e c.args.method ps c.args.rows.now) c.as_slice-paths.ensures in
-    IfOk-weaker c.aggregate_values.result _ (λ v. v ≡ aggregate c.args.outer (group_results w e c.args.method c.args.read.now.per c.args.rows.now)) (λ v h. h ∙ ap (aggregate c.args.outer) results) c.aggregate_values.ensures
+    ∙ ap (λ ps. group_results w e c.args.method ps c.args.rows.now) c.as_slice-paths.ensures.value in
+    IfOk-weaker c.aggregate_values.result _ (λ v. v ≡ aggregate c.args.outer (group_results w e c.args.method c.args.read.now.per c.args.rows.now)) (λ v h. h ∙ ap (aggregate c.args.outer) results) c.aggregate_values.ensures.value

@@ -17,4 +17,4 @@ pub returns : goal.returns
 returns c =
     let list = c.customs.ensures.value ∙ ap custom_list c.model.ensures.value in
     let found = c.find_custom.ensures ∙ ap (find (λ u. same_part u.id c.args.id)) list in
-    definition-is c.args.store.now.model c.data_is_loaded.ensures.model c.args.id c.in-Some.custom.now (sym found ∙ ap option_copied c.in-Some.is)
+    definition-is c.args.store.now.model c.data_is_loaded.ensures.value.model c.args.id c.in-Some.custom.now (sym found ∙ ap option_copied c.in-Some.is)

@@ -18,4 +18,4 @@ pub returns : goal.returns
 returns g c =
     let lists = ap (map (λ k. k.items)) c.as_slice.ensures.value ∙ c.in_ok-lists.ensures.value in
     IfOk-weaker c.into_groups.result _ (λ found. found ≡ groups_of (placed 0 (map (key_list c.args.store.now c.args.paths.now) c.args.rows.now)))
-    (λ found h. h _ c.in_ok-pieces.ensures.stands ∙ ap groups_of (placed-keys c.as_slice.result.now ∙ ap (placed 0) lists)) c.into_groups.ensures
+    (λ found h. h _ c.in_ok-pieces.ensures.stands ∙ ap groups_of (placed-keys c.as_slice.result.now ∙ ap (placed 0) lists)) c.into_groups.ensures.value

@@ -16,5 +16,5 @@ loop-at-preserved c =
     c.loop-at.invariant
     ∙ ap (λ l. found ++ values w e l) (next-place c.args.rows.now c.args.places.now c.loop-at.at-index row c.requires.within c.loop-at-test.true c.index-rows-at.is)
     ∙ sym (append_assoc found (val w row e ∷ []) rest)
-    ∙ ap (λ v. (found ++ v ∷ []) ++ rest) (sym (c.in_ok-own.ensures.value ∙ c.eval.ensures))
+    ∙ ap (λ v. (found ++ v ∷ []) ++ rest) (sym (c.in_ok-own.ensures.value ∙ c.eval.ensures.value))
     ∙ ap (λ vs. vs ++ rest) (sym c.in_ok-push.ensures.items)

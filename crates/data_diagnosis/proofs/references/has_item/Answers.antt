@@ -15,11 +15,11 @@ returns-then-are_same c =
     let v = Some (seen_value c.args.key) in
     let test = λ (y : Value). same_key v (key_in m c.args.s (view y)) in
     let passes : same_key v (key_in m c.args.s (view c.item-item.result)) ≡ true = ap (same_key v) (sym c.in_ok-key_of.ensures) ∙ sym c.are_same.ensures ∙ c.if-are_same.true in
-    sym (has_key-is m (view c.args.root.now) c.args.s v c.set_items-items.result.now c.set_items-items.ensures ∙ list_any_at test c.set_items-items.result.now c.loop-item.item-index c.item-item.result c.loop-item-test.true (ap test (sym c.item-item.is) ∙ passes))
+    sym (has_key-is m (view c.args.root.now) c.args.s v c.set_items-items.result.now c.set_items-items.ensures.value ∙ list_any_at test c.set_items-items.result.now c.loop-item.item-index c.item-item.result c.loop-item-test.true (ap test (sym c.item-item.is) ∙ passes))
 
 pub returns : goal.returns
 returns c =
     let m = c.args.model.now in
     let v = Some (seen_value c.args.key) in
     let test = λ (y : Value). same_key v (key_in m c.args.s (view y)) in
-    sym (has_key-is m (view c.args.root.now) c.args.s v c.set_items-items.result.now c.set_items-items.ensures ∙ ap (list_any test) (sym (take_all c.loop-item.item-index c.set_items-items.result.now c.loop-item-test.false)) ∙ c.loop-item.invariant)
+    sym (has_key-is m (view c.args.root.now) c.args.s v c.set_items-items.result.now c.set_items-items.ensures.value ∙ ap (list_any test) (sym (take_all c.loop-item.item-index c.set_items-items.result.now c.loop-item-test.false)) ∙ c.loop-item.invariant)

@@ -10,5 +10,5 @@ pub returns-then-branch-clause-of : goal.returns-then-branch-clause-of
 returns-then-branch-clause-of c =
     let P : Part → Type 0 = λ p. p.of ≡ c.set_type.result in
     let all = parts_there P c.set_type.result (length (navigations_of c.args.model.now c.set_type.result)) (λ k below. refl) in
-    let item = All-get_or P c.navs-navs.result.now c.loop-n.n-index c.n-item.result (omega (arith, c.loop-n-test.true)) (subst (All P) (sym c.navs-navs.ensures) all) in
+    let item = All-get_or P c.navs-navs.result.now c.loop-n.n-index c.n-item.result (omega (arith, c.loop-n-test.true)) (subst (All P) (sym c.navs-navs.ensures.value) all) in
     subst P (sym c.n-item.is) item ∙ c.set_type.ensures.value

@@ -11,12 +11,16 @@ use Rattle.edm_data.proofs.entities.is_known_member.Goals as goal
 
 pub returns-then-is_some : goal.returns-then-is_some
 returns-then-is_some c =
-    let bytes = string_bytes c.args.name.now in
-    let named : list_any (λ p. same_text p.name bytes) (properties_of c.args.model.now c.args.t) ≡ true = sym (c.is_some.ensures ∙ ap is_some c.prop_named.ensures.value ∙ ap (λ n. is_some (found_part c.args.t (property_named c.args.model.now c.args.t n))) c.as_str.ensures.value ∙ prop_is_named c.args.model.now c.args.t bytes) ∙ c.if-is_some.true in
-    c.if-is_some.true ∙ sym (or_right (is_annotation bytes) (list_any (λ p. same_text p.name bytes) (properties_of c.args.model.now c.args.t)) named)
+    record {
+      value = let bytes = string_bytes c.args.name.now in
+          let named : list_any (λ p. same_text p.name bytes) (properties_of c.args.model.now c.args.t) ≡ true = sym (c.is_some.ensures ∙ ap is_some c.prop_named.ensures.value ∙ ap (λ n. is_some (found_part c.args.t (property_named c.args.model.now c.args.t n))) c.as_str.ensures.value ∙ prop_is_named c.args.model.now c.args.t bytes) ∙ c.if-is_some.true in
+          c.if-is_some.true ∙ sym (or_right (is_annotation bytes) (list_any (λ p. same_text p.name bytes) (properties_of c.args.model.now c.args.t)) named);
+    }
 
 pub returns-else-is_some : goal.returns-else-is_some
 returns-else-is_some c =
-    let bytes = string_bytes c.args.name.now in
-    let named : list_any (λ p. same_text p.name bytes) (properties_of c.args.model.now c.args.t) ≡ false = sym (c.is_some.ensures ∙ ap is_some c.prop_named.ensures.value ∙ ap (λ n. is_some (found_part c.args.t (property_named c.args.model.now c.args.t n))) c.as_str.ensures.value ∙ prop_is_named c.args.model.now c.args.t bytes) ∙ c.if-is_some.false in
-    c.is_annotation.ensures ∙ ap is_annotation c.as_str-else-is_some.ensures.value ∙ sym (or_none (is_annotation bytes) (list_any (λ p. same_text p.name bytes) (properties_of c.args.model.now c.args.t)) named)
+    record {
+      value = let bytes = string_bytes c.args.name.now in
+          let named : list_any (λ p. same_text p.name bytes) (properties_of c.args.model.now c.args.t) ≡ false = sym (c.is_some.ensures ∙ ap is_some c.prop_named.ensures.value ∙ ap (λ n. is_some (found_part c.args.t (property_named c.args.model.now c.args.t n))) c.as_str.ensures.value ∙ prop_is_named c.args.model.now c.args.t bytes) ∙ c.if-is_some.false in
+          c.is_annotation.ensures.value ∙ ap is_annotation c.as_str-else-is_some.ensures.value ∙ sym (or_none (is_annotation bytes) (list_any (λ p. same_text p.name bytes) (properties_of c.args.model.now c.args.t)) named);
+    }

@@ -9,12 +9,16 @@ use Rattle.edm_data.proofs.entities.set_items.Goals as goal
 
 pub returns-in-Some-as_array : goal.returns-in-Some-as_array
 returns-in-Some-as_array c =
-    let found : get (set_name c.args.model.now c.args.s) (view c.args.root.now) ≡ Some (view c.in-Some.value.now) = ap (λ n. get n (view c.args.root.now)) (sym c.set_name.ensures) ∙ sym c.get.ensures ∙ ap (option_map (λ v. view v.now)) c.in-Some.is in
-    let items : as_array (view c.in-Some.value.now) ≡ Some (items_view c.in-Some-as_array.items.now.items) = sym c.as_array.ensures ∙ ap (option_map (λ v. items_view v.now.items)) c.in-Some-as_array.is in
-    array_of_set c.args.model.now c.args.s (view c.args.root.now) (view c.in-Some.value.now) (map view c.as_slice.result.now) c.requires found (items_are (view c.in-Some.value.now) (map view c.in-Some-as_array.items.now.items) items ∙ ap (map view) (sym c.as_slice.ensures.value))
+    record {
+      value = let found : get (set_name c.args.model.now c.args.s) (view c.args.root.now) ≡ Some (view c.in-Some.value.now) = ap (λ n. get n (view c.args.root.now)) (sym c.set_name.ensures.value) ∙ sym c.get.ensures ∙ ap (option_map (λ v. view v.now)) c.in-Some.is in
+          let items : as_array (view c.in-Some.value.now) ≡ Some (items_view c.in-Some-as_array.items.now.items) = sym c.as_array.ensures ∙ ap (option_map (λ v. items_view v.now.items)) c.in-Some-as_array.is in
+          array_of_set c.args.model.now c.args.s (view c.args.root.now) (view c.in-Some.value.now) (map view c.as_slice.result.now) c.requires found (items_are (view c.in-Some.value.now) (map view c.in-Some-as_array.items.now.items) items ∙ ap (map view) (sym c.as_slice.ensures.value));
+    }
 
 pub returns-in-None : goal.returns-in-None
 returns-in-None c =
-    let found : get (set_name c.args.model.now c.args.s) (view c.args.root.now) ≡ Some (view c.in-Some.value.now) = ap (λ n. get n (view c.args.root.now)) (sym c.set_name.ensures) ∙ sym c.get.ensures ∙ ap (option_map (λ v. view v.now)) c.in-Some.is in
-    let items : as_array (view c.in-Some.value.now) ≡ None = sym c.as_array.ensures ∙ ap (option_map (λ v. items_view v.now.items)) c.in-None.is in
-    array_of_set c.args.model.now c.args.s (view c.args.root.now) (view c.in-Some.value.now) [] c.requires found (no_items (view c.in-Some.value.now) items)
+    record {
+      value = let found : get (set_name c.args.model.now c.args.s) (view c.args.root.now) ≡ Some (view c.in-Some.value.now) = ap (λ n. get n (view c.args.root.now)) (sym c.set_name.ensures.value) ∙ sym c.get.ensures ∙ ap (option_map (λ v. view v.now)) c.in-Some.is in
+          let items : as_array (view c.in-Some.value.now) ≡ None = sym c.as_array.ensures ∙ ap (option_map (λ v. items_view v.now.items)) c.in-None.is in
+          array_of_set c.args.model.now c.args.s (view c.args.root.now) (view c.in-Some.value.now) [] c.requires found (no_items (view c.in-Some.value.now) items);
+    }

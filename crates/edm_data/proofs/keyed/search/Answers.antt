@@ -18,14 +18,14 @@ pub returns-in-Equal : goal.returns-in-Equal
 returns-in-Equal c =
     let middle = c.loop-low.low + (c.loop-low.high - c.loop-low.low) / 2 in
     let v = seen_value c.args.key in
-    let equal = met c.args.tables.now c.args.s c.key_place-place.result (get_or c.args.places.now middle 0) _ v _ c.key_place-place.ensures c.value-value.ensures c.in-Equal.ensures in
+    let equal = met c.args.tables.now c.args.s c.key_place-place.result (get_or c.args.places.now middle 0) _ v _ c.key_place-place.ensures c.value-value.ensures c.in-Equal.ensures.value in
     sym (searched-found value_cmp_total Value.Null (keys_of c.args.tables.now c.args.s) c.args.places.now c.requires.order v middle (omega (arith, c.loop-low.invariant.within)) equal)
 
 pub loop-low-preserved-in-Less : goal.loop-low-preserved-in-Less
 loop-low-preserved-in-Less c =
     let middle = c.loop-low.low + (c.loop-low.high - c.loop-low.low) / 2 in
     let v = seen_value c.args.key in
-    let less = met c.args.tables.now c.args.s c.key_place-place.result (get_or c.args.places.now middle 0) _ v _ c.key_place-place.ensures c.value-value.ensures c.in-Less.ensures in
+    let less = met c.args.tables.now c.args.s c.key_place-place.result (get_or c.args.places.now middle 0) _ v _ c.key_place-place.ensures c.value-value.ensures c.in-Less.ensures.value in
     record {
       ordered = omega arith;
       within = c.loop-low.invariant.within;
@@ -36,7 +36,7 @@ pub loop-low-preserved : goal.loop-low-preserved
 loop-low-preserved c =
     let middle = c.loop-low.low + (c.loop-low.high - c.loop-low.low) / 2 in
     let v = seen_value c.args.key in
-    let greater = met c.args.tables.now c.args.s c.key_place-place.result (get_or c.args.places.now middle 0) _ v _ c.key_place-place.ensures c.value-value.ensures c.in-Greater.ensures in
+    let greater = met c.args.tables.now c.args.s c.key_place-place.result (get_or c.args.places.now middle 0) _ v _ c.key_place-place.ensures c.value-value.ensures c.in-Greater.ensures.value in
     record {
       ordered = omega arith;
       within = omega (arith, c.loop-low.invariant.within);

@@ -15,7 +15,7 @@ returns-clause-ok c =
     let m = c.args.model.now in
     let d = view c.args.root.now in
     let f = entity_of (properties_of m c.set_type.result) in
-    let table = table_of_set m d c.args.s c.set_type.result (map view c.set_items-items.result.now) c.requires.there c.set_items-items.ensures c.set_type.ensures.value ∙ ap Some (map-map f view c.set_items-items.result.now) in
+    let table = table_of_set m d c.args.s c.set_type.result (map view c.set_items-items.result.now) c.requires.there c.set_items-items.ensures.value c.set_type.ensures.value ∙ ap Some (map-map f view c.set_items-items.result.now) in
     IfOk-then c.set_rows.result (λ rows. rows_read rows ≡ map (λ x. f (view x)) c.set_items-items.result.now) (λ rows. option_map (items_of_set m d) (slice_get m.sets c.args.s) ≡ Some (rows_read rows)) (λ rows is. table ∙ ap Some (sym is)) c.set_rows.ensures.ok
 
 pub returns-clause-shape : goal.returns-clause-shape
@@ -23,5 +23,5 @@ returns-clause-shape c = λ k is.
     let m = c.args.model.now in
     let d = view c.args.root.now in
     let f = entity_of (properties_of m c.set_type.result) in
-    let table = table_of_set m d c.args.s c.set_type.result (map view c.set_items-items.result.now) c.requires.there c.set_items-items.ensures c.set_type.ensures.value ∙ ap Some (map-map f view c.set_items-items.result.now) in
+    let table = table_of_set m d c.args.s c.set_type.result (map view c.set_items-items.result.now) c.requires.there c.set_items-items.ensures.value c.set_type.ensures.value ∙ ap Some (map-map f view c.set_items-items.result.now) in
     subst (λ o. IfSome o (λ os. IsFirstNone os k)) (sym table) (c.set_rows.ensures.shape k is)

@@ -12,5 +12,5 @@ returns-else-is_annotation c =
     let name = c.args.name.now in
     let rest = drop (length c.args.term.now) name in
     let found = some_chosen (starts_with nat_eq name c.args.term.now) c.in-Some.qualifier.now rest c.in-Some.ensures in
-    let plain : is_annotation rest ≡ false = ap is_annotation (sym found.1) ∙ (sym c.is_annotation.ensures ∙ c.if-is_annotation.false) in
+    let plain : is_annotation rest ≡ false = ap is_annotation (sym found.1) ∙ (sym c.is_annotation.ensures.value ∙ c.if-is_annotation.false) in
     rw (found.0, plain) (ap Some found.1)

@@ -5,4 +5,4 @@ use Rattle.edm_values.specs.Names.{is_name}
 use Rattle.edm_schema.proofs.rules.are_names.Goals as goal
 
 pub returns : goal.returns
-returns c = all_from_yields_List is_name _ _ _ c.all.ensures.ran (YieldsList-from_str_split 46 c.args.text.now (lit< tt) c.split.ensures.text c.split.ensures.has_more c.split.ensures.pattern) (λ x b q k. search rules)
+returns c = record { value = all_from_yields_List is_name _ _ _ c.all.ensures.ran (YieldsList-from_str_split 46 c.args.text.now (lit< tt) c.split.ensures.text c.split.ensures.has_more c.split.ensures.pattern) (λ x b q k. search rules) }

@@ -20,4 +20,4 @@ returns c =
     let holds : c.are_entity_sets.result ≡ true = search rules in
     let all : list_all (λ m. is_entity_set d m.1) (set_members d) ≡ true = sym c.are_entity_sets.ensures ∙ holds in
     let counts = rw c.deref.ensures.value at c.are_ones.ensures in
-    rw all (counts ∙ (ap (list_all (λ count. count == 1)) c.in_ok-counts.ensures ∙ list_all-map (λ count. count == 1) (λ k. count_by (λ m. leads_to d k m.1) (set_members d)) (places (length (type_members d)))))
+    rw all (counts ∙ (ap (list_all (λ count. count == 1)) c.in_ok-counts.ensures.value ∙ list_all-map (λ count. count == 1) (λ k. count_by (λ m. leads_to d k m.1) (set_members d)) (places (length (type_members d)))))

@@ -34,11 +34,13 @@ loop-member-preserved c =
 
 pub returns : goal.returns
 returns c =
-    let d = root_of c.args.schema.now in
-    let sets = c.args.schema.now.sets.items in
-    let is_for = λ (k : ℕ) (m : tree.Member). leads_to d k m.1 in
-    let all : take c.loop-member.member-index sets ≡ sets = take_all c.loop-member.member-index sets (omega (arith, c.deref-member-items.ensures.len, ap length c.deref-member-items.ensures.value)) in
-    listed_at (λ k. count_by (is_for k) (set_members d)) (length (type_members d)) c.loop-member.counts.items c.loop-member.invariant.size (λ k below.
-    c.loop-member.invariant.counted k below
-    ∙ (ap (count_by (λ (m : Member). is_for k (member_seen m))) all
-    ∙ (sym (count_by-map (is_for k) member_seen sets) ∙ ap (count_by (is_for k)) c.requires.sets)))
+    record {
+      value = let d = root_of c.args.schema.now in
+          let sets = c.args.schema.now.sets.items in
+          let is_for = λ (k : ℕ) (m : tree.Member). leads_to d k m.1 in
+          let all : take c.loop-member.member-index sets ≡ sets = take_all c.loop-member.member-index sets (omega (arith, c.deref-member-items.ensures.len, ap length c.deref-member-items.ensures.value)) in
+          listed_at (λ k. count_by (is_for k) (set_members d)) (length (type_members d)) c.loop-member.counts.items c.loop-member.invariant.size (λ k below.
+          c.loop-member.invariant.counted k below
+          ∙ (ap (count_by (λ (m : Member). is_for k (member_seen m))) all
+          ∙ (sym (count_by-map (is_for k) member_seen sets) ∙ ap (count_by (is_for k)) c.requires.sets)));
+    }

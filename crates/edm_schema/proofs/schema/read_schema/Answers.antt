@@ -4,7 +4,7 @@ use Rattle.edm_schema.proofs.schema.read_schema.Goals as goal
 pub returns-clause-parts : goal.returns-clause-parts
 returns-clause-parts c =
     schema_parts _ c.in_ok-read.read.items c.in_ok-typed.typed.items
-    c.namespace-namespace.ensures
+    c.namespace-namespace.ensures.value
     c.in_ok-members.ensures.members
     c.in_ok-members.ensures.ordered
     (rw c.deref.ensures.value at c.in_ok-read.ensures)

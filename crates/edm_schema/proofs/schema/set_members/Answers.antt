@@ -14,7 +14,7 @@ pub returns-in_ok-read-in-Some-clause-members : goal.returns-in_ok-read-in-Some-
 returns-in_ok-read-in-Some-clause-members c =
     let members = c.in_ok-members-in-Some in
     let read = c.in_ok-read-in-Some in
-    IfOk-weaker c.besides_kind.result _ _ (λ v h. set_parts _ (member_seen c.in-Some.container) members.members.items read.read.items v.items c.in-Some.ensures members.ensures (rw c.deref.ensures.value at read.ensures) (rw c.deref-in-Some.ensures.value at h)) c.besides_kind.ensures
+    IfOk-weaker c.besides_kind.result _ _ (λ v h. set_parts _ (member_seen c.in-Some.container) members.members.items read.read.items v.items c.in-Some.ensures.value members.ensures (rw c.deref.ensures.value at read.ensures) (rw c.deref-in-Some.ensures.value at h)) c.besides_kind.ensures
 
 pub returns-in-None-clause-ordered : goal.returns-in-None-clause-ordered
-returns-in-None-clause-ordered c = subst (λ (o : Option tree.Member). AreOrdered (map (λ m. m.0) (members_in (unwrap_or (option_map (λ m. m.1) o) null)))) c.in-None.ensures none_ordered
+returns-in-None-clause-ordered c = subst (λ (o : Option tree.Member). AreOrdered (map (λ m. m.0) (members_in (unwrap_or (option_map (λ m. m.1) o) null)))) c.in-None.ensures.value none_ordered

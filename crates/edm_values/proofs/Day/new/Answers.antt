@@ -7,13 +7,17 @@ use Rattle.edm_values.proofs.Day.new.Goals as goal
 
 pub returns-in-Ok : goal.returns-in-Ok
 returns-in-Ok c =
-    let e : pos (nat_abs (to_z w32 (of_z w32 c.args.year))) ≡ c.args.year = omega (arith, ints) in
-    day_from_parts _ c.args.year c.args.month c.args.day e refl refl
+    record {
+      value = let e : pos (nat_abs (to_z w32 (of_z w32 c.args.year))) ≡ c.args.year = omega (arith, ints) in
+          day_from_parts _ c.args.year c.args.month c.args.day e refl refl;
+    }
 
 pub returns-in-Err : goal.returns-in-Err
 returns-in-Err c =
-    no_day c.args.year c.args.month c.args.day (λ h.
-    let y : c.args.year ≡ to_z w16 (of_z w16 (to_z w32 (of_z w32 c.args.year))) = omega (arith, ints) in
-    let m : pos c.args.month ≡ to_z w8 c.args.month = omega (arith, ints) in
-    let d : pos c.args.day ≡ to_z w8 c.args.day = omega (arith, ints) in
-    false≢true (c.in-Err.ensures.succeeds.1 (IsDate_along y m d h)))
+    record {
+      value = no_day c.args.year c.args.month c.args.day (λ h.
+          let y : c.args.year ≡ to_z w16 (of_z w16 (to_z w32 (of_z w32 c.args.year))) = omega (arith, ints) in
+          let m : pos c.args.month ≡ to_z w8 c.args.month = omega (arith, ints) in
+          let d : pos c.args.day ≡ to_z w8 c.args.day = omega (arith, ints) in
+          false≢true (c.in-Err.ensures.succeeds.1 (IsDate_along y m d h)));
+    }

@@ -5,4 +5,4 @@ use Rattle.edm_values.proofs.MadeValues.{decimal_from_parts}
 use Rattle.edm_values.proofs.Dec.new.Goals as goal
 
 pub returns : goal.returns
-returns c = decimal_from_parts _ _ _ (to_z-of_z _ _ c.ranges.m) refl
+returns c = record { value = decimal_from_parts _ _ _ (to_z-of_z _ _ c.ranges.m) refl }

@@ -7,7 +7,7 @@ pub returns-then-n-navs-clause-of : goal.returns-then-n-navs-clause-of
 returns-then-n-navs-clause-of c =
     let m = c.args.model.now in
     let type : IsType m (set_type m c.args.s) = rw c.set_type.ensures.value at c.set_type.ensures.there in
-    let are : c.navs-navs.result.now ≡ parts (set_type m c.args.s) (length (navigations_of m (set_type m c.args.s))) = rw c.set_type.ensures.value at c.navs-navs.ensures in
+    let are : c.navs-navs.result.now ≡ parts (set_type m c.args.s) (length (navigations_of m (set_type m c.args.s))) = rw c.set_type.ensures.value at c.navs-navs.ensures.value in
     let within : c.args.n < length c.navs-navs.result.now = omega arith in
     (nav_item m c.args.s c.navs-navs.result.now c.args.n c.index-navs-n.result type are within c.index-navs-n.is).of
 
@@ -15,6 +15,6 @@ pub returns-then-n-navs-clause-there : goal.returns-then-n-navs-clause-there
 returns-then-n-navs-clause-there c =
     let m = c.args.model.now in
     let type : IsType m (set_type m c.args.s) = rw c.set_type.ensures.value at c.set_type.ensures.there in
-    let are : c.navs-navs.result.now ≡ parts (set_type m c.args.s) (length (navigations_of m (set_type m c.args.s))) = rw c.set_type.ensures.value at c.navs-navs.ensures in
+    let are : c.navs-navs.result.now ≡ parts (set_type m c.args.s) (length (navigations_of m (set_type m c.args.s))) = rw c.set_type.ensures.value at c.navs-navs.ensures.value in
     let within : c.args.n < length c.navs-navs.result.now = omega arith in
     (nav_item m c.args.s c.navs-navs.result.now c.args.n c.index-navs-n.result type are within c.index-navs-n.is).there

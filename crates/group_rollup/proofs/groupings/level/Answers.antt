@@ -36,4 +36,4 @@ returns g c =
     let finer = subst P (sym c.index-found-last.is) (level-before c.args.front c.args.width ks c.args.found.now c.requires.within c.requires.found (length c.args.found.now - 1) (omega arith) c.index-found-last.result) in
     IfOk-weaker c.by_front.result _ (λ found. found ≡ key_groups (map (take c.args.front) ks))
     (λ found h. h (map (take finer.0) ks) (finer-groups c.args.front c.args.width c.args.lists.now c.index-found-last.result finer) ∙ ap key_groups (taken-twice c.args.front finer.0 ks finer.1))
-    c.by_front.ensures
+    c.by_front.ensures.value

@@ -25,7 +25,7 @@ returns-then-up-clause-value c f N =
     climb-gives c.args.store.now c.args.up f c.args.path.now c.args.distance c.args.keep c.args.starts.now c.args.rows.now c.args.nodes.set c.args.nodes.index.now
     c.deref-then-up.result.now c.deref.result.now c.deref-then-up-2.result.now c.in_ok-ancestors.field-0.items N (c.deref-then-up.ensures.value ∙ c.in_ok-own.ensures.nodes.0) c.in_ok-own.ensures.nodes.1
     (c.deref.ensures.value ∙ c.in_ok-starting.ensures.nodes.0) c.in_ok-starting.ensures.nodes.1 (c.deref-then-up-2.ensures.value ∙ c.in_ok-from.ensures)
-    (c.in_ok-ancestors.ensures
+    (c.in_ok-ancestors.ensures.value
     ∙ ap (λ b. (if b then ancestor_rows else descendant_rows) c.args.nodes.index.now c.args.distance c.args.keep c.deref-then-up-2.result.now c.deref-then-up.result.now) (sym c.if-up.true))
 
 pub descendants-requires-clause-nodes : goal.descendants-requires-clause-nodes
@@ -46,5 +46,5 @@ returns-clause-value c f N =
     climb-gives c.args.store.now c.args.up f c.args.path.now c.args.distance c.args.keep c.args.starts.now c.args.rows.now c.args.nodes.set c.args.nodes.index.now
     c.deref-else-up.result.now c.deref.result.now c.deref-else-up-2.result.now c.in_ok-descendants.field-0.items N (c.deref-else-up.ensures.value ∙ c.in_ok-own.ensures.nodes.0) c.in_ok-own.ensures.nodes.1
     (c.deref.ensures.value ∙ c.in_ok-starting.ensures.nodes.0) c.in_ok-starting.ensures.nodes.1 (c.deref-else-up-2.ensures.value ∙ c.in_ok-from.ensures)
-    (c.in_ok-descendants.ensures
+    (c.in_ok-descendants.ensures.value
     ∙ ap (λ b. (if b then ancestor_rows else descendant_rows) c.args.nodes.index.now c.args.distance c.args.keep c.deref-else-up-2.result.now c.deref-else-up.result.now) (sym c.if-up.false))

@@ -22,12 +22,12 @@ pub returns-clause-value : goal.returns-clause-value
 returns-clause-value g c f N =
     traverse-gives c.args.store.now f (traverse_of c.args.walk.now) c.args.rows.now c.args.nodes.set c.args.nodes.index.now c.deref.result.now c.deref-2.result.now c.in_ok-traverse.field-0.items N
     (c.deref.ensures.value ∙ c.in_ok-own.ensures.nodes.0) c.in_ok-own.ensures.nodes.1 (c.in_ok-rank.ensures.ranks ∙ ap (λ z. Some z) (sym c.deref-2.ensures.value))
-    (c.in_ok-traverse.ensures ∙ ap (λ post. traversed_rows post c.args.nodes.index.now c.deref-2.result.now c.deref.result.now) c.walk_order.ensures)
+    (c.in_ok-traverse.ensures.value ∙ ap (λ post. traversed_rows post c.args.nodes.index.now c.deref-2.result.now c.deref.result.now) c.walk_order.ensures)
 
 pub returns-clause-within : goal.returns-clause-within
 returns-clause-within g c =
     let size = ap length (c.deref.ensures.value ∙ c.in_ok-own.ensures.nodes.0) ∙ length-map c.args.rows.now (node_in c.args.store.now c.args.nodes.set c.args.walk.now.path) in
-    ap (list_all (λ k. nat_lt k (length c.args.rows.now))) c.in_ok-traverse.ensures
+    ap (list_all (λ k. nat_lt k (length c.args.rows.now))) c.in_ok-traverse.ensures.value
     ∙ traversed-within (is_postorder c.walk_order.result) c.args.nodes.index.now c.deref-2.result.now c.deref.result.now (length c.args.rows.now) size
 
 pub returns-in_err-rank-clause-value : goal.returns-in_err-rank-clause-value

@@ -13,7 +13,7 @@ returns c = λ taken.
     let s = c.args.set in
     let k = c.args.node in
     let v = seen_value c.args.key in
-    let less : k < count w s = let there = c.if-node-count.false in let number = c.count.ensures in omega (arith, there, number) in
+    let less : k < count w s = let there = c.if-node-count.false in let number = c.count.ensures.value in omega (arith, there, number) in
     let place : c.key_of-place.result.at ≡ key_at w.model s =
     ap (λ p. p.at) c.key_of-place.ensures.value
     ∙ ap (λ t. (key_of c.model-model.result.now t).at) c.set_type.ensures.value
@@ -21,8 +21,8 @@ returns c = λ taken.
     ∙ key_place w.model s c.requires in
     let same : same_value v (key w (entity_at s k)) ≡ true =
     ap (λ p. is_eq (value_cmp v (property w (entity_at s k) p))) (sym place)
-    ∙ ap (λ x. is_eq (value_cmp v x)) (sym c.property.ensures)
-    ∙ ap is_eq (sym c.order.ensures)
+    ∙ ap (λ x. is_eq (value_cmp v x)) (sym c.property.ensures.value)
+    ∙ ap is_eq (sym c.order.ensures.value)
     ∙ sym c.is_eq.ensures
     ∙ taken in
     found-by-key w s k v c.model-model.ensures.distinct less same

@@ -11,8 +11,8 @@ refers-requires c =
     let type = c.set_type.result in
     let items = c.navs-nav-items.result.now in
     let number = length (navigations_of c.model-model.result.now type) in
-    let is = part_is items type number c.loop-nav.nav-index c.nav-item.result c.navs-nav-items.ensures c.loop-nav-test.true c.nav-item.is in
-    let size = part_number items type number c.navs-nav-items.ensures in
+    let is = part_is items type number c.loop-nav.nav-index c.nav-item.result c.navs-nav-items.ensures.value c.loop-nav-test.true c.nav-item.is in
+    let size = part_number items type number c.navs-nav-items.ensures.value in
     rw is (c.set_type.ensures.there, rw size at c.loop-nav-test.true)
 
 pub loop-nav-preserved : goal.loop-nav-preserved

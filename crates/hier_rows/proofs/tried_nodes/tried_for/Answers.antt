@@ -14,6 +14,6 @@ tried_at-requires c =
     let row = c.in-Some.row.now in
     let first : slice_get c.args.rows.now 0 ≡ Some row = sym c.first.ensures.value ∙ ap option_copied c.in-Some.is in
     let of : is_of w row ≡ true = all-at (is_of w) c.args.rows.now 0 row c.requires first in
-    let root : root_of row ≡ Some c.in-Some-root.e = sym c.root.ensures ∙ c.in-Some-root.is in
+    let root : root_of row ≡ Some c.in-Some-root.e = sym c.root.ensures.value ∙ c.in-Some-root.is in
     let there : IsSet w.model c.in-Some-root.e.set = subst (λ o. IfSome o (λ e. IsSet w.model e.set)) root (root-is_of w row of) in
     subst (λ e. IsSet w.model e.set) (sym c.e.view_is) there

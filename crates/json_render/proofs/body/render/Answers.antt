@@ -9,4 +9,4 @@ returns-clause-ok c =
     let w = c.args.store.now in
     let s = c.args.shape.now in
     body-made w (set_name w.model c.args.set) s c.args.rows.now c.as_str.result.now c.extend_from_slice.new.self.items c.push_text.new.out.items c.extend_from_slice-2.new.self.items c.push_rows.new.body.items c.extend_from_slice-3.new.self.items
-    (c.in_ok-extend_from_slice.ensures.items ∙ ap (λ xs. xs ++ codes "{\"@context\":") c.new-body.ensures.items) c.in_ok-push_text.ensures (c.as_str.ensures.value ∙ c.in_ok-context.ensures ∙ ap (λ n. context n s) (c.set_name.ensures ∙ ap (λ m. set_name m c.args.set) c.model.ensures.value)) c.in_ok-extend_from_slice-2.ensures.items c.in_ok-push_rows.ensures.ok c.in_ok-extend_from_slice-3.ensures.items c.in_ok-push_rows.ensures.in_range
+    (c.in_ok-extend_from_slice.ensures.items ∙ ap (λ xs. xs ++ codes "{\"@context\":") c.new-body.ensures.items) c.in_ok-push_text.ensures (c.as_str.ensures.value ∙ c.in_ok-context.ensures ∙ ap (λ n. context n s) (c.set_name.ensures.value ∙ ap (λ m. set_name m c.args.set) c.model.ensures.value)) c.in_ok-extend_from_slice-2.ensures.items c.in_ok-push_rows.ensures.ok c.in_ok-extend_from_slice-3.ensures.items c.in_ok-push_rows.ensures.in_range

@@ -6,5 +6,5 @@ use Rattle.json_render.proofs.templates.bound_at.Goals as goal
 
 pub returns-in-Some : goal.returns-in-Some
 returns-in-Some c =
-    bound-root c.args.row.now (root_of c.args.row.now) c.prefixes-prefixes.result.now c.in-Some.root c.prefixes-prefixes.ensures.prefixes (sym c.root.ensures ∙ c.in-Some.is)
+    bound-root c.args.row.now (root_of c.args.row.now) c.prefixes-prefixes.result.now c.in-Some.root c.prefixes-prefixes.ensures.prefixes (sym c.root.ensures.value ∙ c.in-Some.is)
     ∙ ap (bound_at c.args.row.now) (sym c.if-k-eq0.true)

@@ -25,10 +25,10 @@ returns-then-not-are_of_one_kind-clause-first c =
     let text : c.is_text.result ≡ true = search rules in
     let fails : c.are_of_one_kind.result ≡ false = search rules in
     let from : is_some (property_kind t c.in-Some.constraint.name.now) ≡ true = search rules in
-    let to = c.property_kind-to.ensures ∙ ap (property_kind target) c.requires.target.key in
-    let kinds = c.are_of_one_kind.ensures ∙ (ap (λ a. are_of_one_kind a c.property_kind-to.result) c.property_kind-from.ensures ∙ ap (are_of_one_kind (property_kind t c.in-Some.constraint.name.now)) to) in
-    let key : is_text (key_name target) (view c.in-Some.constraint.value.now) ≡ true = ap (λ k. is_text k (view c.in-Some.constraint.value.now)) (sym c.requires.target.key) ∙ (sym c.is_text.ensures ∙ text) in
-    sym (kinds_left t target (view c.args.navigation.now) _ (sym c.is_object_at.ensures ∙ object) c.in-Some.ensures.value from key ∙ ap (λ b. cond (not b) (Some ReferenceTest.Kind) None) (sym kinds ∙ fails))
+    let to = c.property_kind-to.ensures.value ∙ ap (property_kind target) c.requires.target.key in
+    let kinds = c.are_of_one_kind.ensures.value ∙ (ap (λ a. are_of_one_kind a c.property_kind-to.result) c.property_kind-from.ensures.value ∙ ap (are_of_one_kind (property_kind t c.in-Some.constraint.name.now)) to) in
+    let key : is_text (key_name target) (view c.in-Some.constraint.value.now) ≡ true = ap (λ k. is_text k (view c.in-Some.constraint.value.now)) (sym c.requires.target.key) ∙ (sym c.is_text.ensures.value ∙ text) in
+    sym (kinds_left t target (view c.args.navigation.now) _ (sym c.is_object_at.ensures.value ∙ object) c.in-Some.ensures.value from key ∙ ap (λ b. cond (not b) (Some ReferenceTest.Kind) None) (sym kinds ∙ fails))
 
 pub returns-clause-first : goal.returns-clause-first
 returns-clause-first c =
@@ -38,10 +38,10 @@ returns-clause-first c =
     let text : c.is_text.result ≡ true = search rules in
     let holds : c.are_of_one_kind.result ≡ true = search rules in
     let from : is_some (property_kind t c.in-Some.constraint.name.now) ≡ true = search rules in
-    let to = c.property_kind-to.ensures ∙ ap (property_kind target) c.requires.target.key in
-    let kinds = c.are_of_one_kind.ensures ∙ (ap (λ a. are_of_one_kind a c.property_kind-to.result) c.property_kind-from.ensures ∙ ap (are_of_one_kind (property_kind t c.in-Some.constraint.name.now)) to) in
-    let key : is_text (key_name target) (view c.in-Some.constraint.value.now) ≡ true = ap (λ k. is_text k (view c.in-Some.constraint.value.now)) (sym c.requires.target.key) ∙ (sym c.is_text.ensures ∙ text) in
-    sym (kinds_left t target (view c.args.navigation.now) _ (sym c.is_object_at.ensures ∙ object) c.in-Some.ensures.value from key ∙ ap (λ b. cond (not b) (Some ReferenceTest.Kind) None) (sym kinds ∙ holds))
+    let to = c.property_kind-to.ensures.value ∙ ap (property_kind target) c.requires.target.key in
+    let kinds = c.are_of_one_kind.ensures.value ∙ (ap (λ a. are_of_one_kind a c.property_kind-to.result) c.property_kind-from.ensures.value ∙ ap (are_of_one_kind (property_kind t c.in-Some.constraint.name.now)) to) in
+    let key : is_text (key_name target) (view c.in-Some.constraint.value.now) ≡ true = ap (λ k. is_text k (view c.in-Some.constraint.value.now)) (sym c.requires.target.key) ∙ (sym c.is_text.ensures.value ∙ text) in
+    sym (kinds_left t target (view c.args.navigation.now) _ (sym c.is_object_at.ensures.value ∙ object) c.in-Some.ensures.value from key ∙ ap (λ b. cond (not b) (Some ReferenceTest.Kind) None) (sym kinds ∙ holds))
 
 pub returns-clause-none : goal.returns-clause-none
 returns-clause-none c =
@@ -50,8 +50,8 @@ returns-clause-none c =
     let object : c.is_object_at.result ≡ true = search rules in
     let text : c.is_text.result ≡ true = search rules in
     let holds : c.are_of_one_kind.result ≡ true = search rules in
-    let to = c.property_kind-to.ensures ∙ ap (property_kind target) c.requires.target.key in
-    let kinds = c.are_of_one_kind.ensures ∙ (ap (λ a. are_of_one_kind a c.property_kind-to.result) c.property_kind-from.ensures ∙ ap (are_of_one_kind (property_kind t c.in-Some.constraint.name.now)) to) in
-    let key : is_text (key_name target) (view c.in-Some.constraint.value.now) ≡ true = ap (λ k. is_text k (view c.in-Some.constraint.value.now)) (sym c.requires.target.key) ∙ (sym c.is_text.ensures ∙ text) in
-    and_from _ _ (sym c.is_object_at.ensures ∙ object)
+    let to = c.property_kind-to.ensures.value ∙ ap (property_kind target) c.requires.target.key in
+    let kinds = c.are_of_one_kind.ensures.value ∙ (ap (λ a. are_of_one_kind a c.property_kind-to.result) c.property_kind-from.ensures.value ∙ ap (are_of_one_kind (property_kind t c.in-Some.constraint.name.now)) to) in
+    let key : is_text (key_name target) (view c.in-Some.constraint.value.now) ≡ true = ap (λ k. is_text k (view c.in-Some.constraint.value.now)) (sym c.requires.target.key) ∙ (sym c.is_text.ensures.value ∙ text) in
+    and_from _ _ (sym c.is_object_at.ensures.value ∙ object)
     (subst (λ (o : Option Member). is_some_and (λ m. is_text (key_name target) m.1 && are_of_one_kind (property_kind t m.0) (property_kind target (key_name target))) o ≡ true) c.in-Some.ensures.value (and_from _ _ key (sym kinds ∙ holds)))

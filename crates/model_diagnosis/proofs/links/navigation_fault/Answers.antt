@@ -44,7 +44,7 @@ returns-then-lacks-clause-found c =
     let t = tree_of c.args.t.now in
     let n = view c.args.member.value.now in
     let is = tree_at s c.requires.schema place c.index-target.result.now c.index-target.ensures within in
-    let one : lacks (codes "$Collection") n ≡ true = sym c.lacks.ensures ∙ c.if-lacks.true in
+    let one : lacks (codes "$Collection") n ≡ true = sym c.lacks.ensures.value ∙ c.if-lacks.true in
     (member_seen c.args.member, c.requires.among, refl, reference_fails (root_of s) t (tree_of c.index-target.result.now) n place c.in_ok-test.test c.in-Some-type_place.ensures.value is one c.in_ok-test.ensures.first)
 
 pub returns-in_err-test-clause-none : goal.returns-in_err-test-clause-none
@@ -55,7 +55,7 @@ returns-in_err-test-clause-none c =
     let t = tree_of c.args.t.now in
     let n = view c.args.member.value.now in
     let is = tree_at s c.requires.schema place c.index-target.result.now c.index-target.ensures within in
-    let one : lacks (codes "$Collection") n ≡ true = sym c.lacks.ensures ∙ c.if-lacks.true in
+    let one : lacks (codes "$Collection") n ≡ true = sym c.lacks.ensures.value ∙ c.if-lacks.true in
     let kind : is_navigation n ≡ true = and-right _ _ (kept_passes (λ (m : tree.Member). is_own m.0 && is_navigation m.1) (members_in t) (member_seen c.args.member) c.requires.among) in
     let names : has_only reference_names n ≡ true = ap (λ b. has_only (if b then reference_names else collection_names) n) (sym one) ∙ c.in_default.ensures.none in
     subst (λ (o : Option TypeFault). IfNone o (is_navigable (root_of s) c.args.k t n ≡ true)) (sym c.from_residual.ensures)
@@ -69,7 +69,7 @@ returns-clause-found c =
     let t = tree_of c.args.t.now in
     let n = view c.args.member.value.now in
     let is = tree_at s c.requires.schema place c.index-target.result.now c.index-target.ensures within in
-    let many : lacks (codes "$Collection") n ≡ false = sym c.lacks.ensures ∙ c.if-lacks.false in
+    let many : lacks (codes "$Collection") n ≡ false = sym c.lacks.ensures.value ∙ c.if-lacks.false in
     (member_seen c.args.member, c.requires.among, refl, collection_fails (root_of s) c.args.k (tree_of c.index-target.result.now) n place c.in_ok-test-2.test c.in-Some-type_place.ensures.value is many c.in_ok-test-2.ensures.first)
 
 pub returns-in_err-test-2-clause-none : goal.returns-in_err-test-2-clause-none
@@ -80,7 +80,7 @@ returns-in_err-test-2-clause-none c =
     let t = tree_of c.args.t.now in
     let n = view c.args.member.value.now in
     let is = tree_at s c.requires.schema place c.index-target.result.now c.index-target.ensures within in
-    let many : lacks (codes "$Collection") n ≡ false = sym c.lacks.ensures ∙ c.if-lacks.false in
+    let many : lacks (codes "$Collection") n ≡ false = sym c.lacks.ensures.value ∙ c.if-lacks.false in
     let kind : is_navigation n ≡ true = and-right _ _ (kept_passes (λ (m : tree.Member). is_own m.0 && is_navigation m.1) (members_in t) (member_seen c.args.member) c.requires.among) in
     let names : has_only collection_names n ≡ true = ap (λ b. has_only (if b then reference_names else collection_names) n) (sym many) ∙ c.in_default.ensures.none in
     subst (λ (o : Option TypeFault). IfNone o (is_navigable (root_of s) c.args.k t n ≡ true)) (sym c.from_residual-in_err-test-2.ensures)

@@ -12,13 +12,13 @@ pub returns-then-not-has_simple_name-clause-found : goal.returns-then-not-has_si
 returns-then-not-has_simple_name-clause-found c =
     let items = c.deref-member-items.ensures.value in
     let fails : c.has_simple_name.result ≡ false = c.if-not-has_simple_name.true in
-    λ d k. some_seen member_seen _ c.args.t.now.members.items _ c.loop-member.member-index c.member-item.result c.requires.members (rw items at c.loop-member-test.true) (rw items at c.member-item.is) (ap not (sym c.has_simple_name.ensures ∙ fails))
+    λ d k. some_seen member_seen _ c.args.t.now.members.items _ c.loop-member.member-index c.member-item.result c.requires.members (rw items at c.loop-member-test.true) (rw items at c.member-item.is) (ap not (sym c.has_simple_name.ensures.value ∙ fails))
 
 pub loop-member-preserved : goal.loop-member-preserved
 loop-member-preserved c =
     let items = c.deref-member-items.ensures.value in
     let holds : c.has_simple_name.result ≡ true = c.if-not-has_simple_name.false in
-    one_more (λ (m : Member). has_simple_name (member_seen m).0) c.args.t.now.members.items c.loop-member.member-index c.member-item.result (rw items at c.loop-member-test.true) (rw items at c.member-item.is) c.loop-member.invariant (sym c.has_simple_name.ensures ∙ holds)
+    one_more (λ (m : Member). has_simple_name (member_seen m).0) c.args.t.now.members.items c.loop-member.member-index c.member-item.result (rw items at c.loop-member-test.true) (rw items at c.member-item.is) c.loop-member.invariant (sym c.has_simple_name.ensures.value ∙ holds)
 
 pub returns-clause-none : goal.returns-clause-none
 returns-clause-none c =

@@ -10,7 +10,7 @@ use Rattle.model_diagnosis.proofs.names.set_names_fault.Goals as goal
 pub returns-then-not-is_name-clause-found : goal.returns-then-not-is_name-clause-found
 returns-then-not-is_name-clause-found c =
     let items = c.deref-member-items.ensures.value in
-    some_seen member_seen _ c.args.schema.now.sets.items _ c.loop-member.member-index c.member-item.result c.requires.sets (rw items at c.loop-member-test.true) (rw items at c.member-item.is) (ap not (sym c.is_name.ensures ∙ c.if-not-is_name.true))
+    some_seen member_seen _ c.args.schema.now.sets.items _ c.loop-member.member-index c.member-item.result c.requires.sets (rw items at c.loop-member-test.true) (rw items at c.member-item.is) (ap not (sym c.is_name.ensures.value ∙ c.if-not-is_name.true))
 
 pub returns-clause-none : goal.returns-clause-none
 returns-clause-none c =

@@ -10,7 +10,7 @@ use Rattle.model_diagnosis.proofs.names.type_names_fault.Goals as goal
 pub returns-then-not-is_name-clause-found : goal.returns-then-not-is_name-clause-found
 returns-then-not-is_name-clause-found c =
     let items = c.deref-t-items.ensures.value in
-    some_seen type_seen _ c.args.schema.now.types.items _ c.loop-t.t-index c.t-item.result c.requires.types (rw items at c.loop-t-test.true) (rw items at c.t-item.is) (ap not (sym c.is_name.ensures ∙ c.if-not-is_name.true))
+    some_seen type_seen _ c.args.schema.now.types.items _ c.loop-t.t-index c.t-item.result c.requires.types (rw items at c.loop-t-test.true) (rw items at c.t-item.is) (ap not (sym c.is_name.ensures.value ∙ c.if-not-is_name.true))
 
 pub returns-clause-none : goal.returns-clause-none
 returns-clause-none c =

@@ -14,14 +14,14 @@ pub returns-then-not-is_type_member-clause-found : goal.returns-then-not-is_type
 returns-then-not-is_type_member-clause-found c =
     let items = c.deref-member-items.ensures.value in
     let m = c.member-item.result in
-    let fails : (not (is_own m.name.now) || is_property (view m.value.now) || is_navigation (view m.value.now)) ≡ false = sym c.is_type_member.ensures ∙ c.if-not-is_type_member.true in
+    let fails : (not (is_own m.name.now) || is_property (view m.value.now) || is_navigation (view m.value.now)) ≡ false = sym c.is_type_member.ensures.value ∙ c.if-not-is_type_member.true in
     λ d k. some_seen member_seen _ c.args.t.now.own.items _ c.loop-member.member-index m c.requires.own (rw items at c.loop-member-test.true) (rw items at c.member-item.is) (neither_holds _ (is_property (view m.value.now)) (is_navigation (view m.value.now)) fails)
 
 pub loop-member-preserved : goal.loop-member-preserved
 loop-member-preserved c =
     let items = c.deref-member-items.ensures.value in
     let m = c.member-item.result in
-    one_more (λ (n : Member). not (is_own (member_seen n).0) || is_property (member_seen n).1 || is_navigation (member_seen n).1) c.args.t.now.own.items c.loop-member.member-index m (rw items at c.loop-member-test.true) (rw items at c.member-item.is) c.loop-member.invariant (sym c.is_type_member.ensures ∙ c.if-not-is_type_member.false)
+    one_more (λ (n : Member). not (is_own (member_seen n).0) || is_property (member_seen n).1 || is_navigation (member_seen n).1) c.args.t.now.own.items c.loop-member.member-index m (rw items at c.loop-member-test.true) (rw items at c.member-item.is) c.loop-member.invariant (sym c.is_type_member.ensures.value ∙ c.if-not-is_type_member.false)
 
 pub returns-clause-none : goal.returns-clause-none
 returns-clause-none c =

@@ -15,7 +15,7 @@ use Rattle.optimiser.proofs.heads.entry_of.Goals as goal
 pub nodes_entry-requires-clause-typed : goal.nodes_entry-requires-clause-typed
 nodes_entry-requires-clause-typed c =
     group-nodes c.args.m.now (readings c.args.c.now) c.args.shape.now (map key_of c.as_slice.result.now) (inner_of (option_map pipe_of c.in-GroupBy.field-1)) (step_of c.args.step.now)
-    (grouped c.args.step.now c.in-GroupBy.keys c.in-GroupBy.field-1 c.as_slice.result.now c.in-GroupBy.is c.as_slice.ensures) c.requires.typed
+    (grouped c.args.step.now c.in-GroupBy.keys c.in-GroupBy.field-1 c.as_slice.result.now c.in-GroupBy.is c.as_slice.ensures.value) c.requires.typed
 
 pub returns-in-GroupBy-clause-value : goal.returns-in-GroupBy-clause-value
 returns-in-GroupBy-clause-value c =
@@ -24,7 +24,7 @@ returns-in-GroupBy-clause-value c =
     let r = rules_named c.args.rules in
     IfOk-weaker c.nodes_entry.result (λ e. held.enters m e ≡ form.nodes_enter m cs (keys_from (map key_of c.as_slice.result.now)) c.may_choose-may.result) (λ e. held.enters m e ≡ spec.step_enters r m cs c.args.shape.now (step_of c.args.step.now))
     (λ e h. h ∙ group-enters r m cs c.args.shape.now (step_of c.args.step.now) (keys_from (map key_of c.as_slice.result.now)) (inner_of (option_map pipe_of c.in-GroupBy.field-1)) c.may_choose-may.result
-    (grouped c.args.step.now c.in-GroupBy.keys c.in-GroupBy.field-1 c.as_slice.result.now c.in-GroupBy.is c.as_slice.ensures) (c.may_choose-may.ensures ∙ ap (λ b. spec.is_late r && b) c.requires.judged))
+    (grouped c.args.step.now c.in-GroupBy.keys c.in-GroupBy.field-1 c.as_slice.result.now c.in-GroupBy.is c.as_slice.ensures.value) (c.may_choose-may.ensures ∙ ap (λ b. spec.is_late r && b) c.requires.judged))
     c.nodes_entry.ensures.value
 
 pub returns-in-Concat-clause-value : goal.returns-in-Concat-clause-value
@@ -34,7 +34,7 @@ returns-in-Concat-clause-value c =
     let r = rules_named c.args.rules in
     let ps = map pipe_of c.as_slice-in-Concat.result.now in
     IfOk-weaker c.branches_entry.result (λ e. held.enters m e ≡ form.branches_enter m cs c.args.shape.now ps) (λ e. held.enters m e ≡ spec.step_enters r m cs c.args.shape.now (step_of c.args.step.now))
-    (λ e h. h ∙ concat-enters r m cs c.args.shape.now (step_of c.args.step.now) ps (branched c.args.step.now c.in-Concat.branches c.as_slice-in-Concat.result.now c.in-Concat.is c.as_slice-in-Concat.ensures))
+    (λ e h. h ∙ concat-enters r m cs c.args.shape.now (step_of c.args.step.now) ps (branched c.args.step.now c.in-Concat.branches c.as_slice-in-Concat.result.now c.in-Concat.is c.as_slice-in-Concat.ensures.value))
     c.branches_entry.ensures.value
 
 pub returns-in-Join-clause-value : goal.returns-in-Join-clause-value

@@ -8,7 +8,7 @@ use Rattle.optimiser.proofs.heads.grouping_passage.Goals as goal
 pub returns-in_ok-in_every_row : goal.returns-in_ok-in_every_row
 returns-in_ok-in_every_row c =
     grouping-open (rules_named c.args.rules) (map key_of c.args.keys.now) c.in_ok-in_every_row.field-0.items
-    (ap (λ b. spec.is_late (rules_named c.args.rules) || not b) (sym c.has_nodes-nodes.ensures) ∙ sym c.may_pass.ensures ∙ c.if-may_pass.true) c.in_ok-in_every_row.ensures
+    (ap (λ b. spec.is_late (rules_named c.args.rules) || not b) (sym c.has_nodes-nodes.ensures) ∙ sym c.may_pass.ensures ∙ c.if-may_pass.true) c.in_ok-in_every_row.ensures.value
 
 pub returns-else-may_pass : goal.returns-else-may_pass
 returns-else-may_pass c =

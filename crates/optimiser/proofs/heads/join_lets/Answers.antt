@@ -14,5 +14,5 @@ inner_quiet-requires-clause-typed c =
     let cs = readings c.args.c.now in
     let j = out-JoinStep c.args.join.now in
     inner-each m cs pipe_of c.set_shape-start.result j.inner
-    (ap (λ Z. inner_typed m cs Z (inner_of (option_map pipe_of j.inner))) c.set_shape-start.ensures
+    (ap (λ Z. inner_typed m cs Z (inner_of (option_map pipe_of j.inner))) c.set_shape-start.ensures.value
     ∙ join-inside m cs c.args.shape.now j.outer j.nav j.alias (inner_of (option_map pipe_of j.inner)) (join_of c.args.join.now) c.in-Some.of (join_of-is c.args.join.now) (sym c.in-Some.is ∙ c.join_target.ensures.value) c.requires.typed)

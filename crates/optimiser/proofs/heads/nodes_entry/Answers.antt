@@ -8,8 +8,8 @@ use Rattle.optimiser.proofs.heads.nodes_entry.Goals as goal
 pub returns-in_ok-push-in-Some-2-clause-value : goal.returns-in_ok-push-in-Some-2-clause-value
 returns-in_ok-push-in-Some-2-clause-value c =
     nodes-enter c.args.m.now (readings c.args.c.now) (map key_of c.args.keys.now) c.args.may (hier_of c.in-Some.hier.now) c.in-Some.path.now (inner_of (option_map pipe_of c.in-Some.chosen.now)) c.in-Some-2.shape c.in-Some-2.key c.push.new.self.items
-    c.if-not-may.false c.in-Some.ensures (sym c.in-Some-2.is ∙ c.in_ok-shape-in-Some.ensures.value)
-    (c.in_ok-push-in-Some-2.ensures.items ∙ (λ i. c.new-paths.ensures.items i ++ c.in_ok-copy-in-Some-2.ensures i ∷ []))
+    c.if-not-may.false c.in-Some.ensures.value (sym c.in-Some-2.is ∙ c.in_ok-shape-in-Some.ensures.value)
+    (c.in_ok-push-in-Some-2.ensures.items ∙ (λ i. c.new-paths.ensures.items i ++ c.in_ok-copy-in-Some-2.ensures.value i ∷ []))
 
 pub returns-in-None-clause-value : goal.returns-in-None-clause-value
-returns-in-None-clause-value c = nodes-none c.args.m.now (readings c.args.c.now) (map key_of c.args.keys.now) c.args.may c.if-not-may.false c.in-None.ensures
+returns-in-None-clause-value c = nodes-none c.args.m.now (readings c.args.c.now) (map key_of c.args.keys.now) c.args.may c.if-not-may.false c.in-None.ensures.value

@@ -19,5 +19,5 @@ pub returns-in-GroupBy : goal.returns-in-GroupBy
 returns-in-GroupBy c =
     let r = rules_named c.args.rules in
     IfOk-weaker c.grouping_passage.result (λ p. held.passes p ≡ form.grouping_passes r (keys_from (map key_of c.as_slice-in-GroupBy.result.now))) (λ p. held.passes p ≡ spec.step_passed r (step_of c.args.step.now))
-    (λ p h. h ∙ ap (spec.step_passed r) (sym (grouped c.args.step.now c.in-GroupBy.keys c.in-GroupBy.field-1 c.as_slice-in-GroupBy.result.now c.in-GroupBy.is c.as_slice-in-GroupBy.ensures)))
+    (λ p h. h ∙ ap (spec.step_passed r) (sym (grouped c.args.step.now c.in-GroupBy.keys c.in-GroupBy.field-1 c.as_slice-in-GroupBy.result.now c.in-GroupBy.is c.as_slice-in-GroupBy.ensures.value)))
     c.grouping_passage.ensures

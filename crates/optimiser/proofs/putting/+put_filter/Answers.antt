@@ -19,7 +19,7 @@ returns-in_ok-put_filter-in-Binary-And-default-default-clause-value t c w =
     let a = expr_of in'.a.value in
     let b = expr_of in'.b.value in
     let whole : expr_of c.args.e ≡ Expr.Binary BinOp.And a b = ap expr_of in'.is ∙ ap (λ o. Expr.Binary o a b) in'.field-0-is in
-    let sure : is_sure m S b ≡ true = ap (λ x. is_sure m S (expr_of x)) (sym c.deref.ensures) ∙ sym c.is_sure.ensures ∙ c.if-is_sure.true in
+    let sure : is_sure m S b ≡ true = ap (λ x. is_sure m S (expr_of x)) (sym c.deref.ensures) ∙ sym c.is_sure.ensures.value ∙ c.if-is_sure.true in
     on_ok_weaker c.put_filter-then-is_sure.result
     (λ p. p
     ∙ ap (spec.put_filter m S (expr_of c.into_inner-then-is_sure.result)) (c.in_ok-put_filter-in-Binary-And-default-default.ensures.value w)

@@ -12,7 +12,7 @@ put_filter-requires-clause-right c = ap (list_all (λ x. is_right c.args.m.now x
 
 pub loop-e-preserved : goal.loop-e-preserved
 loop-e-preserved c = record {
-  value = λ w. filters-next c.args.m.now c.args.shape.now expr_of c.args.es.now c.loop-e.e-index c.e-item.result (expr_of c.in_ok-copy.field-0) _ _ c.loop-e-test.true c.e-item.is c.in_ok-copy.ensures (c.in_ok-put_filter.ensures.value w) ∙ c.loop-e.invariant.value w;
+  value = λ w. filters-next c.args.m.now c.args.shape.now expr_of c.args.es.now c.loop-e.e-index c.e-item.result (expr_of c.in_ok-copy.field-0) _ _ c.loop-e-test.true c.e-item.is c.in_ok-copy.ensures.value (c.in_ok-put_filter.ensures.value w) ∙ c.loop-e.invariant.value w;
   kept = c.in_ok-put_filter.ensures.kept ∙ c.loop-e.invariant.kept;
 }
 

@@ -19,4 +19,4 @@ returns-clause-value c ss place =
     let g : Segment = record { head = head.Written c.args.at c.in_ok-before.before; lets = c.in_ok-lets.lets; passage = c.in_ok-passage.passage; entry = c.in_ok-entry.entry; entered = c.new.result; tests = c.new-2.result } in
     ap (segments_of m (frame r cs ss)) c.in_ok-push.ensures.items ∙ segments-push m (frame r cs ss) gs g
     ∙ ap (λ x. x ∷ segments_of m (frame r cs ss) gs)
-    (new-segment r m cs c.args.shape.now c.in_ok-before.before (step_of c.args.step.now) ss c.args.at g refl c.in_ok-before.ensures place c.in_ok-lets.ensures c.in_ok-passage.ensures c.in_ok-entry.ensures.value c.new.ensures.items c.new-2.ensures.items)
+    (new-segment r m cs c.args.shape.now c.in_ok-before.before (step_of c.args.step.now) ss c.args.at g refl c.in_ok-before.ensures.value place c.in_ok-lets.ensures c.in_ok-passage.ensures c.in_ok-entry.ensures.value c.new.ensures.items c.new-2.ensures.items)

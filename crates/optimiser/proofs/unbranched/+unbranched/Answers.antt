@@ -39,7 +39,7 @@ is_unbranched-returns t c =
     record { value = sym (c.loop-step.invariant ∙ ap (λ l. spec.is_unbranched (pipe (map step_of l))) (drop_of_length-le xs end)) }
 
 pub unbranched_keys-loop-key-init : goal.unbranched_keys-loop-key-init
-unbranched_keys-loop-key-init t c = ap spec.unbranched_keys (keys_of-is c.args.keys.now ∙ ap (λ l. keys_from (map key_of l)) (sym c.as_slice-key-items.ensures))
+unbranched_keys-loop-key-init t c = ap spec.unbranched_keys (keys_of-is c.args.keys.now ∙ ap (λ l. keys_from (map key_of l)) (sym c.as_slice-key-items.ensures.value))
 
 pub unbranched_keys-loop-key-preserved : goal.unbranched_keys-loop-key-preserved
 unbranched_keys-loop-key-preserved t c =

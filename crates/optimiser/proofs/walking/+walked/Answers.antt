@@ -76,7 +76,7 @@ settled_branches-returns t c =
     let ys = c.loop-i.settled.items in
     let end : length xs ≤ c.loop-i.i = omega (arith, c.loop-i-test.false) in
     branches-answer (rules_named c.args.rules) c.args.m.now (readings c.args.c.now) (map expr_of c.args.entered.now) pipe_of c.args.shape.now xs ys c.loop-i.i (pipes_of c.args.branches.now) (pipes_of c.new.result) end c.loop-i.invariant
-    (pipes_of-is c.args.branches.now ∙ ap (λ l. pipes_from (map pipe_of l)) (sym c.as_slice-all.ensures)) (pipes_of-is c.new.result ∙ ap (λ l. pipes_from (map pipe_of l)) c.new.ensures)
+    (pipes_of-is c.args.branches.now ∙ ap (λ l. pipes_from (map pipe_of l)) (sym c.as_slice-all.ensures.value)) (pipes_of-is c.new.result ∙ ap (λ l. pipes_from (map pipe_of l)) c.new.ensures.value)
 
 pub settled_keys-returns : goal.settled_keys-returns
 settled_keys-returns t c =
@@ -84,7 +84,7 @@ settled_keys-returns t c =
     let ys = c.loop-i.settled.items in
     let end : length xs ≤ c.loop-i.i = omega (arith, c.loop-i-test.false) in
     keys-answer (rules_named c.args.rules) c.args.m.now (readings c.args.c.now) (map expr_of c.args.entered.now) key_of xs ys c.loop-i.i (keys_of c.args.keys.now) (keys_of c.new.result) end c.loop-i.invariant
-    (keys_of-is c.args.keys.now ∙ ap (λ l. keys_from (map key_of l)) (sym c.as_slice-all.ensures)) (keys_of-is c.new.result ∙ ap (λ l. keys_from (map key_of l)) c.new.ensures)
+    (keys_of-is c.args.keys.now ∙ ap (λ l. keys_from (map key_of l)) (sym c.as_slice-all.ensures.value)) (keys_of-is c.new.result ∙ ap (λ l. keys_from (map key_of l)) c.new.ensures.value)
 
 -- ---- inner pipelines
 
@@ -112,7 +112,7 @@ settled_key-returns-in-Plain t c =
     let r = rules_named c.args.rules in
     let es = map expr_of c.args.entered.now in
     let is = ap key_of c.in-Plain.is ∙ key_of-Plain c.in-Plain.field-0 in
-    IfOk-weaker c.copy-in-Plain.result (λ k. key_of k ≡ key_of c.args.key.now) (λ k. key_of k ≡ settled_key r m cs (key_of c.args.key.now) es) (λ k e. e ∙ is ∙ sym (ap (λ k. settled_key r m cs k es) is ∙ settled-Plain r m cs es c.in-Plain.field-0)) c.copy-in-Plain.ensures
+    IfOk-weaker c.copy-in-Plain.result (λ k. key_of k ≡ key_of c.args.key.now) (λ k. key_of k ≡ settled_key r m cs (key_of c.args.key.now) es) (λ k e. e ∙ is ∙ sym (ap (λ k. settled_key r m cs k es) is ∙ settled-Plain r m cs es c.in-Plain.field-0)) c.copy-in-Plain.ensures.value
 
 pub settled_key-returns-in-Rollup : goal.settled_key-returns-in-Rollup
 settled_key-returns-in-Rollup t c =
@@ -122,7 +122,7 @@ settled_key-returns-in-Rollup t c =
     let es = map expr_of c.args.entered.now in
     let is = ap key_of c.in-Rollup.is ∙ key_of-Rollup c.in-Rollup.field-0 c.in-Rollup.field-1 in
     IfOk-weaker c.copy-in-Rollup.result (λ k. key_of k ≡ key_of c.args.key.now) (λ k. key_of k ≡ settled_key r m cs (key_of c.args.key.now) es)
-    (λ k e. e ∙ is ∙ sym (ap (λ k. settled_key r m cs k es) is ∙ settled-Rollup r m cs es c.in-Rollup.field-0 c.in-Rollup.field-1)) c.copy-in-Rollup.ensures
+    (λ k e. e ∙ is ∙ sym (ap (λ k. settled_key r m cs k es) is ∙ settled-Rollup r m cs es c.in-Rollup.field-0 c.in-Rollup.field-1)) c.copy-in-Rollup.ensures.value
 
 pub settled_key-returns-in_ok-copy-in-Recursive : goal.settled_key-returns-in_ok-copy-in-Recursive
 settled_key-returns-in_ok-copy-in-Recursive t c =
@@ -132,7 +132,7 @@ settled_key-returns-in_ok-copy-in-Recursive t c =
     let T' = inner_of (option_map pipe_of c.in_ok-nodes-in-Recursive.nodes) in
     recursive-answer (rules_named c.args.rules) c.args.m.now (readings c.args.c.now) (map expr_of c.args.entered.now) h p T T' c.type_of-of.result (key_of c.args.key.now) _
     (ap key_of c.in-Recursive.is ∙ key_of-Recursive c.in-Recursive.hier p c.in-Recursive.inner) (c.type_of-of.ensures.value ∙ ap (option_map (λ x. x.0)) c.nodes_of.ensures.value) c.in_ok-nodes-in-Recursive.ensures
-    (key_of-Recursive c.in_ok-hier-in-Recursive.hier c.in_ok-copy-in-Recursive.field-0 c.in_ok-nodes-in-Recursive.nodes ∙ (λ i. Key.Recursive (hier_of (c.in_ok-hier-in-Recursive.ensures i)) (c.in_ok-copy-in-Recursive.ensures i) T'))
+    (key_of-Recursive c.in_ok-hier-in-Recursive.hier c.in_ok-copy-in-Recursive.field-0 c.in_ok-nodes-in-Recursive.nodes ∙ (λ i. Key.Recursive (hier_of (c.in_ok-hier-in-Recursive.ensures.value i)) (c.in_ok-copy-in-Recursive.ensures.value i) T'))
 
 -- ---- steps
 
@@ -151,7 +151,7 @@ settled_step-returns-in-Identity t c =
     (either (λ x. ap is_plain (ap step_of x.1 ∙ step_of-Aggregate x.0)) (either (λ x. ap is_plain (ap step_of x.1 ∙ step_of-TopBy x.0))
     (λ x. ap is_plain (ap step_of x.1 ∙ step_of-Traverse x.0)))))))))
     c.in-Identity.is in
-    IfOk-weaker c.copy.result (λ s'. step_of s' ≡ s) (λ s'. step_of s' ≡ settled_step r m cs S s es) (λ s' e. e ∙ sym (settled-plain r m cs es S s plain)) c.copy.ensures
+    IfOk-weaker c.copy.result (λ s'. step_of s' ≡ s) (λ s'. step_of s' ≡ settled_step r m cs S s es) (λ s' e. e ∙ sym (settled-plain r m cs es S s plain)) c.copy.ensures.value
 
 pub settled_step-returns-in_ok-inner-in-GroupBy : goal.settled_step-returns-in_ok-inner-in-GroupBy
 settled_step-returns-in_ok-inner-in-GroupBy t c =
@@ -172,7 +172,7 @@ settled_join-returns t c =
     let T' = inner_of (option_map pipe_of c.in_ok-settled_on.field-0) in
     join-answer (rules_named c.args.rules) c.args.m.now (readings c.args.c.now) (map expr_of c.args.entered.now) c.args.shape.now j.outer j.nav j.alias (inner_of (option_map pipe_of j.inner)) T' c.join_target-of.result (join_of c.args.join.now) _
     (join_of-is c.args.join.now) c.join_target-of.ensures.value c.in_ok-settled_on.ensures
-    (join_of-parts j.outer c.in_ok-copy.field-0 c.in_ok-copy-2.field-0 c.in_ok-settled_on.field-0 ∙ (λ i. Step.Join j.outer (c.in_ok-copy.ensures i) (c.in_ok-copy-2.ensures i) T'))
+    (join_of-parts j.outer c.in_ok-copy.field-0 c.in_ok-copy-2.field-0 c.in_ok-settled_on.field-0 ∙ (λ i. Step.Join j.outer (c.in_ok-copy.ensures.value i) (c.in_ok-copy-2.ensures.value i) T'))
 
 pub settled_climb-returns : goal.settled_climb-returns
 settled_climb-returns t c es =
@@ -182,4 +182,4 @@ settled_climb-returns t c es =
     let m = c.args.m.now in
     let cs = readings c.args.c.now in
     climb-answer r m cs es c.args.shape.now k.up (hier_of k.hier) k.path (pipe_of k.inner) T' k.distance k.keep (climb_of k) _
-    (climb_of-is k) (c.in_ok-walked_pipe.ensures ∙ ap (walked r m cs c.args.shape.now (pipe_of k.inner) []) c.climbed_by-climbed.ensures) (climb_of-is _ ∙ (λ i. Step.Climb k.up (hier_of (c.in_ok-copy.ensures i)) (c.in_ok-copy-2.ensures i) T' k.distance k.keep))
+    (climb_of-is k) (c.in_ok-walked_pipe.ensures ∙ ap (walked r m cs c.args.shape.now (pipe_of k.inner) []) c.climbed_by-climbed.ensures) (climb_of-is _ ∙ (λ i. Step.Climb k.up (hier_of (c.in_ok-copy.ensures.value i)) (c.in_ok-copy-2.ensures.value i) T' k.distance k.keep))

@@ -13,4 +13,4 @@ returns-clause-mean g c = λ S h.
     let l = c.args.rows.now in
     let row : List code.AggItem → Instance = λ xs. record no_instance { columns = map (item_value x.world (readings x.customs) S l) (map agg_of xs) } in
     step_mean-Aggregate x.world (readings x.customs) S (map agg_of c.args.items.now) l
-    ∙ ap Some (sym (c.in_ok-push.ensures.items ∙ (λ i. c.new-made.ensures.items i ++ (c.in_ok-aggregate_row.ensures.row S h ∙ (λ j. row (c.as_slice.ensures j))) i ∷ [])))
+    ∙ ap Some (sym (c.in_ok-push.ensures.items ∙ (λ i. c.new-made.ensures.items i ++ (c.in_ok-aggregate_row.ensures.row S h ∙ (λ j. row (c.as_slice.ensures.value j))) i ∷ [])))

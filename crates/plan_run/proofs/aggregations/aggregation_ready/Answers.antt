@@ -7,4 +7,4 @@ use Rattle.plan_run.proofs.aggregations.aggregation_ready.Goals as goal
 pub returns : goal.returns
 returns g c =
     let r = c.requires in
-    (r.0, items-run c.args.context.now c.args.root.now r.0 r.1 (map agg_of c.args.items.now) c.args.rows.now (subst IsLoaded c.store.ensures c.data_is_loaded.ensures) r.2)
+    (r.0, items-run c.args.context.now c.args.root.now r.0 r.1 (map agg_of c.args.items.now) c.args.rows.now (subst IsLoaded c.store.ensures c.data_is_loaded.ensures.value) r.2)

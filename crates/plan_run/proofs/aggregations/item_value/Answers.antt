@@ -21,4 +21,4 @@ aggregate-requires-after_bounds g c κs within =
     let r = c.requires.ready in
     let e = expr_of c.in-Standard.e in
     subst (AreFoldable c.in-Standard.method) (sym (c.as_slice.ensures.value ∙ c.in_ok-values-in-Standard.ensures))
-    (item-foldable x c.args.root.now r.0 e c.in-Standard.method c.in-Standard.name l (subst IsLoaded c.store.ensures c.data_is_loaded.ensures) (subst (λ i. ItemRuns x c.args.root.now r.0 i l) (ap agg_of c.in-Standard.is) r.1))
+    (item-foldable x c.args.root.now r.0 e c.in-Standard.method c.in-Standard.name l (subst IsLoaded c.store.ensures c.data_is_loaded.ensures.value) (subst (λ i. ItemRuns x c.args.root.now r.0 i l) (ap agg_of c.in-Standard.is) r.1))

@@ -28,7 +28,7 @@ unreachable-requires-in_default-nav_named g c =
     let J = join-ready c.args.context.now c.args.root.now c.args.outer n c.args.alias.now (inner_of (option_map pipe_of c.args.inner.now)) c.args.rows.now c.requires in
     let of = some_value (sym c.in-Some.is ∙ J.root_is) in
     let model = c.model-model.ensures.value ∙ ap (λ w. w.model) c.store.ensures in
-    let found = found-as m c.model-model.result.now J.of c.in-Some.of n c.text.result.now c.nav_named.result c.nav_named.ensures.value model of c.text.ensures in
+    let found = found-as m c.model-model.result.now J.of c.in-Some.of n c.text.result.now c.nav_named.result c.nav_named.ensures.value model of c.text.ensures.value in
     let part : Part = record { of = J.of; at = J.at } in
     let own : c.nav_named.result ≡ Some part = found ∙ ap (found_part J.of) J.named in
     none_or part (sym c.in_default-nav_named.is ∙ own)
@@ -40,7 +40,7 @@ returns-clause-value g c =
     let J = join-ready c.args.context.now c.args.root.now c.args.outer n c.args.alias.now (inner_of (option_map pipe_of c.args.inner.now)) c.args.rows.now c.requires in
     let of = some_value (sym c.in-Some.is ∙ J.root_is) in
     let model = c.model-model.ensures.value ∙ ap (λ w. w.model) c.store.ensures in
-    let found = found-as m c.model-model.result.now J.of c.in-Some.of n c.text.result.now c.nav_named.result c.nav_named.ensures.value model of c.text.ensures in
+    let found = found-as m c.model-model.result.now J.of c.in-Some.of n c.text.result.now c.nav_named.result c.nav_named.ensures.value model of c.text.ensures.value in
     λ S r. named-taken m J.of n J.at J.navigation c.in-Some-nav_named.found J.named J.many (sym c.in-Some-nav_named.is ∙ found) S (r ∙ J.root_is)
 
 pub returns-clause-of : goal.returns-clause-of
@@ -50,7 +50,7 @@ returns-clause-of g c =
     let J = join-ready c.args.context.now c.args.root.now c.args.outer n c.args.alias.now (inner_of (option_map pipe_of c.args.inner.now)) c.args.rows.now c.requires in
     let of = some_value (sym c.in-Some.is ∙ J.root_is) in
     let model = c.model-model.ensures.value ∙ ap (λ w. w.model) c.store.ensures in
-    let found = found-as m c.model-model.result.now J.of c.in-Some.of n c.text.result.now c.nav_named.result c.nav_named.ensures.value model of c.text.ensures in
+    let found = found-as m c.model-model.result.now J.of c.in-Some.of n c.text.result.now c.nav_named.result c.nav_named.ensures.value model of c.text.ensures.value in
     let part : Part = record { of = J.of; at = J.at } in
     let own : c.nav_named.result ≡ Some part = found ∙ ap (found_part J.of) J.named in
     let same = ap (λ (p : Part). p.of) (some_value (sym own ∙ c.in-Some-nav_named.is)) in

@@ -112,7 +112,7 @@ run_pipe-loop-i-preserved g t c = (
       let left = i.3 in (
         u.between,
         record {
-          runs = u.next c.in_ok-rows.rows.items (subst IsLoaded c.store.ensures c.data_is_loaded.ensures) m;
+          runs = u.next c.in_ok-rows.rows.items (subst IsLoaded c.store.ensures c.data_is_loaded.ensures.value) m;
           root_is = c.root_after-root.ensures w.model cs i.0 u.between u.first.typed (i.1).root_is;
         },
         i.2 ∙ u.meaning ∙ ap (option_and_then (mean w cs u.between rest)) m,
@@ -182,10 +182,10 @@ run_step-compute_rows-requires-clause-free g t c =
     let x = c.args.context.now in
     let r = c.requires.ready in
     let e = ap step_of c.in-Compute.is ∙ step_of-Compute c.in-Compute.items in
-    let free = compute-free x.world (readings x.customs) r.0 r.1 (map named_of c.in-Compute.items) c.args.rows.items (subst IsLoaded c.store-store.ensures c.data_is_loaded.ensures)
+    let free = compute-free x.world (readings x.customs) r.0 r.1 (map named_of c.in-Compute.items) c.args.rows.items (subst IsLoaded c.store-store.ensures c.data_is_loaded.ensures.value)
     (subst (λ s. StepRuns x.world (readings x.customs) r.0 r.1 s c.args.rows.items) e (r.2).runs) in
     subst (λ w. IsTrue (all_free w (map named_of c.as_slice-in-Compute.result.now) c.args.rows.items)) (sym c.store-store.ensures)
-    (subst (λ xs. IsTrue (all_free x.world (map named_of xs) c.args.rows.items)) (sym c.as_slice-in-Compute.ensures) free)
+    (subst (λ xs. IsTrue (all_free x.world (map named_of xs) c.args.rows.items)) (sym c.as_slice-in-Compute.ensures.value) free)
 
 pub run_step-returns-in-Identity-clause-mean : goal.run_step-returns-in-Identity-clause-mean
 run_step-returns-in-Identity-clause-mean g t c = λ S S' R.
@@ -218,7 +218,7 @@ run_step-returns-in-Compute-clause-mean g t c = λ S S' R.
     let x = c.args.context.now in
     let l = c.args.rows.items in
     ap (λ s. step_mean x.world (readings x.customs) S s l) (ap step_of c.in-Compute.is ∙ step_of-Compute c.in-Compute.items) ∙ step_mean-Compute x.world (readings x.customs) S (map named_of c.in-Compute.items) l
-    ∙ ap (λ xs. Some (map (λ i. extended i (new_columns x.world (map named_of xs) i)) l)) (sym c.as_slice-in-Compute.ensures)
+    ∙ ap (λ xs. Some (map (λ i. extended i (new_columns x.world (map named_of xs) i)) l)) (sym c.as_slice-in-Compute.ensures.value)
     ∙ ap (λ (w : World). Some (map (λ i. extended i (new_columns w (map named_of c.as_slice-in-Compute.result.now) i)) l)) (sym c.store-store.ensures)
     ∙ ap Some (sym c.in_ok-compute_rows-in-Compute.ensures.rows)
 
@@ -240,17 +240,17 @@ run_step-returns-in-OrderBy-clause-mean g t c = λ S S' R.
     let l = c.args.rows.items in
     let items = map item_of c.in-OrderBy.items in
     subst (Gives c.order_rows.result) (sym (ap (λ s. step_mean x.world (readings x.customs) S s l) (ap step_of c.in-OrderBy.is ∙ step_of-OrderBy c.in-OrderBy.items) ∙ step_mean-OrderBy x.world (readings x.customs) S items l))
-    (subst (λ (w : World). Gives c.order_rows.result (refused_at_beyond (order_values w items l) (sorted (order_before w items) l))) c.store-store.ensures c.order_rows.ensures)
+    (subst (λ (w : World). Gives c.order_rows.result (refused_at_beyond (order_values w items l) (sorted (order_before w items) l))) c.store-store.ensures c.order_rows.ensures.value)
 
 pub run_step-returns-in-Skip-clause-mean : goal.run_step-returns-in-Skip-clause-mean
 run_step-returns-in-Skip-clause-mean g t c = λ S S' R.
     let x = c.args.context.now in
-    ap (λ s. step_mean x.world (readings x.customs) S s c.args.rows.items) (ap step_of c.in-Skip.is ∙ step_of-Skip c.in-Skip.n) ∙ step_mean-Skip x.world (readings x.customs) S c.in-Skip.n c.args.rows.items ∙ ap Some (sym c.skip_rows.ensures)
+    ap (λ s. step_mean x.world (readings x.customs) S s c.args.rows.items) (ap step_of c.in-Skip.is ∙ step_of-Skip c.in-Skip.n) ∙ step_mean-Skip x.world (readings x.customs) S c.in-Skip.n c.args.rows.items ∙ ap Some (sym c.skip_rows.ensures.value)
 
 pub run_step-returns-in-Top-clause-mean : goal.run_step-returns-in-Top-clause-mean
 run_step-returns-in-Top-clause-mean g t c = λ S S' R.
     let x = c.args.context.now in
-    ap (λ s. step_mean x.world (readings x.customs) S s c.args.rows.items) (ap step_of c.in-Top.is ∙ step_of-Top c.in-Top.n) ∙ step_mean-Top x.world (readings x.customs) S c.in-Top.n c.args.rows.items ∙ ap Some (sym c.top_rows.ensures)
+    ap (λ s. step_mean x.world (readings x.customs) S s c.args.rows.items) (ap step_of c.in-Top.is ∙ step_of-Top c.in-Top.n) ∙ step_mean-Top x.world (readings x.customs) S c.in-Top.n c.args.rows.items ∙ ap Some (sym c.top_rows.ensures.value)
 
 pub run_step-aggregated-requires-clause-ready : goal.run_step-aggregated-requires-clause-ready
 run_step-aggregated-requires-clause-ready g t c κs within =
@@ -636,7 +636,7 @@ run_step-run_levels-requires-clause-ready g t c κs within =
     let l = c.as_slice-list.result.now in
     let ks = keys_of c.in-GroupBy.keys in
     let e = ap step_of c.in-GroupBy.is ∙ step_of-GroupBy c.in-GroupBy.keys c.in-GroupBy.inner ∙ ap (λ o. tree.Step.GroupBy ks (inner_of (option_map pipe_of o))) c.in-Some.is in
-    let u = grouping-run c.in_ok-levels-in-GroupBy.levels (subst IsLoaded c.store-store.ensures c.data_is_loaded.ensures) c.in_ok-levels-in-GroupBy.ensures.levels c.as_slice.ensures.value (step-runs-on e c.as_slice-list.ensures.value r.2) in
+    let u = grouping-run c.in_ok-levels-in-GroupBy.levels (subst IsLoaded c.store-store.ensures c.data_is_loaded.ensures.value) c.in_ok-levels-in-GroupBy.ensures.levels c.as_slice.ensures.value (step-runs-on e c.as_slice-list.ensures.value r.2) in
     (r.0, u.shape, u.runs)
 
 pub run_step-run_levels-requires-clause-named : goal.run_step-run_levels-requires-clause-named
@@ -661,7 +661,7 @@ run_step-returns-in-Some-clause-mean g t c = λ S S' R.
     let l = c.as_slice-list.result.now in
     let ks = keys_of c.in-GroupBy.keys in
     let e = ap step_of c.in-GroupBy.is ∙ step_of-GroupBy c.in-GroupBy.keys c.in-GroupBy.inner ∙ ap (λ o. tree.Step.GroupBy ks (inner_of (option_map pipe_of o))) c.in-Some.is in
-    let u = grouping-run c.in_ok-levels-in-GroupBy.levels (subst IsLoaded c.store-store.ensures c.data_is_loaded.ensures) c.in_ok-levels-in-GroupBy.ensures.levels c.as_slice.ensures.value (step-runs-on e c.as_slice-list.ensures.value R) in
+    let u = grouping-run c.in_ok-levels-in-GroupBy.levels (subst IsLoaded c.store-store.ensures c.data_is_loaded.ensures.value) c.in_ok-levels-in-GroupBy.ensures.levels c.as_slice.ensures.value (step-runs-on e c.as_slice-list.ensures.value R) in
     subst (Gives c.run_levels.result) (sym u.means ∙ sym (step-mean-on x S e c.as_slice-list.ensures.value)) (c.run_levels.ensures.mean S u.shape u.runs)
 
 pub run_step-returns-in-Some-clause-steps : goal.run_step-returns-in-Some-clause-steps
@@ -670,7 +670,7 @@ run_step-returns-in-Some-clause-steps g t c = λ S S' R.
     let l = c.as_slice-list.result.now in
     let ks = keys_of c.in-GroupBy.keys in
     let e = ap step_of c.in-GroupBy.is ∙ step_of-GroupBy c.in-GroupBy.keys c.in-GroupBy.inner ∙ ap (λ o. tree.Step.GroupBy ks (inner_of (option_map pipe_of o))) c.in-Some.is in
-    let u = grouping-run c.in_ok-levels-in-GroupBy.levels (subst IsLoaded c.store-store.ensures c.data_is_loaded.ensures) c.in_ok-levels-in-GroupBy.ensures.levels c.as_slice.ensures.value (step-runs-on e c.as_slice-list.ensures.value R) in
+    let u = grouping-run c.in_ok-levels-in-GroupBy.levels (subst IsLoaded c.store-store.ensures c.data_is_loaded.ensures.value) c.in_ok-levels-in-GroupBy.ensures.levels c.as_slice.ensures.value (step-runs-on e c.as_slice-list.ensures.value R) in
     let found = c.grouping_levels.ensures.steps in
     let spent = c.run_levels.ensures.steps S u.shape u.runs in
     let least = u.costs in
@@ -760,22 +760,22 @@ run_step-returns-in-Concat-clause-grown g t c = omega (arith, c.run_concat.ensur
 
 pub run_concat-run_branches-requires-clause-ready : goal.run_concat-run_branches-requires-clause-ready
 run_concat-run_branches-requires-clause-ready g t c κs within =
-    subst (λ bs. BranchesReady c.args.context.now c.args.root.now (map pipe_of bs) c.args.rows.now) (sym c.as_slice.ensures) c.branches_ready.ensures
+    subst (λ bs. BranchesReady c.args.context.now c.args.root.now (map pipe_of bs) c.args.rows.now) (sym c.as_slice.ensures.value) c.branches_ready.ensures
 
 pub run_concat-run_branches-requires-clause-named : goal.run_concat-run_branches-requires-clause-named
 run_concat-run_branches-requires-clause-named g t c κs within =
-    subst (λ bs. (n : ℕ) (p : Pipe) → slice_get (map pipe_of bs) n ≡ Some p → AreReady c.args.context.now (hierarchies p)) (sym c.as_slice.ensures)
+    subst (λ bs. (n : ℕ) (p : Pipe) → slice_get (map pipe_of bs) n ≡ Some p → AreReady c.args.context.now (hierarchies p)) (sym c.as_slice.ensures.value)
     (ready-branch c.args.context.now (map pipe_of (pipes_in c.args.branches.now)) (subst (λ ps. AreReady c.args.context.now (branch_hierarchies ps)) (pipes_of-is c.args.branches.now) c.requires.named))
 
 pub run_concat-returns-in_err-parts-clause-mean : goal.run_concat-returns-in_err-parts-clause-mean
 run_concat-returns-in_err-parts-clause-mean g t c = λ S S' R.
-    let u = concat-run c.args.branches.now c.as_slice.result.now c.as_slice.ensures R in
+    let u = concat-run c.args.branches.now c.as_slice.result.now c.as_slice.ensures.value R in
     let p = err_from_is_err_and c.from_residual.result c.from_residual.ensures.1 in
     rw (p.1, p.2) (joined-err c.in_err-parts.field-0.0 _ (flat_map (λ part. part)) _ u.means (c.in_err-parts.ensures.mean S u.runs))
 
 pub run_concat-returns-in_err-parts-clause-steps : goal.run_concat-returns-in_err-parts-clause-steps
 run_concat-returns-in_err-parts-clause-steps g t c = λ S S' R.
-    let u = concat-run c.args.branches.now c.as_slice.result.now c.as_slice.ensures R in
+    let u = concat-run c.args.branches.now c.as_slice.result.now c.as_slice.ensures.value R in
     let spent = c.run_branches.ensures.steps S u.runs in
     let least = u.costs in
     omega (arith, spent, least)
@@ -785,7 +785,7 @@ run_concat-returns-in_err-parts-clause-grown g t c = omega (arith, c.run_branche
 
 pub run_concat-returns-in_err-concat-clause-steps : goal.run_concat-returns-in_err-concat-clause-steps
 run_concat-returns-in_err-concat-clause-steps g t c = λ S S' R.
-    let u = concat-run c.args.branches.now c.as_slice.result.now c.as_slice.ensures R in
+    let u = concat-run c.args.branches.now c.as_slice.result.now c.as_slice.ensures.value R in
     let spent = c.run_branches.ensures.steps S u.runs in
     let least = u.costs in
     omega (arith, spent, least)
@@ -795,7 +795,7 @@ run_concat-returns-in_err-concat-clause-grown g t c = omega (arith, c.run_branch
 
 pub run_concat-returns-clause-steps : goal.run_concat-returns-clause-steps
 run_concat-returns-clause-steps g t c = λ S S' R.
-    let u = concat-run c.args.branches.now c.as_slice.result.now c.as_slice.ensures R in
+    let u = concat-run c.args.branches.now c.as_slice.result.now c.as_slice.ensures.value R in
     let spent = c.run_branches.ensures.steps S u.runs in
     let least = u.costs in
     omega (arith, spent, least)
@@ -805,9 +805,9 @@ run_concat-returns-clause-grown g t c = omega (arith, c.run_branches.ensures.gro
 
 pub run_concat-returns-clause-mean : goal.run_concat-returns-clause-mean
 run_concat-returns-clause-mean g t c = λ S S' R.
-    let u = concat-run c.args.branches.now c.as_slice.result.now c.as_slice.ensures R in
+    let u = concat-run c.args.branches.now c.as_slice.result.now c.as_slice.ensures.value R in
     u.means ∙ ap (option_map (flat_map (λ part. part))) (c.in_ok-parts.ensures.mean S u.runs)
-    ∙ ap Some (flat_map-map (λ part. part) (λ (part : Vec Instance). part.items) c.in_ok-parts.parts.items ∙ sym c.in_ok-concat.ensures)
+    ∙ ap Some (flat_map-map (λ part. part) (λ (part : Vec Instance). part.items) c.in_ok-parts.parts.items ∙ sym c.in_ok-concat.ensures.value)
 
 -- ---- the branches
 
@@ -1273,7 +1273,7 @@ run_climb-climb_rows-requires-clause-starts g t c κs within =
     let copied = c.in_ok-copies.ensures.rows ∙ c.as_slice.ensures.value in
     let runs = subst (RunsFrom x c.args.root.now r.0 u.shape (pipe_of k.inner)) (sym copied) u.runs in
     let made = ap (mean x.world (readings x.customs) r.0 (pipe_of k.inner)) (sym copied) ∙ c.in_ok-starts.ensures.mean r.0 u.shape runs in
-    subst (λ l. IsTrue (all_of x.world l)) (sym c.as_slice-2.ensures.value) (u.starts c.in_ok-starts.starts.items (subst IsLoaded c.store.ensures c.data_is_loaded.ensures) made)
+    subst (λ l. IsTrue (all_of x.world l)) (sym c.as_slice-2.ensures.value) (u.starts c.in_ok-starts.starts.items (subst IsLoaded c.store.ensures c.data_is_loaded.ensures.value) made)
 
 pub run_climb-climb_rows-requires-clause-there : goal.run_climb-climb_rows-requires-clause-there
 run_climb-climb_rows-requires-clause-there g t c κs within = (climb-of c.args.climb.now c.requires.ready.2).hierarchy
@@ -1368,7 +1368,7 @@ grouping_levels-run_shown-requires-clause-there g t c κs within =
     let h = hier_of c.in-Recursive.hier in
     let p = c.in-Recursive.path in
     let T = inner_of (option_map pipe_of c.in-Recursive.inner) in
-    let has = met-key c.args.keys.now c.as_slice-items.result.now c.loop-key.key-index c.key-item.result c.as_slice-items.ensures c.loop-key-test.true c.key-item.is (c.loop-key.invariant).1 (ap key_of c.in-Recursive.is ∙ key_of-Recursive c.in-Recursive.hier p c.in-Recursive.inner) in
+    let has = met-key c.args.keys.now c.as_slice-items.result.now c.loop-key.key-index c.key-item.result c.as_slice-items.ensures.value c.loop-key-test.true c.key-item.is (c.loop-key.invariant).1 (ap key_of c.in-Recursive.is ∙ key_of-Recursive c.in-Recursive.hier p c.in-Recursive.inner) in
     ap is_some (recursive x h p T (keys_of c.args.keys.now) has c.requires.ready).at
 
 pub grouping_levels-run_shown-requires-clause-index : goal.grouping_levels-run_shown-requires-clause-index
@@ -1377,7 +1377,7 @@ grouping_levels-run_shown-requires-clause-index g t c κs within =
     let h = hier_of c.in-Recursive.hier in
     let p = c.in-Recursive.path in
     let T = inner_of (option_map pipe_of c.in-Recursive.inner) in
-    let has = met-key c.args.keys.now c.as_slice-items.result.now c.loop-key.key-index c.key-item.result c.as_slice-items.ensures c.loop-key-test.true c.key-item.is (c.loop-key.invariant).1 (ap key_of c.in-Recursive.is ∙ key_of-Recursive c.in-Recursive.hier p c.in-Recursive.inner) in
+    let has = met-key c.args.keys.now c.as_slice-items.result.now c.loop-key.key-index c.key-item.result c.as_slice-items.ensures.value c.loop-key-test.true c.key-item.is (c.loop-key.invariant).1 (ap key_of c.in-Recursive.is ∙ key_of-Recursive c.in-Recursive.hier p c.in-Recursive.inner) in
     ready-first x h (inner_hierarchies T) (ready-key x (tree.Key.Recursive h p T) (keys_of c.args.keys.now) has c.requires.named)
 
 pub grouping_levels-run_shown-requires-clause-ready : goal.grouping_levels-run_shown-requires-clause-ready
@@ -1386,7 +1386,7 @@ grouping_levels-run_shown-requires-clause-ready g t c κs within =
     let h = hier_of c.in-Recursive.hier in
     let p = c.in-Recursive.path in
     let T = inner_of (option_map pipe_of c.in-Recursive.inner) in
-    let has = met-key c.args.keys.now c.as_slice-items.result.now c.loop-key.key-index c.key-item.result c.as_slice-items.ensures c.loop-key-test.true c.key-item.is (c.loop-key.invariant).1 (ap key_of c.in-Recursive.is ∙ key_of-Recursive c.in-Recursive.hier p c.in-Recursive.inner) in
+    let has = met-key c.args.keys.now c.as_slice-items.result.now c.loop-key.key-index c.key-item.result c.as_slice-items.ensures.value c.loop-key-test.true c.key-item.is (c.loop-key.invariant).1 (ap key_of c.in-Recursive.is ∙ key_of-Recursive c.in-Recursive.hier p c.in-Recursive.inner) in
     (recursive x h p T (keys_of c.args.keys.now) has c.requires.ready).shown
 
 pub grouping_levels-run_shown-requires-clause-named : goal.grouping_levels-run_shown-requires-clause-named
@@ -1395,7 +1395,7 @@ grouping_levels-run_shown-requires-clause-named g t c κs within =
     let h = hier_of c.in-Recursive.hier in
     let p = c.in-Recursive.path in
     let T = inner_of (option_map pipe_of c.in-Recursive.inner) in
-    let has = met-key c.args.keys.now c.as_slice-items.result.now c.loop-key.key-index c.key-item.result c.as_slice-items.ensures c.loop-key-test.true c.key-item.is (c.loop-key.invariant).1 (ap key_of c.in-Recursive.is ∙ key_of-Recursive c.in-Recursive.hier p c.in-Recursive.inner) in
+    let has = met-key c.args.keys.now c.as_slice-items.result.now c.loop-key.key-index c.key-item.result c.as_slice-items.ensures.value c.loop-key-test.true c.key-item.is (c.loop-key.invariant).1 (ap key_of c.in-Recursive.is ∙ key_of-Recursive c.in-Recursive.hier p c.in-Recursive.inner) in
     ready-others x h (inner_hierarchies T) (ready-key x (tree.Key.Recursive h p T) (keys_of c.args.keys.now) has c.requires.named)
 
 pub grouping_levels-node_levels-requires-clause-there : goal.grouping_levels-node_levels-requires-clause-there
@@ -1404,7 +1404,7 @@ grouping_levels-node_levels-requires-clause-there g t c κs within =
     let h = hier_of c.in-Recursive.hier in
     let p = c.in-Recursive.path in
     let T = inner_of (option_map pipe_of c.in-Recursive.inner) in
-    let has = met-key c.args.keys.now c.as_slice-items.result.now c.loop-key.key-index c.key-item.result c.as_slice-items.ensures c.loop-key-test.true c.key-item.is (c.loop-key.invariant).1 (ap key_of c.in-Recursive.is ∙ key_of-Recursive c.in-Recursive.hier p c.in-Recursive.inner) in
+    let has = met-key c.args.keys.now c.as_slice-items.result.now c.loop-key.key-index c.key-item.result c.as_slice-items.ensures.value c.loop-key-test.true c.key-item.is (c.loop-key.invariant).1 (ap key_of c.in-Recursive.is ∙ key_of-Recursive c.in-Recursive.hier p c.in-Recursive.inner) in
     ap is_some (recursive x h p T (keys_of c.args.keys.now) has c.requires.ready).at
 
 pub grouping_levels-node_levels-requires-clause-ready : goal.grouping_levels-node_levels-requires-clause-ready
@@ -1413,7 +1413,7 @@ grouping_levels-node_levels-requires-clause-ready g t c κs within =
     let h = hier_of c.in-Recursive.hier in
     let p = c.in-Recursive.path in
     let T = inner_of (option_map pipe_of c.in-Recursive.inner) in
-    let has = met-key c.args.keys.now c.as_slice-items.result.now c.loop-key.key-index c.key-item.result c.as_slice-items.ensures c.loop-key-test.true c.key-item.is (c.loop-key.invariant).1 (ap key_of c.in-Recursive.is ∙ key_of-Recursive c.in-Recursive.hier p c.in-Recursive.inner) in
+    let has = met-key c.args.keys.now c.as_slice-items.result.now c.loop-key.key-index c.key-item.result c.as_slice-items.ensures.value c.loop-key-test.true c.key-item.is (c.loop-key.invariant).1 (ap key_of c.in-Recursive.is ∙ key_of-Recursive c.in-Recursive.hier p c.in-Recursive.inner) in
     ready-first x h (inner_hierarchies T) (ready-key x (tree.Key.Recursive h p T) (keys_of c.args.keys.now) has c.requires.named)
 
 pub grouping_levels-returns-in_err-shown-in-Recursive-clause-levels : goal.grouping_levels-returns-in_err-shown-in-Recursive-clause-levels
@@ -1422,7 +1422,7 @@ grouping_levels-returns-in_err-shown-in-Recursive-clause-levels g t c =
     let h = hier_of c.in-Recursive.hier in
     let p = c.in-Recursive.path in
     let T = inner_of (option_map pipe_of c.in-Recursive.inner) in
-    let has = met-key c.args.keys.now c.as_slice-items.result.now c.loop-key.key-index c.key-item.result c.as_slice-items.ensures c.loop-key-test.true c.key-item.is (c.loop-key.invariant).1 (ap key_of c.in-Recursive.is ∙ key_of-Recursive c.in-Recursive.hier p c.in-Recursive.inner) in
+    let has = met-key c.args.keys.now c.as_slice-items.result.now c.loop-key.key-index c.key-item.result c.as_slice-items.ensures.value c.loop-key-test.true c.key-item.is (c.loop-key.invariant).1 (ap key_of c.in-Recursive.is ∙ key_of-Recursive c.in-Recursive.hier p c.in-Recursive.inner) in
     let u = recursive x h p T (keys_of c.args.keys.now) has c.requires.ready in
     let q = err_from_is_err_and c.from_residual.result c.from_residual.ensures.1 in
     rw (q.1, q.2) (shown-gives x h p T (keys_of c.args.keys.now) has c.requires.ready u.place u.at c.in_err-shown-in-Recursive.field-0.0 c.args.rows.now (c.in_err-shown-in-Recursive.ensures.shown u.place u.at))
@@ -1433,7 +1433,7 @@ grouping_levels-returns-in_err-shown-in-Recursive-clause-steps g t c =
     let h = hier_of c.in-Recursive.hier in
     let p = c.in-Recursive.path in
     let T = inner_of (option_map pipe_of c.in-Recursive.inner) in
-    let has = met-key c.args.keys.now c.as_slice-items.result.now c.loop-key.key-index c.key-item.result c.as_slice-items.ensures c.loop-key-test.true c.key-item.is (c.loop-key.invariant).1 (ap key_of c.in-Recursive.is ∙ key_of-Recursive c.in-Recursive.hier p c.in-Recursive.inner) in
+    let has = met-key c.args.keys.now c.as_slice-items.result.now c.loop-key.key-index c.key-item.result c.as_slice-items.ensures.value c.loop-key-test.true c.key-item.is (c.loop-key.invariant).1 (ap key_of c.in-Recursive.is ∙ key_of-Recursive c.in-Recursive.hier p c.in-Recursive.inner) in
     let u = recursive x h p T (keys_of c.args.keys.now) has c.requires.ready in
     let same = (c.loop-key.invariant).2 in
     let spent = c.run_shown.ensures.steps u.place u.at in
@@ -1449,7 +1449,7 @@ grouping_levels-returns-in-Recursive-clause-levels g t c =
     let h = hier_of c.in-Recursive.hier in
     let p = c.in-Recursive.path in
     let T = inner_of (option_map pipe_of c.in-Recursive.inner) in
-    let has = met-key c.args.keys.now c.as_slice-items.result.now c.loop-key.key-index c.key-item.result c.as_slice-items.ensures c.loop-key-test.true c.key-item.is (c.loop-key.invariant).1 (ap key_of c.in-Recursive.is ∙ key_of-Recursive c.in-Recursive.hier p c.in-Recursive.inner) in
+    let has = met-key c.args.keys.now c.as_slice-items.result.now c.loop-key.key-index c.key-item.result c.as_slice-items.ensures.value c.loop-key-test.true c.key-item.is (c.loop-key.invariant).1 (ap key_of c.in-Recursive.is ∙ key_of-Recursive c.in-Recursive.hier p c.in-Recursive.inner) in
     let u = recursive x h p T (keys_of c.args.keys.now) has c.requires.ready in
     node-gives x h p T (keys_of c.args.keys.now) has c.requires.ready u.place u.at c.node_levels.result c.as_slice.result.now c.args.rows.now
     (c.in_ok-shown-in-Recursive.ensures.shown u.place u.at ∙ ap Some (sym c.as_slice.ensures.value)) (c.node_levels.ensures u.place u.at)
@@ -1460,7 +1460,7 @@ grouping_levels-returns-in-Recursive-clause-steps g t c =
     let h = hier_of c.in-Recursive.hier in
     let p = c.in-Recursive.path in
     let T = inner_of (option_map pipe_of c.in-Recursive.inner) in
-    let has = met-key c.args.keys.now c.as_slice-items.result.now c.loop-key.key-index c.key-item.result c.as_slice-items.ensures c.loop-key-test.true c.key-item.is (c.loop-key.invariant).1 (ap key_of c.in-Recursive.is ∙ key_of-Recursive c.in-Recursive.hier p c.in-Recursive.inner) in
+    let has = met-key c.args.keys.now c.as_slice-items.result.now c.loop-key.key-index c.key-item.result c.as_slice-items.ensures.value c.loop-key-test.true c.key-item.is (c.loop-key.invariant).1 (ap key_of c.in-Recursive.is ∙ key_of-Recursive c.in-Recursive.hier p c.in-Recursive.inner) in
     let u = recursive x h p T (keys_of c.args.keys.now) has c.requires.ready in
     let same = (c.loop-key.invariant).2 in
     let spent = c.run_shown.ensures.steps u.place u.at in
@@ -1485,12 +1485,12 @@ grouping_levels-loop-key-preserved g t c =
     )
 
 pub grouping_levels-levels_of-requires-clause-flat : goal.grouping_levels-levels_of-requires-clause-flat
-grouping_levels-levels_of-requires-clause-flat g t c κs within = all-flat c.args.keys.now c.as_slice-items.result.now c.loop-key.key-index c.as_slice-items.ensures (omega (arith, c.loop-key-test.false)) (c.loop-key.invariant).0
+grouping_levels-levels_of-requires-clause-flat g t c κs within = all-flat c.args.keys.now c.as_slice-items.result.now c.loop-key.key-index c.as_slice-items.ensures.value (omega (arith, c.loop-key-test.false)) (c.loop-key.invariant).0
 
 pub grouping_levels-returns-clause-levels : goal.grouping_levels-returns-clause-levels
 grouping_levels-returns-clause-levels g t c =
     let x = c.args.context.now in
-    let flat = all-flat c.args.keys.now c.as_slice-items.result.now c.loop-key.key-index c.as_slice-items.ensures (omega (arith, c.loop-key-test.false)) (c.loop-key.invariant).0 in
+    let flat = all-flat c.args.keys.now c.as_slice-items.result.now c.loop-key.key-index c.as_slice-items.ensures.value (omega (arith, c.loop-key-test.false)) (c.loop-key.invariant).0 in
     flat-gives c.levels_of.result x.world (readings x.customs) (keys_of c.args.keys.now) c.args.rows.now flat c.levels_of.ensures
 
 -- ---- the nodes that are shown
@@ -1556,8 +1556,8 @@ run_shown-shown_nodes-requires g t c =
     let R = subst (λ o. ShownReady x h (inner_of (option_map pipe_of o))) c.in-Some.is c.requires.ready f.0 f.1 in
     let u = shown-run h R.1 f.1 set (c.set_type.ensures.value ∙ ap (λ m. set_type m c.nodes-nodes.result.set) (c.model.ensures.value ∙ ap (λ (w : World). w.model) c.store-store.ensures)) (c.in_ok-rows-in-Some.ensures.rows ∙ ap (λ (w : World). instances.rows w c.nodes-nodes.result.set) c.store-store.ensures) in
     let own = ap (mean x.world (readings x.customs) (set_shape f.0.type) T) (sym (c.in_ok-rows-in-Some.ensures.rows ∙ ap (λ (w : World). instances.rows w c.nodes-nodes.result.set) c.store-store.ensures ∙ ap (instances.rows x.world) set)) ∙ c.in_ok-made-in-Some.ensures.mean (set_shape f.0.type) u.shape u.runs in
-    let below = shown-below x h f.0 R.0 T c.nodes-nodes.result.set c.in_ok-made-in-Some.made.items (subst IsLoaded c.store-store.ensures c.data_is_loaded.ensures) f.1 set R.1 own in
-    subst (λ n. AreRootsBelow n c.as_slice.result.now) (sym (c.count.ensures ∙ ap (λ (w : World). count w c.nodes-nodes.result.set) c.store-store.ensures)) (subst (AreRootsBelow (count x.world c.nodes-nodes.result.set)) (sym c.as_slice.ensures.value) below)
+    let below = shown-below x h f.0 R.0 T c.nodes-nodes.result.set c.in_ok-made-in-Some.made.items (subst IsLoaded c.store-store.ensures c.data_is_loaded.ensures.value) f.1 set R.1 own in
+    subst (λ n. AreRootsBelow n c.as_slice.result.now) (sym (c.count.ensures.value ∙ ap (λ (w : World). count w c.nodes-nodes.result.set) c.store-store.ensures)) (subst (AreRootsBelow (count x.world c.nodes-nodes.result.set)) (sym c.as_slice.ensures.value) below)
 
 pub run_shown-returns-in_err-shown_nodes-in-Some-clause-steps : goal.run_shown-returns-in_err-shown_nodes-in-Some-clause-steps
 run_shown-returns-in_err-shown_nodes-in-Some-clause-steps g t c = λ f at.

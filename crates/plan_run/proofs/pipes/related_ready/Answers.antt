@@ -10,4 +10,4 @@ returns g c = λ v h.
     let x = c.args.context.now in
     let r = c.requires.ready in
     related-run x c.args.root.now r.0 r.1 c.args.outer c.args.nav.now c.args.alias.now (inner_of (option_map pipe_of c.args.inner.now)) c.args.rows.now v
-    (subst IsLoaded c.store.ensures c.data_is_loaded.ensures) r.2 (c.requires.value r.0 (r.2).root_is ∙ h)
+    (subst IsLoaded c.store.ensures c.data_is_loaded.ensures.value) r.2 (c.requires.value r.0 (r.2).root_is ∙ h)

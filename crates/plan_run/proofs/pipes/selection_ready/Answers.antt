@@ -15,4 +15,4 @@ pub returns-clause-limit : goal.returns-clause-limit
 returns-clause-limit g c =
     let x = c.args.context.now in
     let r = c.requires in
-    limit-ready x.world (readings x.customs) r.0 r.1 (top_of c.args.top.now) c.args.rows.now.items (subst IsLoaded c.store.ensures c.data_is_loaded.ensures) (r.2).runs
+    limit-ready x.world (readings x.customs) r.0 r.1 (top_of c.args.top.now) c.args.rows.now.items (subst IsLoaded c.store.ensures c.data_is_loaded.ensures.value) (r.2).runs

@@ -39,7 +39,7 @@ returns-in_err-lists g c = λ f at.
     let w = c.args.context.now.world in
     let l = c.args.rows.now in
     let e = c.in_err-lists.field-0.0 in
-    let plain = c.as_slice-plain.ensures.value ∙ c.in_ok-plain.ensures ∙ ap (λ ks. plain_paths (keys_from (map key_of ks))) c.as_slice.ensures ∙ ap plain_paths (sym (keys_of-is c.args.keys.now)) in
+    let plain = c.as_slice-plain.ensures.value ∙ c.in_ok-plain.ensures ∙ ap (λ ks. plain_paths (keys_from (map key_of ks))) c.as_slice.ensures.value ∙ ap plain_paths (sym (keys_of-is c.args.keys.now)) in
     let given = subst (λ ks. GivesFor (λ (lists : Vec (Vec Value)). map (λ k. k.items) lists.items ≡ map (key_list w ks) l) w ks l (Err e)) plain c.in_err-lists.ensures in
     let q = err_from_is_err_and c.from_residual-in_err-lists.result c.from_residual-in_err-lists.ensures.1 in
     rw (q.1, q.2) (keys-err (λ (lists : Vec (Vec Value)). map (λ k. k.items) lists.items ≡ map (key_list w (plain_paths (keys_of c.args.keys.now))) l) w f (plain_paths (keys_of c.args.keys.now)) c.args.path.now c.args.shown.now l e given)
@@ -73,7 +73,7 @@ returns g c = λ f at.
     let l = c.args.rows.now in
     let s = c.nodes-found.result.set in
     let set = c.nodes-found.ensures.set f at in
-    let plain = c.as_slice-plain.ensures.value ∙ c.in_ok-plain.ensures ∙ ap (λ ks. plain_paths (keys_from (map key_of ks))) c.as_slice.ensures ∙ ap plain_paths (sym (keys_of-is c.args.keys.now)) in
+    let plain = c.as_slice-plain.ensures.value ∙ c.in_ok-plain.ensures ∙ ap (λ ks. plain_paths (keys_from (map key_of ks))) c.as_slice.ensures.value ∙ ap plain_paths (sym (keys_of-is c.args.keys.now)) in
     let nodes = c.as_slice-2.ensures.value ∙ c.in_ok-nodes.ensures.nodes.0 ∙ ap (λ (w : World). map (node_in w s p) l) c.store-store.ensures ∙ nodes-are w f s p l set in
     let lists = ap (map (λ k. k.items)) c.as_slice-3.ensures.value ∙ c.in_ok-lists.ensures.0 ∙ ap (λ ks. map (key_list w ks) l) plain in
     let quiet = ap (λ (w : World). path_values w p l) (sym c.store-store.ensures) in (

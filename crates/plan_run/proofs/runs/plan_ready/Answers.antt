@@ -10,7 +10,7 @@ returns-clause-runs g c =
     let x = c.args.context.now in
     let typed = subst (λ cs. IsTrue (customs_typed x.world.model (readings cs))) c.customs-customs.ensures.value c.customs-customs.ensures.whole in
     record {
-      runs = plan-runs x.world (readings x.customs) c.args.plan.now c.args.rows.now.items (subst IsLoaded c.store.ensures c.data_is_loaded.ensures) typed c.requires.plan c.requires.set c.requires.rows;
+      runs = plan-runs x.world (readings x.customs) c.args.plan.now c.args.rows.now.items (subst IsLoaded c.store.ensures c.data_is_loaded.ensures.value) typed c.requires.plan c.requires.set c.requires.rows;
       root_is = sym c.requires.root;
     }
 
@@ -24,4 +24,4 @@ pub returns-clause-means : goal.returns-clause-means
 returns-clause-means g c =
     let x = c.args.context.now in
     let typed = subst (λ cs. IsTrue (customs_typed x.world.model (readings cs))) c.customs-customs.ensures.value c.customs-customs.ensures.whole in
-    plan-means x.world (readings x.customs) c.args.plan.now (subst IsLoaded c.store.ensures c.data_is_loaded.ensures) typed c.requires.plan c.requires.set
+    plan-means x.world (readings x.customs) c.args.plan.now (subst IsLoaded c.store.ensures c.data_is_loaded.ensures.value) typed c.requires.plan c.requires.set

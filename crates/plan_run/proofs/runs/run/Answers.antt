@@ -21,7 +21,7 @@ plan_ready-requires-clause-named g c κs within =
 
 pub run_pipe-requires-clause-named : goal.run_pipe-requires-clause-named
 run_pipe-requires-clause-named g c κs within =
-    subst (λ (t : Typed). AreReady c.new-context.result (hierarchies (pipe_of t.pipe))) (sym c.typed-typed.ensures) c.plan_ready.ensures.named
+    subst (λ (t : Typed). AreReady c.new-context.result (hierarchies (pipe_of t.pipe))) (sym c.typed-typed.ensures.value) c.plan_ready.ensures.named
 
 pub returns-clause-mean : goal.returns-clause-mean
 returns-clause-mean g c =
@@ -29,7 +29,7 @@ returns-clause-mean g c =
     let cs = readings c.args.c.now in
     let own = own_of c.args.plan.now in
     let written = written_of c.args.plan.now in
-    let e = c.typed-typed.ensures in
+    let e = c.typed-typed.ensures.value in
     let S = shape_of_set w.model own.set in
     let l = c.in_ok-rows.rows.items in
     let x = c.new-context.result in
@@ -48,7 +48,7 @@ returns-clause-steps g c =
     let w = c.args.store.now in
     let cs = readings c.args.c.now in
     let own = own_of c.args.plan.now in
-    let e = c.typed-typed.ensures in
+    let e = c.typed-typed.ensures.value in
     let S = shape_of_set w.model own.set in
     let l = c.in_ok-rows.rows.items in
     let x = c.new-context.result in

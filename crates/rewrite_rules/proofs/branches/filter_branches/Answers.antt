@@ -15,7 +15,7 @@ returns-in_ok-shape-in-Some-2-clause-value c =
     subst (λ (R : Option (List Step)). IfOk c.into_branches.result (λ o. option_map (λ v. map step_of v.items) o ≡ R))
     (filter-given m cs (shape_behind m cs c.args.start.now (map step_of c.args.before.now)) b (step_of c.args.step.now) (map step_of c.args.rest.now) (pipes_of c.in-Some.branches.now)
     (sym c.branches_of.ensures ∙ ap (option_map (λ l. pipes_of l.now)) c.in-Some.is) (map pipe_of c.as_slice-branches.result.now)
-    (pipes_of-is c.in-Some.branches.now ∙ ap (λ l. pipes_from (map pipe_of l)) (sym c.as_slice-branches.ensures))
+    (pipes_of-is c.in-Some.branches.now ∙ ap (λ l. pipes_from (map pipe_of l)) (sym c.as_slice-branches.ensures.value))
     c.in_ok-there-in-Some.there c.in_ok-there-in-Some.ensures.value c.in_ok-shape-in-Some-2.shape c.as_slice.result.now c.in_ok-shape-in-Some-2.ensures.value
     (ap Some c.as_slice.ensures.value ∙ ap (option_map (λ v. v.items)) (sym c.in-Some-2.is) ∙ c.in_ok-shapes-in-Some.ensures.value))
     c.into_branches.ensures.value
@@ -26,5 +26,5 @@ returns-in-None-2-clause-value c =
     let cs = readings c.args.c.now in λ b.
     filter-untyped m cs (shape_behind m cs c.args.start.now (map step_of c.args.before.now)) b (step_of c.args.step.now) (map step_of c.args.rest.now) (pipes_of c.in-Some.branches.now)
     (sym c.branches_of.ensures ∙ ap (option_map (λ l. pipes_of l.now)) c.in-Some.is) (map pipe_of c.as_slice-branches.result.now)
-    (pipes_of-is c.in-Some.branches.now ∙ ap (λ l. pipes_from (map pipe_of l)) (sym c.as_slice-branches.ensures))
+    (pipes_of-is c.in-Some.branches.now ∙ ap (λ l. pipes_from (map pipe_of l)) (sym c.as_slice-branches.ensures.value))
     c.in_ok-there-in-Some.there c.in_ok-there-in-Some.ensures.value (ap (option_map (λ v. v.items)) (sym c.in-None-2.is) ∙ c.in_ok-shapes-in-Some.ensures.value)

@@ -17,5 +17,5 @@ returns-in_ok-entered-in-Some-clause-value c =
     let ss = map step_of c.args.rest.now in
     let b = expr_of c.in-Some.e.now in
     ap Some c.in_ok-entered-in-Some.ensures.value
-    ∙ (λ i. Some (entered ((step_of-Concat c.in_ok-ended_branches-in-Some.field-0 ∙ ap Step.Concat (c.in_ok-ended_branches-in-Some.ensures ∙ (λ j. pipes_from (map (λ p. ended p ((step_of-Filter c.in_ok-copy-in-Some.field-0 ∙ ap Step.Filter c.in_ok-copy-in-Some.ensures) j)) ps)))) i) ss c.in-Some.k))
+    ∙ (λ i. Some (entered ((step_of-Concat c.in_ok-ended_branches-in-Some.field-0 ∙ ap Step.Concat (c.in_ok-ended_branches-in-Some.ensures ∙ (λ j. pipes_from (map (λ p. ended p ((step_of-Filter c.in_ok-copy-in-Some.field-0 ∙ ap Step.Filter c.in_ok-copy-in-Some.ensures.value) j)) ps)))) i) ss c.in-Some.k))
     ∙ nearest-entered m S (is_test_on m c.args.shapes.now) ss c.in-Some.k b (sym (ap (option_map (λ x. (x.0, expr_of x.1.now))) c.in-Some.is) ∙ c.in_ok-k.ensures.value) (λ (b : Expr). concat (map (λ p. ended p (Step.Filter b)) ps))

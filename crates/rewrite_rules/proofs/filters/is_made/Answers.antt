@@ -4,10 +4,12 @@ use Rattle.rewrite_rules.proofs.NewPaths.{new-one, new-other}
 use Rattle.rewrite_rules.proofs.filters.is_made.Goals as goal
 
 pub returns-then-names-ne1 : goal.returns-then-names-ne1
-returns-then-names-ne1 c = new-other (map named_of c.args.made.now) c.args.path.now (λ h. c.if-names-ne1.true (ap length c.names-names.ensures.names ∙ h))
+returns-then-names-ne1 c = record { value = new-other (map named_of c.args.made.now) c.args.path.now (λ h. c.if-names-ne1.true (ap length c.names-names.ensures.names ∙ h)) }
 
 pub returns : goal.returns
 returns c =
-    let n = c.index-names-0.result in
-    c.is_new.ensures
-    ∙ new-one c.args.made.now c.args.path.now n (sym (ap length c.names-names.ensures.names) ∙ c.if-names-ne1.false) (c.index-names-0.is ∙ ap (λ l. get_or l 0 n) c.names-names.ensures.names)
+    record {
+      value = let n = c.index-names-0.result in
+          c.is_new.ensures
+          ∙ new-one c.args.made.now c.args.path.now n (sym (ap length c.names-names.ensures.names) ∙ c.if-names-ne1.false) (c.index-names-0.is ∙ ap (λ l. get_or l 0 n) c.names-names.ensures.names);
+    }

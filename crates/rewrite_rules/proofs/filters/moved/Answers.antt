@@ -8,7 +8,7 @@ returns-clause-value c =
     let xs = c.args.rest.now in
     let k = c.args.k in
     c.in_ok-put_copies.ensures
-    ∙ ap (λ l. l ++ map step_of (take (length xs - (k + 1)) (drop (k + 1) xs))) (c.in_ok-made.ensures.value ∙ (λ i. c.in_ok-last.ensures i ∷ c.in_ok-step.ensures i ∷ map step_of (take k xs)))
+    ∙ ap (λ l. l ++ map step_of (take (length xs - (k + 1)) (drop (k + 1) xs))) (c.in_ok-made.ensures.value ∙ (λ i. c.in_ok-last.ensures.value i ∷ c.in_ok-step.ensures.value i ∷ map step_of (take k xs)))
     ∙ moved-parts step_of (step_of c.args.step.now) xs k c.index-rest-k.result c.requires c.index-rest-k.is
 
 pub returns-clause-some : goal.returns-clause-some

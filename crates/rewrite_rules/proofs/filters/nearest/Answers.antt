@@ -18,23 +18,23 @@ returns-then-fits-clause-value c =
     let b = expr_of c.in-Some.e.now in
     search-here c.args.m.now c.args.shape.now (meets c.args.m.now c.args.shape.now c.args.condition.now) step_of c.args.rest.now c.loop-k.k c.index-rest-k.result c.loop-k-test.true c.index-rest-k.is c.loop-k.invariant b
     (sym c.filtered_by.ensures ∙ ap (option_map (λ e. expr_of e.now)) c.in-Some.is)
-    (sym (c.in_ok-fits.ensures ∙ ap (λ v. (c.loop-k.k == 0 || v) && meets c.args.m.now c.args.shape.now c.args.condition.now b) c.is_sure-sure.ensures) ∙ c.if-fits.true)
+    (sym (c.in_ok-fits.ensures ∙ ap (λ v. (c.loop-k.k == 0 || v) && meets c.args.m.now c.args.shape.now c.args.condition.now b) c.is_sure-sure.ensures.value) ∙ c.if-fits.true)
 
 pub returns-then-not-sure-clause-value : goal.returns-then-not-sure-clause-value
 returns-then-not-sure-clause-value c =
     let b = expr_of c.in-Some.e.now in
     search-stop c.args.m.now c.args.shape.now (meets c.args.m.now c.args.shape.now c.args.condition.now) step_of c.args.rest.now c.loop-k.k c.index-rest-k.result c.loop-k-test.true c.index-rest-k.is c.loop-k.invariant b
     (sym c.filtered_by.ensures ∙ ap (option_map (λ e. expr_of e.now)) c.in-Some.is)
-    (sym (c.in_ok-fits.ensures ∙ ap (λ v. (c.loop-k.k == 0 || v) && meets c.args.m.now c.args.shape.now c.args.condition.now b) c.is_sure-sure.ensures) ∙ c.if-fits.false)
-    (sym c.is_sure-sure.ensures ∙ c.if-not-sure.true)
+    (sym (c.in_ok-fits.ensures ∙ ap (λ v. (c.loop-k.k == 0 || v) && meets c.args.m.now c.args.shape.now c.args.condition.now b) c.is_sure-sure.ensures.value) ∙ c.if-fits.false)
+    (sym c.is_sure-sure.ensures.value ∙ c.if-not-sure.true)
 
 pub loop-k-preserved : goal.loop-k-preserved
 loop-k-preserved c =
     let b = expr_of c.in-Some.e.now in
     search-past c.args.m.now c.args.shape.now (meets c.args.m.now c.args.shape.now c.args.condition.now) step_of c.args.rest.now c.loop-k.k c.index-rest-k.result c.loop-k-test.true c.index-rest-k.is c.loop-k.invariant b
     (sym c.filtered_by.ensures ∙ ap (option_map (λ e. expr_of e.now)) c.in-Some.is)
-    (sym (c.in_ok-fits.ensures ∙ ap (λ v. (c.loop-k.k == 0 || v) && meets c.args.m.now c.args.shape.now c.args.condition.now b) c.is_sure-sure.ensures) ∙ c.if-fits.false)
-    (sym c.is_sure-sure.ensures ∙ c.if-not-sure.false)
+    (sym (c.in_ok-fits.ensures ∙ ap (λ v. (c.loop-k.k == 0 || v) && meets c.args.m.now c.args.shape.now c.args.condition.now b) c.is_sure-sure.ensures.value) ∙ c.if-fits.false)
+    (sym c.is_sure-sure.ensures.value ∙ c.if-not-sure.false)
 
 pub returns-clause-value : goal.returns-clause-value
 returns-clause-value c =

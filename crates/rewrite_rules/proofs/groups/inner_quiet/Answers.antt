@@ -11,13 +11,15 @@ returns-in-Some c =
     let m = c.args.m.now in
     let cs = readings c.args.c.now in
     let S = c.args.shape.now in
-    subst (λ (R : Bool). IfOk c.is_quiet.result (λ quiet. quiet ≡ R))
-    (sym (inner_quiet-SomePipe m cs S (pipe_of c.in-Some.pipe)) ∙ ap (λ o. inner_quiet m cs S (inner_of (option_map pipe_of o))) (sym c.in-Some.is))
-    c.is_quiet.ensures
+    record {
+      value = subst (λ (R : Bool). IfOk c.is_quiet.result (λ quiet. quiet ≡ R))
+          (sym (inner_quiet-SomePipe m cs S (pipe_of c.in-Some.pipe)) ∙ ap (λ o. inner_quiet m cs S (inner_of (option_map pipe_of o))) (sym c.in-Some.is))
+          c.is_quiet.ensures.value;
+    }
 
 pub returns-in-None : goal.returns-in-None
 returns-in-None c =
     let m = c.args.m.now in
     let cs = readings c.args.c.now in
     let S = c.args.shape.now in
-    sym (inner_quiet-NoPipe m cs S) ∙ ap (λ o. inner_quiet m cs S (inner_of (option_map pipe_of o))) (sym c.in-None.is)
+    record { value = sym (inner_quiet-NoPipe m cs S) ∙ ap (λ o. inner_quiet m cs S (inner_of (option_map pipe_of o))) (sym c.in-None.is) }

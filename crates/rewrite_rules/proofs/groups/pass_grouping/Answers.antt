@@ -25,6 +25,6 @@ returns-in_ok-over-in-Some-clause-value c =
     (grouping-given m cs (shape_behind m cs c.args.start.now (map step_of c.args.before.now)) b (is_of c.args.kind) (step_of c.args.step.now) (map step_of c.args.rest.now) (keys_from (map key_of c.in-Some.keys.now)) (inner_of (option_map pipe_of c.in-Some.inner.now))
     (sym c.grouped_by.ensures ∙ ap (option_map (λ x. (keys_from (map key_of x.0.now), inner_of (option_map pipe_of x.1.now)))) c.in-Some.is)
     c.in_ok-there-in-Some.there c.in_ok-shape-in-Some.shape c.deref.result.now
-    c.in_ok-there-in-Some.ensures.value c.in_ok-shape-in-Some.ensures.value (c.deref.ensures.value ∙ c.in_ok-over-in-Some.ensures)
-    (sym c.has_part.ensures ∙ c.if-not-has_part.false) (sym c.in_ok-quiet-in-Some.ensures ∙ c.if-not-quiet.false))
+    c.in_ok-there-in-Some.ensures.value c.in_ok-shape-in-Some.ensures.value (c.deref.ensures.value ∙ c.in_ok-over-in-Some.ensures.value)
+    (sym c.has_part.ensures ∙ c.if-not-has_part.false) (sym c.in_ok-quiet-in-Some.ensures.value ∙ c.if-not-quiet.false))
     c.passed_by.ensures.value

@@ -18,7 +18,7 @@ returns-in-Some-clause-value c =
     let ss = map step_of c.steps.result.now in
     let typed = ap (λ o. is_some (inner_shape m cs S S (inner_of (option_map pipe_of o)))) (sym c.in-Some.is) ∙ c.requires.typed in
     let there =
-    ap (λ (Z : Shape). Some (shape_behind m cs Z ss)) c.set_shape-start.ensures ∙ chosen-behind m cs S (pipe_of c.in-Some.pipe) ss c.steps.ensures.tree typed
+    ap (λ (Z : Shape). Some (shape_behind m cs Z ss)) c.set_shape-start.ensures.value ∙ chosen-behind m cs S (pipe_of c.in-Some.pipe) ss c.steps.ensures.tree typed
     ∙ ap (λ o. inner_shape m cs S S (inner_of (option_map pipe_of o))) (sym c.in-Some.is) in
     IfOk-weaker c.shape_behind.result (λ Z. Z ≡ shape_behind m cs c.set_shape-start.result ss) (λ Z. Some Z ≡ inner_shape m cs S S (inner_of (option_map pipe_of c.args.chosen.now))) (λ Z e. ap Some e ∙ there) c.shape_behind.ensures.value
 
@@ -27,4 +27,4 @@ returns-in-None-clause-value c =
     let m = c.args.m.now in
     let cs = readings c.args.c.now in
     let S = set_shape c.args.of in
-    ap Some c.set_shape-start.ensures ∙ sym (inner_shape-NoPipe m cs S S) ∙ ap (λ o. inner_shape m cs S S (inner_of (option_map pipe_of o))) (sym c.in-None.is)
+    ap Some c.set_shape-start.ensures.value ∙ sym (inner_shape-NoPipe m cs S S) ∙ ap (λ o. inner_shape m cs S S (inner_of (option_map pipe_of o))) (sym c.in-None.is)

@@ -10,7 +10,7 @@ pub returns-in_ok-chosen-in-Recursive : goal.returns-in_ok-chosen-in-Recursive
 returns-in_ok-chosen-in-Recursive c =
     let made =
     c.in_ok-chosen-in-Recursive.ensures.value
-    ∙ ap (ended_inner (inner_of (option_map pipe_of c.in-Recursive.chosen))) (step_of-Filter c.in_ok-copy-in-Recursive.field-0 ∙ ap Step.Filter c.in_ok-copy-in-Recursive.ensures) in
+    ∙ ap (ended_inner (inner_of (option_map pipe_of c.in-Recursive.chosen))) (step_of-Filter c.in_ok-copy-in-Recursive.field-0 ∙ ap Step.Filter c.in_ok-copy-in-Recursive.ensures.value) in
     key_of-Recursive c.in_ok-hier-in-Recursive.hier c.in_ok-path-in-Recursive.path (Some c.in_ok-chosen-in-Recursive.chosen)
-    ∙ (λ i. Key.Recursive (hier_of (c.in_ok-hier-in-Recursive.ensures i)) (c.in_ok-path-in-Recursive.ensures i) (made i))
+    ∙ (λ i. Key.Recursive (hier_of (c.in_ok-hier-in-Recursive.ensures.value i)) (c.in_ok-path-in-Recursive.ensures.value i) (made i))
     ∙ sym (ap (ended_key (Step.Filter (expr_of c.args.test.now))) (ap key_of c.in-Recursive.is ∙ key_of-Recursive c.in-Recursive.hier c.in-Recursive.path c.in-Recursive.chosen))

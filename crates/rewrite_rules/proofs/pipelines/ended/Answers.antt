@@ -9,5 +9,5 @@ pub returns : goal.returns
 returns c =
     c.new.ensures.tree
     ∙ ap pipe (ap (map step_of) c.in_ok-push.ensures.items ∙ map-append step_of c.in_ok-steps.steps.items (c.in_ok-copy.field-0 ∷ [])
-    ∙ (λ i. c.in_ok-steps.ensures i ++ c.in_ok-copy.ensures i ∷ [])
+    ∙ (λ i. c.in_ok-steps.ensures i ++ c.in_ok-copy.ensures.value i ∷ [])
     ∙ ap (λ l. l ++ step_of c.args.step.now ∷ []) (sym (steps-pipe (map step_of c.steps.result.now)) ∙ ap steps (sym c.steps.ensures.tree)))

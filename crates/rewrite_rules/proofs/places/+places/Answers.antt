@@ -83,7 +83,7 @@ pub in_step-returns-in_ok-copy_inner-in-Some : goal.in_step-returns-in_ok-copy_i
 in_step-returns-in_ok-copy_inner-in-Some t c =
     group_keys-answer (rule_of c.args.rule) c.args.m.now (readings c.args.c.now) (shape_behind c.args.m.now (readings c.args.c.now) c.args.start.now (map step_of c.args.before.now)) (keys_of c.in-GroupBy.keys) (keys_of c.in-Some.made) (inner_of (option_map pipe_of c.in-GroupBy.inner)) (step_of c.args.step.now) (step_of (step.GroupBy c.in-Some.made c.in_ok-copy_inner-in-Some.field-0))
     (ap step_of c.in-GroupBy.is ∙ step_of-GroupBy c.in-GroupBy.keys c.in-GroupBy.inner) (sym (ap (option_map keys_of) c.in-Some.is) ∙ c.in_ok-made-in-GroupBy.ensures)
-    (step_of-GroupBy c.in-Some.made c.in_ok-copy_inner-in-Some.field-0 ∙ ap (λ i. Step.GroupBy (keys_of c.in-Some.made) (inner_of i)) c.in_ok-copy_inner-in-Some.ensures)
+    (step_of-GroupBy c.in-Some.made c.in_ok-copy_inner-in-Some.field-0 ∙ ap (λ i. Step.GroupBy (keys_of c.in-Some.made) (inner_of i)) c.in_ok-copy_inner-in-Some.ensures.value)
 
 pub in_step-returns-in_ok-made-in-None : goal.in_step-returns-in_ok-made-in-None
 in_step-returns-in_ok-made-in-None t c =
@@ -100,12 +100,12 @@ in_groups-returns-in_ok-shape-in-Some t c =
 pub in_keys-returns-in-Some : goal.in_keys-returns-in-Some
 in_keys-returns-in-Some t c =
     keys-answer (rule_of c.args.rule) c.args.m.now (readings c.args.c.now) key_of c.as_slice-all.result.now c.loop-i.i c.index-all-i.result (key_of c.in-Some.made) (keys_of c.args.keys.now) (keys_of c.in_ok-with_key.field-0) c.loop-i-test.true c.index-all-i.is c.loop-i.invariant
-    (sym (ap (option_map key_of) c.in-Some.is) ∙ c.in_ok-made.ensures) (keys_of-is c.args.keys.now ∙ ap (λ l. keys_from (map key_of l)) (sym c.as_slice-all.ensures)) c.in_ok-with_key.ensures
+    (sym (ap (option_map key_of) c.in-Some.is) ∙ c.in_ok-made.ensures) (keys_of-is c.args.keys.now ∙ ap (λ l. keys_from (map key_of l)) (sym c.as_slice-all.ensures.value)) c.in_ok-with_key.ensures
 
 pub in_keys-returns : goal.in_keys-returns
 in_keys-returns t c =
     let end : length c.as_slice-all.result.now ≤ c.loop-i.i = omega (arith, c.loop-i-test.false) in
-    keys-answer_none (rule_of c.args.rule) c.args.m.now (readings c.args.c.now) key_of c.as_slice-all.result.now c.loop-i.i (keys_of c.args.keys.now) end c.loop-i.invariant (keys_of-is c.args.keys.now ∙ ap (λ l. keys_from (map key_of l)) (sym c.as_slice-all.ensures))
+    keys-answer_none (rule_of c.args.rule) c.args.m.now (readings c.args.c.now) key_of c.as_slice-all.result.now c.loop-i.i (keys_of c.args.keys.now) end c.loop-i.invariant (keys_of-is c.args.keys.now ∙ ap (λ l. keys_from (map key_of l)) (sym c.as_slice-all.ensures.value))
 
 pub in_nodes-returns-in_ok-made-in-Some : goal.in_nodes-returns-in_ok-made-in-Some
 in_nodes-returns-in_ok-made-in-Some t c =
@@ -124,12 +124,12 @@ in_concat-returns t c = concat-answer_none (rule_of c.args.rule) c.args.m.now (r
 pub in_branches-returns-in-Some : goal.in_branches-returns-in-Some
 in_branches-returns-in-Some t c =
     branches-answer (rule_of c.args.rule) c.args.m.now (readings c.args.c.now) c.args.shape.now pipe_of c.as_slice-all.result.now c.loop-i.i c.index-all-i.result (pipe_of c.in-Some.made) (pipes_of c.args.branches.now) (pipes_of c.in_ok-with_branch.field-0) c.loop-i-test.true c.index-all-i.is c.loop-i.invariant
-    (sym (ap (option_map pipe_of) c.in-Some.is) ∙ c.in_ok-made.ensures) (pipes_of-is c.args.branches.now ∙ ap (λ l. pipes_from (map pipe_of l)) (sym c.as_slice-all.ensures)) c.in_ok-with_branch.ensures
+    (sym (ap (option_map pipe_of) c.in-Some.is) ∙ c.in_ok-made.ensures) (pipes_of-is c.args.branches.now ∙ ap (λ l. pipes_from (map pipe_of l)) (sym c.as_slice-all.ensures.value)) c.in_ok-with_branch.ensures
 
 pub in_branches-returns : goal.in_branches-returns
 in_branches-returns t c =
     let end : length c.as_slice-all.result.now ≤ c.loop-i.i = omega (arith, c.loop-i-test.false) in
-    branches-answer_none (rule_of c.args.rule) c.args.m.now (readings c.args.c.now) c.args.shape.now pipe_of c.as_slice-all.result.now c.loop-i.i (pipes_of c.args.branches.now) end c.loop-i.invariant (pipes_of-is c.args.branches.now ∙ ap (λ l. pipes_from (map pipe_of l)) (sym c.as_slice-all.ensures))
+    branches-answer_none (rule_of c.args.rule) c.args.m.now (readings c.args.c.now) c.args.shape.now pipe_of c.as_slice-all.result.now c.loop-i.i (pipes_of c.args.branches.now) end c.loop-i.invariant (pipes_of-is c.args.branches.now ∙ ap (λ l. pipes_from (map pipe_of l)) (sym c.as_slice-all.ensures.value))
 
 pub in_join-returns-in_ok-made-in-Some : goal.in_join-returns-in_ok-made-in-Some
 in_join-returns-in_ok-made-in-Some t c =
@@ -154,10 +154,10 @@ pub in_step-grouping_is_typed-requires-clause-grouping : goal.in_step-grouping_i
 in_step-grouping_is_typed-requires-clause-grouping t c = ap step_of c.in-GroupBy.is ∙ step_of-GroupBy c.in-GroupBy.keys c.in-GroupBy.inner
 
 pub in_keys-key_is_typed-requires-clause-whole : goal.in_keys-key_is_typed-requires-clause-whole
-in_keys-key_is_typed-requires-clause-whole t c = keys_of-is c.args.keys.now ∙ ap (λ l. keys_from (map key_of l)) (sym c.as_slice-all.ensures)
+in_keys-key_is_typed-requires-clause-whole t c = keys_of-is c.args.keys.now ∙ ap (λ l. keys_from (map key_of l)) (sym c.as_slice-all.ensures.value)
 
 pub in_nodes-nodes_are_typed-requires-clause-of : goal.in_nodes-nodes_are_typed-requires-clause-of
 in_nodes-nodes_are_typed-requires-clause-of t c = c.type_of-of.ensures.value ∙ ap (option_map (λ x. x.0)) c.nodes_of.ensures.value
 
 pub in_branches-branch_is_typed-requires-clause-whole : goal.in_branches-branch_is_typed-requires-clause-whole
-in_branches-branch_is_typed-requires-clause-whole t c = pipes_of-is c.args.branches.now ∙ ap (λ l. pipes_from (map pipe_of l)) (sym c.as_slice-all.ensures)
+in_branches-branch_is_typed-requires-clause-whole t c = pipes_of-is c.args.branches.now ∙ ap (λ l. pipes_from (map pipe_of l)) (sym c.as_slice-all.ensures.value)

@@ -18,9 +18,9 @@ returns-then-not-order_sure-clause-value c =
     let m = c.args.m.now in
     let cs = readings c.args.c.now in λ b.
     drop-kept m cs (shape_behind m cs c.args.start.now (map step_of c.args.before.now)) b c.in_ok-shape-in-Some.shape c.in_ok-shape-in-Some.ensures.value (step_of c.args.step.now) (map step_of c.args.rest.now) (map item_of c.as_slice.result.now)
-    (sym c.ordered_by.ensures ∙ ap (option_map (λ l. map item_of l.now)) c.in-Some.is ∙ ap (λ l. Some (map item_of l)) (sym c.as_slice.ensures))
+    (sym c.ordered_by.ensures ∙ ap (option_map (λ l. map item_of l.now)) c.in-Some.is ∙ ap (λ l. Some (map item_of l)) (sym c.as_slice.ensures.value))
     (sym c.begins_with_aggregate.ensures ∙ c.if-not-begins_with_aggregate.false)
-    (sym c.order_sure.ensures ∙ c.if-not-order_sure.true)
+    (sym c.order_sure.ensures.value ∙ c.if-not-order_sure.true)
 
 pub returns-in_ok-copies-in-Some-clause-value : goal.returns-in_ok-copies-in-Some-clause-value
 returns-in_ok-copies-in-Some-clause-value c =
@@ -28,9 +28,9 @@ returns-in_ok-copies-in-Some-clause-value c =
     let cs = readings c.args.c.now in λ b.
     ap Some c.in_ok-copies-in-Some.ensures
     ∙ drop-given m cs (shape_behind m cs c.args.start.now (map step_of c.args.before.now)) b c.in_ok-shape-in-Some.shape c.in_ok-shape-in-Some.ensures.value (step_of c.args.step.now) (map step_of c.args.rest.now) (map item_of c.as_slice.result.now)
-    (sym c.ordered_by.ensures ∙ ap (option_map (λ l. map item_of l.now)) c.in-Some.is ∙ ap (λ l. Some (map item_of l)) (sym c.as_slice.ensures))
+    (sym c.ordered_by.ensures ∙ ap (option_map (λ l. map item_of l.now)) c.in-Some.is ∙ ap (λ l. Some (map item_of l)) (sym c.as_slice.ensures.value))
     (sym c.begins_with_aggregate.ensures ∙ c.if-not-begins_with_aggregate.false)
-    (sym c.order_sure.ensures ∙ c.if-not-order_sure.false)
+    (sym c.order_sure.ensures.value ∙ c.if-not-order_sure.false)
 
 pub returns-in_ok-copies-in-Some-clause-some : goal.returns-in_ok-copies-in-Some-clause-some
 returns-in_ok-copies-in-Some-clause-some c =

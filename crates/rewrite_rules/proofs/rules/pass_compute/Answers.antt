@@ -24,7 +24,7 @@ returns-in_ok-shape-in-Some-clause-value c =
     let ns = map named_of c.as_slice.result.now in λ b.
     subst (λ (R : Option (List Step)). IfOk c.passed_by.result (λ o. option_map (λ v. map step_of v.items) o ≡ R))
     (compute-given m cs S b s (map step_of c.args.rest.now) ns c.in_ok-shape-in-Some.shape
-    (sym c.computed_by.ensures ∙ ap (option_map (λ l. map named_of l.now)) c.in-Some.is ∙ ap (λ l. Some (map named_of l)) (sym c.as_slice.ensures))
+    (sym c.computed_by.ensures ∙ ap (option_map (λ l. map named_of l.now)) c.in-Some.is ∙ ap (λ l. Some (map named_of l)) (sym c.as_slice.ensures.value))
     (c.in_ok-shape-in-Some.ensures.value ∙ ap (λ Z. after m cs Z s) c.in_ok-there-in-Some.ensures.value))
     c.passed_by.ensures.value
 

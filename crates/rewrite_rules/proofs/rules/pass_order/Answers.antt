@@ -19,8 +19,8 @@ returns-then-not-order_sure-clause-value c =
     let m = c.args.m.now in
     let cs = readings c.args.c.now in λ b.
     order-kept m cs (shape_behind m cs c.args.start.now (map step_of c.args.before.now)) b c.in_ok-shape-in-Some.shape c.in_ok-shape-in-Some.ensures.value (step_of c.args.step.now) (map step_of c.args.rest.now) (map item_of c.as_slice.result.now)
-    (sym c.ordered_by.ensures ∙ ap (option_map (λ l. map item_of l.now)) c.in-Some.is ∙ ap (λ l. Some (map item_of l)) (sym c.as_slice.ensures))
-    (sym c.order_sure.ensures ∙ c.if-not-order_sure.true)
+    (sym c.ordered_by.ensures ∙ ap (option_map (λ l. map item_of l.now)) c.in-Some.is ∙ ap (λ l. Some (map item_of l)) (sym c.as_slice.ensures.value))
+    (sym c.order_sure.ensures.value ∙ c.if-not-order_sure.true)
 
 pub returns-else-not-order_sure-clause-value : goal.returns-else-not-order_sure-clause-value
 returns-else-not-order_sure-clause-value c =
@@ -28,8 +28,8 @@ returns-else-not-order_sure-clause-value c =
     let cs = readings c.args.c.now in λ b.
     subst (λ (R : Option (List Step)). IfOk c.passed_by.result (λ o. option_map (λ v. map step_of v.items) o ≡ R))
     (order-given m cs (shape_behind m cs c.args.start.now (map step_of c.args.before.now)) b c.in_ok-shape-in-Some.shape c.in_ok-shape-in-Some.ensures.value (step_of c.args.step.now) (map step_of c.args.rest.now) (map item_of c.as_slice.result.now)
-    (sym c.ordered_by.ensures ∙ ap (option_map (λ l. map item_of l.now)) c.in-Some.is ∙ ap (λ l. Some (map item_of l)) (sym c.as_slice.ensures))
-    (sym c.order_sure.ensures ∙ c.if-not-order_sure.false))
+    (sym c.ordered_by.ensures ∙ ap (option_map (λ l. map item_of l.now)) c.in-Some.is ∙ ap (λ l. Some (map item_of l)) (sym c.as_slice.ensures.value))
+    (sym c.order_sure.ensures.value ∙ c.if-not-order_sure.false))
     c.passed_by.ensures.value
 
 pub returns-in-None-clause-value : goal.returns-in-None-clause-value

@@ -15,18 +15,18 @@ returns-then-not-is_sure-clause-value c =
     split-kept m cs (shape_behind m cs c.args.start.now (map step_of c.args.before.now)) b c.in_ok-shape-in-Some.shape c.in_ok-shape-in-Some.ensures.value (step_of c.args.step.now) (map step_of c.args.rest.now)
     (expr_of c.in-Some.first.now, expr_of c.in-Some.second.now)
     (sym c.operands.ensures ∙ ap (option_map (λ x. (expr_of x.0.now, expr_of x.1.now))) c.in-Some.is)
-    (sym c.is_sure.ensures ∙ c.if-not-is_sure.true)
+    (sym c.is_sure.ensures.value ∙ c.if-not-is_sure.true)
 
 pub returns-in_ok-two_before_copies-in-Some-clause-value : goal.returns-in_ok-two_before_copies-in-Some-clause-value
 returns-in_ok-two_before_copies-in-Some-clause-value c =
     let m = c.args.m.now in
     let cs = readings c.args.c.now in
-    let made = c.in_ok-two_before_copies-in-Some.ensures.value ∙ (λ i. (step_of-Filter c.in_ok-copy-in-Some.field-0 ∙ ap Step.Filter c.in_ok-copy-in-Some.ensures) i ∷ (step_of-Filter c.in_ok-copy-in-Some-2.field-0 ∙ ap Step.Filter c.in_ok-copy-in-Some-2.ensures) i ∷ map step_of c.args.rest.now) in λ b.
+    let made = c.in_ok-two_before_copies-in-Some.ensures.value ∙ (λ i. (step_of-Filter c.in_ok-copy-in-Some.field-0 ∙ ap Step.Filter c.in_ok-copy-in-Some.ensures.value) i ∷ (step_of-Filter c.in_ok-copy-in-Some-2.field-0 ∙ ap Step.Filter c.in_ok-copy-in-Some-2.ensures.value) i ∷ map step_of c.args.rest.now) in λ b.
     ap Some made
     ∙ split-given m cs (shape_behind m cs c.args.start.now (map step_of c.args.before.now)) b c.in_ok-shape-in-Some.shape c.in_ok-shape-in-Some.ensures.value (step_of c.args.step.now) (map step_of c.args.rest.now)
     (expr_of c.in-Some.first.now, expr_of c.in-Some.second.now)
     (sym c.operands.ensures ∙ ap (option_map (λ x. (expr_of x.0.now, expr_of x.1.now))) c.in-Some.is)
-    (sym c.is_sure.ensures ∙ c.if-not-is_sure.false)
+    (sym c.is_sure.ensures.value ∙ c.if-not-is_sure.false)
 
 pub returns-in-None-clause-value : goal.returns-in-None-clause-value
 returns-in-None-clause-value c =

@@ -26,7 +26,7 @@ same_pipe-returns t c =
 pub same_branches-returns-then-branches-others : goal.same_branches-returns-then-branches-others
 same_branches-returns-then-branches-others t c =
     same-long (λ x y. pipe_same (pipe_of x) (pipe_of y)) c.as_slice-branches.result.now c.as_slice-others.result.now c.if-branches-others.true
-    ∙ branches-same pipe_of c.as_slice-branches.result.now c.as_slice-others.result.now (pipes_of c.args.a.now) (pipes_of c.args.b.now) (pipes_of-is c.args.a.now ∙ ap (λ l. pipes_from (map pipe_of l)) (sym c.as_slice-branches.ensures)) (pipes_of-is c.args.b.now ∙ ap (λ l. pipes_from (map pipe_of l)) (sym c.as_slice-others.ensures))
+    ∙ branches-same pipe_of c.as_slice-branches.result.now c.as_slice-others.result.now (pipes_of c.args.a.now) (pipes_of c.args.b.now) (pipes_of-is c.args.a.now ∙ ap (λ l. pipes_from (map pipe_of l)) (sym c.as_slice-branches.ensures.value)) (pipes_of-is c.args.b.now ∙ ap (λ l. pipes_from (map pipe_of l)) (sym c.as_slice-others.ensures.value))
 
 pub same_branches-loop-i-preserved : goal.same_branches-loop-i-preserved
 same_branches-loop-i-preserved t c = same-next (λ x y. pipe_same (pipe_of x) (pipe_of y)) c.as_slice-branches.result.now c.as_slice-others.result.now c.loop-i.i c.index-branches-i.result c.index-others-i.result (omega arith) c.index-branches-i.is (omega arith) c.index-others-i.is c.loop-i.invariant (sym c.same_pipe.ensures ∙ c.if-not-same_pipe.false)
@@ -34,17 +34,17 @@ same_branches-loop-i-preserved t c = same-next (λ x y. pipe_same (pipe_of x) (p
 pub same_branches-returns-then-not-same_pipe : goal.same_branches-returns-then-not-same_pipe
 same_branches-returns-then-not-same_pipe t c =
     same-stop (λ x y. pipe_same (pipe_of x) (pipe_of y)) c.as_slice-branches.result.now c.as_slice-others.result.now c.loop-i.i c.index-branches-i.result c.index-others-i.result (omega arith) c.index-branches-i.is (omega arith) c.index-others-i.is c.loop-i.invariant (sym c.same_pipe.ensures ∙ c.if-not-same_pipe.true)
-    ∙ branches-same pipe_of c.as_slice-branches.result.now c.as_slice-others.result.now (pipes_of c.args.a.now) (pipes_of c.args.b.now) (pipes_of-is c.args.a.now ∙ ap (λ l. pipes_from (map pipe_of l)) (sym c.as_slice-branches.ensures)) (pipes_of-is c.args.b.now ∙ ap (λ l. pipes_from (map pipe_of l)) (sym c.as_slice-others.ensures))
+    ∙ branches-same pipe_of c.as_slice-branches.result.now c.as_slice-others.result.now (pipes_of c.args.a.now) (pipes_of c.args.b.now) (pipes_of-is c.args.a.now ∙ ap (λ l. pipes_from (map pipe_of l)) (sym c.as_slice-branches.ensures.value)) (pipes_of-is c.args.b.now ∙ ap (λ l. pipes_from (map pipe_of l)) (sym c.as_slice-others.ensures.value))
 
 pub same_branches-returns : goal.same_branches-returns
 same_branches-returns t c =
     same-end (λ x y. pipe_same (pipe_of x) (pipe_of y)) c.as_slice-branches.result.now c.as_slice-others.result.now c.loop-i.i (omega arith) (omega arith) c.loop-i.invariant
-    ∙ branches-same pipe_of c.as_slice-branches.result.now c.as_slice-others.result.now (pipes_of c.args.a.now) (pipes_of c.args.b.now) (pipes_of-is c.args.a.now ∙ ap (λ l. pipes_from (map pipe_of l)) (sym c.as_slice-branches.ensures)) (pipes_of-is c.args.b.now ∙ ap (λ l. pipes_from (map pipe_of l)) (sym c.as_slice-others.ensures))
+    ∙ branches-same pipe_of c.as_slice-branches.result.now c.as_slice-others.result.now (pipes_of c.args.a.now) (pipes_of c.args.b.now) (pipes_of-is c.args.a.now ∙ ap (λ l. pipes_from (map pipe_of l)) (sym c.as_slice-branches.ensures.value)) (pipes_of-is c.args.b.now ∙ ap (λ l. pipes_from (map pipe_of l)) (sym c.as_slice-others.ensures.value))
 
 pub same_keys-returns-then-keys-others : goal.same_keys-returns-then-keys-others
 same_keys-returns-then-keys-others t c =
     same-long (λ x y. key_same (key_of x) (key_of y)) c.as_slice-keys.result.now c.as_slice-others.result.now c.if-keys-others.true
-    ∙ keys-same key_of c.as_slice-keys.result.now c.as_slice-others.result.now (keys_of c.args.a.now) (keys_of c.args.b.now) (keys_of-is c.args.a.now ∙ ap (λ l. keys_from (map key_of l)) (sym c.as_slice-keys.ensures)) (keys_of-is c.args.b.now ∙ ap (λ l. keys_from (map key_of l)) (sym c.as_slice-others.ensures))
+    ∙ keys-same key_of c.as_slice-keys.result.now c.as_slice-others.result.now (keys_of c.args.a.now) (keys_of c.args.b.now) (keys_of-is c.args.a.now ∙ ap (λ l. keys_from (map key_of l)) (sym c.as_slice-keys.ensures.value)) (keys_of-is c.args.b.now ∙ ap (λ l. keys_from (map key_of l)) (sym c.as_slice-others.ensures.value))
 
 pub same_keys-loop-i-preserved : goal.same_keys-loop-i-preserved
 same_keys-loop-i-preserved t c = same-next (λ x y. key_same (key_of x) (key_of y)) c.as_slice-keys.result.now c.as_slice-others.result.now c.loop-i.i c.index-keys-i.result c.index-others-i.result (omega arith) c.index-keys-i.is (omega arith) c.index-others-i.is c.loop-i.invariant (sym c.same_key.ensures ∙ c.if-not-same_key.false)
@@ -52,9 +52,9 @@ same_keys-loop-i-preserved t c = same-next (λ x y. key_same (key_of x) (key_of 
 pub same_keys-returns-then-not-same_key : goal.same_keys-returns-then-not-same_key
 same_keys-returns-then-not-same_key t c =
     same-stop (λ x y. key_same (key_of x) (key_of y)) c.as_slice-keys.result.now c.as_slice-others.result.now c.loop-i.i c.index-keys-i.result c.index-others-i.result (omega arith) c.index-keys-i.is (omega arith) c.index-others-i.is c.loop-i.invariant (sym c.same_key.ensures ∙ c.if-not-same_key.true)
-    ∙ keys-same key_of c.as_slice-keys.result.now c.as_slice-others.result.now (keys_of c.args.a.now) (keys_of c.args.b.now) (keys_of-is c.args.a.now ∙ ap (λ l. keys_from (map key_of l)) (sym c.as_slice-keys.ensures)) (keys_of-is c.args.b.now ∙ ap (λ l. keys_from (map key_of l)) (sym c.as_slice-others.ensures))
+    ∙ keys-same key_of c.as_slice-keys.result.now c.as_slice-others.result.now (keys_of c.args.a.now) (keys_of c.args.b.now) (keys_of-is c.args.a.now ∙ ap (λ l. keys_from (map key_of l)) (sym c.as_slice-keys.ensures.value)) (keys_of-is c.args.b.now ∙ ap (λ l. keys_from (map key_of l)) (sym c.as_slice-others.ensures.value))
 
 pub same_keys-returns : goal.same_keys-returns
 same_keys-returns t c =
     same-end (λ x y. key_same (key_of x) (key_of y)) c.as_slice-keys.result.now c.as_slice-others.result.now c.loop-i.i (omega arith) (omega arith) c.loop-i.invariant
-    ∙ keys-same key_of c.as_slice-keys.result.now c.as_slice-others.result.now (keys_of c.args.a.now) (keys_of c.args.b.now) (keys_of-is c.args.a.now ∙ ap (λ l. keys_from (map key_of l)) (sym c.as_slice-keys.ensures)) (keys_of-is c.args.b.now ∙ ap (λ l. keys_from (map key_of l)) (sym c.as_slice-others.ensures))
+    ∙ keys-same key_of c.as_slice-keys.result.now c.as_slice-others.result.now (keys_of c.args.a.now) (keys_of c.args.b.now) (keys_of-is c.args.a.now ∙ ap (λ l. keys_from (map key_of l)) (sym c.as_slice-keys.ensures.value)) (keys_of-is c.args.b.now ∙ ap (λ l. keys_from (map key_of l)) (sym c.as_slice-others.ensures.value))

@@ -12,5 +12,5 @@ returns-in-Some-clause-types c =
     let m = c.args.m.now in
     let cs = readings c.args.c.now in
     let y : Outcome = record { shape = c.outcome.inside.shape; quiet = c.outcome.inside.quiet } in
-    let e : step_outcome m cs c.in_ok-copy.field-0 (step_of c.args.step.now) ≡ Some y = sym c.in_ok-outcome.ensures ∙ c.in-Some.is ∙ ap Some (sym c.outcome.view_is) in
-    step-types m cs c.requires.sound (step_of c.args.step.now) c.in_ok-copy.field-0 y.shape (ap (has_types m) c.in_ok-copy.ensures ∙ c.requires.types) (outcome-parts _ _ y e).0
+    let e : step_outcome m cs c.in_ok-copy.field-0 (step_of c.args.step.now) ≡ Some y = sym c.in_ok-outcome.ensures.value ∙ c.in-Some.is ∙ ap Some (sym c.outcome.view_is) in
+    step-types m cs c.requires.sound (step_of c.args.step.now) c.in_ok-copy.field-0 y.shape (ap (has_types m) c.in_ok-copy.ensures.value ∙ c.requires.types) (outcome-parts _ _ y e).0

@@ -11,8 +11,8 @@ use Rattle.rewrite_rules.proofs.shapes.steps_shape.Goals as goal
 pub loop-step-init : goal.loop-step-init
 loop-step-init c =
     let m = c.args.m.now in (
-      ap (has_types m) c.in_ok-shape.ensures ∙ c.requires.types,
-      typed-start m (readings c.args.c.now) c.args.start.now ∙ ap Some (sym c.in_ok-shape.ensures),
+      ap (has_types m) c.in_ok-shape.ensures.value ∙ c.requires.types,
+      typed-start m (readings c.args.c.now) c.args.start.now ∙ ap Some (sym c.in_ok-shape.ensures.value),
     )
 
 pub loop-step-preserved : goal.loop-step-preserved
@@ -20,7 +20,7 @@ loop-step-preserved c =
     let m = c.args.m.now in
     let cs = readings c.args.c.now in
     let y : Outcome = record { shape = c.outcome.inside.shape; quiet = c.outcome.inside.quiet } in
-    let e : step_outcome m cs c.loop-step.shape (step_of c.step-item.result) ≡ Some y = sym c.in_ok-outcome.ensures ∙ c.in-Some.is ∙ ap Some (sym c.outcome.view_is) in
+    let e : step_outcome m cs c.loop-step.shape (step_of c.step-item.result) ≡ Some y = sym c.in_ok-outcome.ensures.value ∙ c.in-Some.is ∙ ap Some (sym c.outcome.view_is) in
     let k = (outcome-parts _ _ y e).0 in (
       step-types m cs c.requires.sound (step_of c.step-item.result) c.loop-step.shape y.shape c.loop-step.invariant.0 k,
       typed-next m cs c.args.start.now step_of c.args.steps.now c.loop-step.step-index c.step-item.result c.loop-step.shape (omega arith) c.step-item.is c.loop-step.invariant.1 y.shape k,
@@ -30,7 +30,7 @@ pub returns-in-None-clause-value : goal.returns-in-None-clause-value
 returns-in-None-clause-value c =
     let m = c.args.m.now in
     let cs = readings c.args.c.now in
-    let e : step_outcome m cs c.loop-step.shape (step_of c.step-item.result) ≡ None = sym c.in_ok-outcome.ensures ∙ c.in-None.is in
+    let e : step_outcome m cs c.loop-step.shape (step_of c.step-item.result) ≡ None = sym c.in_ok-outcome.ensures.value ∙ c.in-None.is in
     typed-missing m cs c.args.start.now step_of c.args.steps.now c.loop-step.step-index c.step-item.result c.loop-step.shape (omega arith) c.step-item.is c.loop-step.invariant.1
     (no-outcome m cs c.loop-step.shape (step_of c.step-item.result) e)
 

@@ -7,5 +7,5 @@ use Rattle.rewrite_rules.proofs.trees.with_nodes.Goals as goal
 pub returns-in_ok-copy-in-Some : goal.returns-in_ok-copy-in-Some
 returns-in_ok-copy-in-Some c =
     rw c.in-Some.is (ap Some (key_of-Recursive c.in_ok-hier-in-Some.hier c.in_ok-copy-in-Some.field-0 (Some c.in-Some.pipe)
-    ∙ ap (λ h. Key.Recursive (hier_of h) c.in_ok-copy-in-Some.field-0 (OptPipe.SomePipe (pipe_of c.in-Some.pipe))) c.in_ok-hier-in-Some.ensures
-    ∙ ap (λ p. Key.Recursive (hier_of c.args.hier.now) p (OptPipe.SomePipe (pipe_of c.in-Some.pipe))) c.in_ok-copy-in-Some.ensures))
+    ∙ ap (λ h. Key.Recursive (hier_of h) c.in_ok-copy-in-Some.field-0 (OptPipe.SomePipe (pipe_of c.in-Some.pipe))) c.in_ok-hier-in-Some.ensures.value
+    ∙ ap (λ p. Key.Recursive (hier_of c.args.hier.now) p (OptPipe.SomePipe (pipe_of c.in-Some.pipe))) c.in_ok-copy-in-Some.ensures.value))

@@ -8,5 +8,5 @@ pub returns-in_ok-copy-in-Some-2 : goal.returns-in_ok-copy-in-Some-2
 returns-in_ok-copy-in-Some-2 c =
     let k = c.args.climb.now in
     rw c.in-Some.is (ap Some (step_of-Climb _ ∙ climb_of-is _
-    ∙ ap (λ h. Step.Climb k.up (hier_of h) c.in_ok-copy-in-Some-2.field-0 (pipe_of c.in-Some.pipe) k.distance k.keep) c.in_ok-copy-in-Some.ensures
-    ∙ ap (λ p. Step.Climb k.up (hier_of k.hier) p (pipe_of c.in-Some.pipe) k.distance k.keep) c.in_ok-copy-in-Some-2.ensures))
+    ∙ ap (λ h. Step.Climb k.up (hier_of h) c.in_ok-copy-in-Some-2.field-0 (pipe_of c.in-Some.pipe) k.distance k.keep) c.in_ok-copy-in-Some.ensures.value
+    ∙ ap (λ p. Step.Climb k.up (hier_of k.hier) p (pipe_of c.in-Some.pipe) k.distance k.keep) c.in_ok-copy-in-Some-2.ensures.value))

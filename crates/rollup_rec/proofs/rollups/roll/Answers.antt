@@ -16,7 +16,7 @@ loop-node-preserved g c =
     let node : ℕ = slice_index shown i in
     let found : c.in_ok-groups.groups ≡ groups_under parents nodes lists node =
     c.in_ok-groups.ensures ∙ (λ i. groups_under (c.in_ok-rows.ensures.parents i) (c.in_ok-rows.ensures.nodes i) lists node) in
-    let long : c.len.result ≡ length (groups_under parents nodes lists node) = c.len.ensures ∙ ap length found in
+    let long : c.len.result ≡ length (groups_under parents nodes lists node) = c.len.ensures.value ∙ ap length found in
     elim c.if-len-gt0.branch [
       | then-len-gt0+in_ok-push w ↦
           let some : 0 < length (groups_under parents nodes lists node) = omega arith in

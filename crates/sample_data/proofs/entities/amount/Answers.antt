@@ -13,7 +13,7 @@ written : (c : In_ok-print_value-in-Some) → c.print_value.new.out.items ≡ de
 written c =
     let same : to_z w64 (of_z w64 c.from.result) ≡ pos c.args.hundredths = omega (arith, ints) in
     c.in_ok-print_value-in-Some.ensures.ok ∙ ap (λ front. front ++ decimal_text c.in-Some.amount.mantissa c.in-Some.amount.scale) c.new-bytes.ensures.items
-    ∙ text_is c.in-Some.amount c.args.hundredths 2 (c.in-Some.ensures ∙ ap (λ m. decimal_of m 2) same)
+    ∙ text_is c.in-Some.amount c.args.hundredths 2 (c.in-Some.ensures.value ∙ ap (λ m. decimal_of m 2) same)
 
 pub unreachable-requires-in-Err : goal.unreachable-requires-in-Err
 unreachable-requires-in-Err c =

@@ -8,6 +8,8 @@ use Rattle.sample_data.proofs.file.gen_data.Goals as goal
 
 pub returns : goal.returns
 returns c =
-    let text = c.in_ok-to_string.field-0 in
-    ap (λ v. data_reading sample_model v.items) c.into_bytes.ensures.value
-    ∙ file_is_read c.args.n (string_bytes text) (view c.in_ok-tree.tree) c.requires.few c.in_ok-tree.ensures (IsUtf8-string_bytes text) c.in_ok-to_string.ensures.text c.in_ok-to_string.ensures.reads_back
+    record {
+      value = let text = c.in_ok-to_string.field-0 in
+          ap (λ v. data_reading sample_model v.items) c.into_bytes.ensures.value
+          ∙ file_is_read c.args.n (string_bytes text) (view c.in_ok-tree.tree) c.requires.few c.in_ok-tree.ensures (IsUtf8-string_bytes text) c.in_ok-to_string.ensures.text c.in_ok-to_string.ensures.reads_back;
+    }

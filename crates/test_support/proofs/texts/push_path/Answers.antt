@@ -8,9 +8,11 @@ pub loop-i-preserved : goal.loop-i-preserved
 loop-i-preserved c =
     joined_step (λ n. n) (λ n. n) 47 _ _ _ _ c.names-name-items.result.now c.loop-i.i c.name-item.result (omega arith) c.loop-i.invariant
     (c.in_ok-push_str.ensures.bytes ∙ ap (λ t. string_bytes c.loop-i.text ++ t) c.slash_before.ensures)
-    (c.in_ok-push_str-2.ensures.bytes ∙ ap (λ t. string_bytes c.push_str.new.self ++ t) (c.text.ensures ∙ c.name-item.is))
+    (c.in_ok-push_str-2.ensures.bytes ∙ ap (λ t. string_bytes c.push_str.new.self ++ t) (c.text.ensures.value ∙ c.name-item.is))
 
 pub returns : goal.returns
 returns c =
-    c.loop-i.invariant
-    ∙ ap (λ t. string_bytes c.args.text.now ++ join_with_byte 47 t) (map-id _ ∙ map-id _ ∙ take_all c.loop-i.i c.names-name-items.result.now c.loop-i-test.false ∙ c.names-name-items.ensures.names)
+    record {
+      value = c.loop-i.invariant
+          ∙ ap (λ t. string_bytes c.args.text.now ++ join_with_byte 47 t) (map-id _ ∙ map-id _ ∙ take_all c.loop-i.i c.names-name-items.result.now c.loop-i-test.false ∙ c.names-name-items.ensures.names);
+    }

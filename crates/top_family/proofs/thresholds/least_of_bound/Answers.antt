@@ -16,7 +16,7 @@ pub returns : goal.returns
 returns c =
     let v = number_part (seen_value c.args.bound) in
     let vs = seen_values c.args.values.now in
-    let mantissa : to_z w64 (of_z w64 c.mantissa.result) ≡ v.0 = to_z-of_z w64 c.mantissa.result (record { sfits = c.mantissa.type_inv }) ∙ c.mantissa.ensures in
+    let mantissa : to_z w64 (of_z w64 c.mantissa.result) ≡ v.0 = to_z-of_z w64 c.mantissa.result (record { sfits = c.mantissa.type_inv }) ∙ c.mantissa.ensures.value in
     let scale : c.scale.result ≡ v.1 = c.scale.ensures.value in
     let raised : to_z w128 (of_z w128 c.raised-raised.result) ≡ v.0 *ℤ pos (10 ^ scale_in vs) = to_z-of_z w128 c.raised-raised.result (record { sfits = c.raised-raised.type_inv }) ∙ c.raised-raised.ensures ∙ (λ i. mantissa i *ℤ pos (10 ^ c.scale_of.ensures.value i)) in
     let power : to_z w128 (of_z w128 c.power_of_ten.result) ≡ pos (10 ^ v.1) = power_is c.power_of_ten.result c.scale.result c.power_of_ten.ensures c.scale.ensures.limit ∙ ap (λ s. pos (10 ^ s)) scale in

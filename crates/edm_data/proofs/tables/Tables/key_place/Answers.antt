@@ -7,4 +7,4 @@ pub returns : goal.returns
 returns c =
     let m = c.model-model.result.now in
     let s = c.args.s in
-    c.place.ensures ∙ ap (λ p. p.at) c.key_of.ensures.value ∙ ap (λ t. (key_of m t).at) c.set_type.ensures.value ∙ ap (λ x. (key_of x (set_type x s)).at) c.model-model.ensures.value ∙ key_place c.args.self.now.model s c.requires
+    c.place.ensures.value ∙ ap (λ p. p.at) c.key_of.ensures.value ∙ ap (λ t. (key_of m t).at) c.set_type.ensures.value ∙ ap (λ x. (key_of x (set_type x s)).at) c.model-model.ensures.value ∙ key_place c.args.self.now.model s c.requires

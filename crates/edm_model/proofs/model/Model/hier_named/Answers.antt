@@ -7,5 +7,5 @@ use Rattle.edm_model.proofs.model.Model.hier_named.Goals as goal
 
 pub returns-in-None : goal.returns-in-None
 returns-in-None c =
-    let there = c.hierarchies_in.ensures.value ∙ ap (hierarchies_of_type c.args.self.now) (c.place-of.ensures ∙ c.set_type.ensures.value) in
+    let there = c.hierarchies_in.ensures.value ∙ ap (hierarchies_of_type c.args.self.now) (c.place-of.ensures.value ∙ c.set_type.ensures.value) in
     record { value = no_found_place (λ e. e.hierarchies) (λ x. x.qualifier) _ (set_type c.args.self.now c.args.s) (type_at c.args.self.now (set_type c.args.self.now c.args.s)) (c.in-None.ensures.value ∙ ap (position (λ x. same_text x.qualifier _)) there); there = tt }

@@ -7,5 +7,5 @@ use Rattle.edm_model.proofs.model.Model.nav_named.Goals as goal
 
 pub returns-in-None : goal.returns-in-None
 returns-in-None c =
-    let there = c.navigations_in.ensures.value ∙ ap (navigations_of c.args.self.now) c.place-of.ensures in
+    let there = c.navigations_in.ensures.value ∙ ap (navigations_of c.args.self.now) c.place-of.ensures.value in
     record { value = no_found_place (λ e. e.navigations) (λ x. x.name) _ c.args.t (type_at c.args.self.now c.args.t) (c.in-None.ensures.value ∙ ap (position (λ x. same_text x.name _)) there); there = tt }

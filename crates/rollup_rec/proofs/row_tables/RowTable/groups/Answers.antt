@@ -10,4 +10,4 @@ abbrev Gives : RowTableState → List (List Value × List ℕ) → Type 0
 Gives s groups = (xs : List (ℕ × ℕ)) → IsRowTableOf s xs → groups ≡ groups_of (keyed_rows (map (λ k. k.items) s.keys) (map (λ x. x.0) xs))
 
 pub returns : goal.returns
-returns c = IfOk-weaker c.groups.result _ (Gives c.args.self.now) (λ groups given. subst (λ s. Gives s groups) c.self.view_is (groups-of_table _ groups given)) c.groups.ensures
+returns c = IfOk-weaker c.groups.result _ (Gives c.args.self.now) (λ groups given. subst (λ s. Gives s groups) c.self.view_is (groups-of_table _ groups given)) c.groups.ensures.value
