@@ -1,14 +1,15 @@
 """The requests that `bench/measure` and `bench/compare` time: what they are, over which sales, and how one answer is timed.
 
-A request is a line, or a pipeline over the sales, beside a statement of SQLite that is meant to say the same. The kinds
-differ in the numbers of sales over which they are timed. Rows and joins take time that grows with the rows that they
-read and make. Groupings find a key by its hash, so that theirs grows with the rows; `group_keys` has a group for each sale.
-Recursive rollups take time that grows with the rows at or below each node that is shown.
+A request is a line, or a pipeline over the sales, beside a statement of SQLite that is meant to say the same. Rows and
+joins take time that grows with the rows that they read and make. Groupings find a key by its hash, so that theirs grows with
+the rows; `group_keys` has a group for each sale. Recursive rollups take time that grows with the rows at or below each node
+that is shown.
 
-The time of an answer is that of a run over K + 1 copies of the line less that of a run over one, by K, each the best of
-three runs.
+The time of an answer is in processor seconds, so that other work on the machine counts little: the least of K answers of
+one run with one worker, which has answered the line once before.
 """
 import argparse
+import ctypes
 import importlib.machinery
 import importlib.util
 import os
@@ -150,9 +151,9 @@ HIERARCHIES = {
 # each kind with its requests and the numbers of sales
 KINDS = {
     "rows": (ROWS, "50000,100000,200000"),
-    "groupings": (GROUPINGS, "2000,4000"),
+    "groupings": (GROUPINGS, "50000,100000,200000"),
     "joins": (JOINS, "50000,100000,200000"),
-    "hierarchies": (HIERARCHIES, "10000,20000"),
+    "hierarchies": (HIERARCHIES, "50000,100000,200000"),
 }
 
 
@@ -207,17 +208,51 @@ def worlds(given):
             yield count, folder, asked[count]
 
 
-def run(program, folder, line, count):
-    """The seconds of a run over so many copies of a line, and its output."""
-    words = [program, "--model", str(folder / "model.json"), "--data", str(folder / "data.json")]
-    start = time.perf_counter()
-    done = subprocess.run(words, input=(line + "\n").encode() * count, stdout=subprocess.PIPE)
-    return time.perf_counter() - start, done.stdout
+class Service:
+    """A run of the program over the files of a folder, by one worker, that is kept while it is asked."""
+
+    def __init__(self, program, folder):
+        words = ["--workers", "1", "--model", str(folder / "model.json"), "--data", str(folder / "data.json")]
+        self.run = subprocess.Popen([program] + words, stdin=subprocess.PIPE, stdout=subprocess.PIPE)
+        clock = ctypes.c_int()
+        if ctypes.CDLL(None).clock_getcpuclockid(self.run.pid, ctypes.byref(clock)) != 0:
+            sys.exit("no clock tells the processor seconds of another process")
+        self.clock = clock.value
+
+    def __enter__(self):
+        return self
+
+    def __exit__(self, *_):
+        self.run.stdin.close()
+        self.run.stdout.close()
+        self.run.wait()
+
+    def spent(self):
+        """Its processor seconds, those of threads that have ended too."""
+        return time.clock_gettime(self.clock)
+
+    def peak(self):
+        """The peak of its memory in megabytes."""
+        status = pathlib.Path("/proc/%d/status" % self.run.pid).read_text()
+        return int(status.split("VmHWM:")[1].split()[0]) * 1024 / 1e6
+
+    def ask(self, line):
+        """The code and the body of the answer to a line."""
+        self.run.stdin.write(line.encode() + b"\n")
+        self.run.stdin.flush()
+        head = self.run.stdout.readline().split()
+        if not head:
+            sys.exit("the program ended before it answered %s" % line)
+        return int(head[0]), self.run.stdout.read(int(head[1]) + 1)[:-1]
 
 
 def answer(program, folder, line, times):
-    """The code, the body, and the seconds of one answer."""
-    one, out = min((run(program, folder, line, 1) for _ in range(3)), key=lambda r: r[0])
-    many, _ = min((run(program, folder, line, times + 1) for _ in range(3)), key=lambda r: r[0])
-    head, body = out.split(b"\n", 1)
-    return int(head.split()[0]), body[:-1], max(0.0, (many - one) / times)
+    """The code, the body, the processor seconds of one answer, and the peak in megabytes of a run that loads and answers it."""
+    with Service(program, folder) as service:
+        code, body = service.ask(line)
+        peak, least = service.peak(), float("inf")
+        for _ in range(times):
+            before = service.spent()
+            service.ask(line)
+            least = min(least, service.spent() - before)
+    return code, body, least, peak
