@@ -92,7 +92,7 @@ fn has_nodes(keys: &[KeyItem]) -> bool
     }
 }
 
-/// Whether filters may pass a grouping that shows nodes or does not.
+/// Whether filters may pass a grouping: by the early rules only one that shows no nodes.
 fn may_pass(rules: Rules, nodes: bool) -> bool
     ensures { result ≡ (spec.is_late (rules_named rules) || not nodes) }
 {
@@ -164,7 +164,7 @@ pub(crate) fn passage_of<'a>(
 
 // ---- which filters go in
 
-/// Whether filters may go to the nodes of a grouping that lets filters pass or does not.
+/// Whether filters may go to the nodes of a grouping: where it lets filters pass, and not by the early rules.
 fn may_choose(rules: Rules, lets: bool) -> bool
     ensures { result ≡ (spec.is_late (rules_named rules) && lets) }
 {

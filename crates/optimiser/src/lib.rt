@@ -4,21 +4,22 @@
 //! entity set and the same shape (`specs/Plans`). `Plan::written` makes the plan that runs the pipeline as it was written, and
 //! `optimise` the one that runs what rewriting makes of it.
 //!
-//! The crate stands on `rewrite_laws` for what a plan is, on `walk_laws` for the walk, on `rewrite_rules` for the rules, on `context_typing` for typed
-//! pipelines, and on `apply_ast` for pipelines. It promises that a typing makes a plan over its model and customs (`plan`); that
-//! the plan which `Plan::written` makes runs that typing's pipeline; and that the pipeline which a plan of `optimise` runs is the
-//! plan of the written one (`own`): it is reached by rewrites in their order, no rule applies to it, and it means the same, refusal
-//! included, and names no other hierarchy (`meaning`).
+//! The crate stands on `rewrite_laws` for what a plan is, on `walk_laws` for the walk, on `rewrite_rules` for the rules, on
+//! `context_typing` for typed pipelines, and on `apply_ast` for pipelines. It promises that a typing makes a plan over its
+//! model and customs (`plan`); that the plan which `Plan::written` makes runs that typing's pipeline; and that the pipeline
+//! which a plan of `optimise` runs is the plan of the written one (`own`): it is reached by rewrites in their order, no rule
+//! applies to it, and it means the same, refusal included, and names no other hierarchy (`meaning`).
 //!
 //! A plan is not made rewrite by rewrite. `walk_laws` defines a walk over a pipeline, and has the laws by which `plans` uses it: a
 //! pipeline without a concatenation becomes its plan in one walk by all rules. Any other is settled in one walk by the rules that
 //! come first; then comes one rewrite by a later rule, and the walk again, until no rule applies. `next_rewrite` makes one rewrite,
 //! for comparisons.
 //!
-//! `plans` has the plan, `walking` the walk, `unbranched` whether a pipeline has a concatenation, and `rewriting` the one rewrite.
-//! Below `walking`, `held` has the segments of a walk, a step with the filters behind it; `heads` says which filters pass a step and
-//! which go into it; `idle` drops steps that are idle at the end; `putting` puts filters, `stepping` the steps of a pipeline, and
-//! `ends` the filters that have gone to its end. `inside` has laws of what is typed inside a typed step.
+//! `plans` has the plan, `walking` the walk, `unbranched` whether a pipeline has a concatenation, and `rewriting` the one
+//! rewrite. Below `walking`, `held` has the segments of a walk, a step with the filters behind it; `heads` says which filters
+//! pass a step and which go into it; `idle` drops steps that are idle at the end; `putting` puts filters, `stepping` the steps
+//! of a pipeline, and `ends` the filters that have gone to its end. `rules` has the rules of a walk, and `inside` laws of what
+//! is typed inside a typed step.
 #![tactic(auto)]
 
 mod ends;

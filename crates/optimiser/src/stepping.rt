@@ -130,7 +130,7 @@ fn put_selection<'a>(
     }
 }
 
-/// Drops the orders at the end that let filters pass, where the rules are all but one.
+/// Drops the orders at the end that let filters pass, where the walk goes by all rules.
 fn drop_orders(segments: &mut Vec<Segment>, rules: Rules, steps: &[Step])
     ensures value { (m : seen.Model) (r : spec.Rules) (c : typing.Customs) → held.segments_of m (form.frame r c (map step_of steps.now)) segments.new.items ≡ form.before_aggregate (rules_named rules) (held.segments_of m (form.frame r c (map step_of steps.now)) segments.old.items) }
     ensures kept { held.IsKept segments.old.items segments.new.items }

@@ -1,4 +1,4 @@
-//! Pipelines settled in one walk, and the law that this is the plan of a pipeline.
+//! Pipelines settled in one walk, and the laws by which this makes plans.
 //!
 //! A plan is reached by rewrites, one at a time. `specs/Walks` defines one walk over the steps of a pipeline, and over those of the
 //! pipelines inside them, that makes the same: each step is put once behind those before it, and each filter goes to the front as
