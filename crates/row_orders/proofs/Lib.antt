@@ -1,2 +1,3 @@
+pub mod ItemSorts
 pub mod OrderLemmas
 pub mod RankLemmas

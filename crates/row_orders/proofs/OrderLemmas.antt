@@ -36,7 +36,7 @@ use Rattle.row_orders.specs.Orders.{GivesRanked, RankedRow, first_value, has_bey
 
 -- ---- the order of lists of values
 
-item_cmp_total : (desc : Bool) → IsTotalOrder (item_cmp desc)
+pub item_cmp_total : (desc : Bool) → IsTotalOrder (item_cmp desc)
 item_cmp_total true = back_total value_cmp_total
 item_cmp_total false = value_cmp_total
 

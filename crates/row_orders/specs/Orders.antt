@@ -38,6 +38,10 @@ has_beyond w items i = list_any is_beyond (item_values w items i)
 abbrev pub GivesValues : result.Result (Vec Value) RunRefused → List Value → Type 0
 GivesValues r vs = Returns (λ (v : Vec Value). (v.items ≡ vs) × (list_any is_beyond vs ≡ false)) (list_any is_beyond vs ≡ true) r
 
+-- what the only value of a row is, refused where it is `Beyond`
+abbrev pub GivesValue : result.Result Value RunRefused → List Value → Type 0
+GivesValue r vs = Returns (λ (v : Value). (v ∷ [] ≡ vs) × (list_any is_beyond vs ≡ false)) (list_any is_beyond vs ≡ true) r
+
 -- the rows with their values, refused where one is `Beyond`
 abbrev pub GivesRanked : result.Result (Vec RankedRow) RunRefused → World → List OrderItem → List Instance → Type 0
 GivesRanked r w items l = Returns (λ (v : Vec RankedRow). (v.items ≡ map (ranked w items) l) × (list_any (has_beyond w items) l ≡ false)) (list_any (has_beyond w items) l ≡ true) r

@@ -1,6 +1,6 @@
 //! Orders of rows by the values of items.
 //!
-//! `order_rows` sorts rows by the values of the items of an `orderby`, from left to right, and makes no row. `row_ranks` tells of
+//! `order_rows` sorts rows by the values of the items of an `orderby`, item by item, and makes no row. `row_ranks` tells of
 //! each row how many stand before it by the items, which is what the siblings of a hierarchy are ordered by. `values` has the
 //! values of the items on a row, each worked out once, and their order; `orders` sorts the rows with their values, and `ranks`
 //! sorts the places of the rows and goes through them once.

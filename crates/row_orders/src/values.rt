@@ -1,10 +1,10 @@
 //! The values of items on a row, and their order.
-ghost use Rattle.std.specs.Prelude.{◌≡◌, IsTrue, map, drop};
+ghost use Rattle.std.specs.Prelude.{◌≡◌, [], ◌∷◌, IsTrue, map, drop};
 ghost use Rattle.edm_values.specs.Values.{seen_value};
 ghost use Rattle.apply_ast.specs.Views.{item_of};
 ghost use Rattle.apply_meaning.specs.RowViews.{is_of};
 ghost use Rattle.row_orders.specs.Orders as spec;
-ghost use Rattle.row_orders.specs.Orders.{GivesValues, first_value};
+ghost use Rattle.row_orders.specs.Orders.{GivesValue, GivesValues, first_value};
 
 use apply_ast::OrderItem;
 use apply_meaning::{Row, RunRefused, eval};
@@ -33,6 +33,22 @@ pub(crate) fn item_values(
     Ok(values)
 }
 
+/// The value of an item on a row.
+pub(crate) fn item_value(
+    alloc: Global,
+    store: &Data,
+    item: &OrderItem,
+    row: &Row,
+) -> Result<Value, RunRefused>
+    requires { IsTrue (is_of store.now row.now) }
+    ensures { GivesValue result (spec.item_values store.now (item_of item.now ∷ []) row.now) }
+{
+    match eval(store, row, &item.expr) {
+        Seen::Beyond => Err(RunRefused::Range),
+        value => Ok(value.own(alloc)?),
+    }
+}
+
 /// The value at a place; null past the end.
 fn value_at(values: &[Value], k: usize) -> Seen<'_>
     ensures { seen_value result ≡ first_value (drop k values.now) }
@@ -44,7 +60,7 @@ fn value_at(values: &[Value], k: usize) -> Seen<'_>
 }
 
 /// The order of two values by an item.
-fn item_order(item: &OrderItem, a: Seen<'_>, b: Seen<'_>) -> Ordering
+pub(crate) fn item_order(item: &OrderItem, a: Seen<'_>, b: Seen<'_>) -> Ordering
     ensures { result ≡ spec.item_cmp item.now.desc (seen_value a.entry) (seen_value b.entry) }
 {
     if item.desc { order(b, a) } else { order(a, b) }

@@ -1,5 +1,5 @@
 -- The total of numbers of one scale, as the sum of their mantissas, and what is compared with it.
-use Rattle.std.proofs.Common.{◌≡◌, ℕ, ◌+◌, ◌-◌, ◌^◌, ◌<◌, cond, get_or, length, take, Bool, true, false, List, [], ◌∷◌, ◌++◌, fold, ℤ, pos, ◌+ℤ◌, ◌*ℤ◌, Some, refl, ap, sym, ◌∙◌, subst, arith, eqb-true, inl, inr}
+use Rattle.std.proofs.Common.{◌≡◌, ℕ, ◌+◌, ◌^◌, ◌<◌, cond, get_or, length, take, Bool, true, false, List, [], ◌∷◌, ◌++◌, fold, ℤ, pos, ◌+ℤ◌, ◌*ℤ◌, Some, refl, ap, sym, ◌∙◌, subst, arith, eqb-true, inl, inr}
 use Rattle.std.specs.Prelude.{int_le, nat_eq, slice_get, find, ◌⊎◌}
 use Rattle.std.specs.Option.{option_map, unwrap_or}
 use Rattle.std.specs.List.{list_all}

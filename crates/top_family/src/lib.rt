@@ -2,9 +2,9 @@
 //!
 //! `top_count`, `top_sum` and `top_percent` take the greatest values, `bottom_count`, `bottom_sum` and `bottom_percent` the
 //! least: as many as a count says, or the fewest whose sum reaches a bound or a percentage of the sum of all. Each answers the
-//! places of the values that it takes, in ascending order. `rankings` has the places by rank, which one stable sort gives, and
-//! puts those that are taken in order; `thresholds` turns a bound into one number that a sum of mantissas is compared with;
-//! `selections` walks along the ranking once.
+//! places of the values that it takes, in ascending order. `rankings` has the first places by rank, and puts those that are
+//! taken in order; `numbers` has all places of numbers by rank, which one stable sort gives; `thresholds` turns a bound into one
+//! number that a sum of mantissas is compared with; `selections` walks along the ranking once.
 //!
 //! The crate stands on `edm_values` for values, their order and the definition of what is taken.
 //!
@@ -12,6 +12,7 @@
 //! comes first, and all are taken where no part of the ranking is enough. `Range` comes exactly where a value is past its range.
 #![tactic(auto)]
 
+mod numbers;
 mod rankings;
 mod refusals;
 mod selections;

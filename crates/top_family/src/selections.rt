@@ -4,7 +4,8 @@ ghost use Rattle.edm_values.specs.Literals.{AreNumbers};
 ghost use Rattle.edm_values.specs.Values.{number_part, reaches_count, reaches_percent, reaches_sum, seen_value, top_places};
 ghost use Rattle.top_family.specs.Selections.{Takes, seen_values};
 
-use crate::rankings::{ascending, ranking};
+use crate::numbers::number_ranking;
+use crate::rankings::{ascending, first_by_rank};
 use crate::refusals::TopRefused;
 use crate::thresholds::{front_reaching, least_of_bound, least_of_percent};
 use edm_values::Seen;
@@ -77,9 +78,9 @@ fn by_count(
 ) -> Result<Vec<usize>, TopRefused>
     ensures { Takes (top_places (reaches_count n) bottom (seen_values values.now)) result }
 {
-    let ranking = ranking(alloc, values, bottom)?;
-    let n = at_most(n, ranking.len());
-    Ok(ascending(alloc, values.len(), &ranking[..n])?)
+    let n = at_most(n, values.len());
+    let first = first_by_rank(alloc, values, n, bottom)?;
+    Ok(ascending(alloc, values.len(), first.as_slice())?)
 }
 
 /// A count, or a limit where the count is above it.
@@ -103,7 +104,7 @@ fn by_sum(
     requires numbers { AreNumbers (seen_values values.now) }
     ensures { Takes (top_places (reaches_sum (number_part (seen_value bound.entry))) bottom (seen_values values.now)) result }
 {
-    let ranking = ranking(alloc, values, bottom)?;
+    let ranking = number_ranking(alloc, values, bottom)?;
     let n = front_reaching(values, ranking.as_slice(), least_of_bound(values, bound));
     Ok(ascending(alloc, values.len(), &ranking[..n])?)
 }
@@ -119,7 +120,7 @@ fn by_percent(
     requires percent { p ≤ 100 }
     ensures { let vs = seen_values values.now in Takes (top_places (reaches_percent p vs) bottom vs) result }
 {
-    let ranking = ranking(alloc, values, bottom)?;
+    let ranking = number_ranking(alloc, values, bottom)?;
     let n = front_reaching(values, ranking.as_slice(), least_of_percent(values, p));
     Ok(ascending(alloc, values.len(), &ranking[..n])?)
 }
