@@ -9,6 +9,7 @@ ghost use Rattle.aggregate_ops.specs.Fronts.{AreGroupNumbers, AreGroupsOf, AreRo
 ghost use Rattle.aggregate_ops.specs.KeyTables.{groups_of};
 
 use crate::groups::Group;
+use crate::seeds::Seed;
 use edm_values::Value;
 use indexmap::IndexSet;
 use std::alloc::{AllocError, Global};
@@ -18,7 +19,7 @@ fn front_numbers(
     alloc: Global,
     groups: &[Group],
     front: usize,
-    fronts: &mut IndexSet<Vec<Value>>,
+    fronts: &mut IndexSet<Vec<Value>, Seed>,
 ) -> Result<Vec<usize>, AllocError>
     requires long { All (λ g. front ≤ length g.0) groups.now }
     requires none { fronts.old.keys ≡ [] }
@@ -73,7 +74,7 @@ fn row_numbers(
 }
 
 /// A group without places for each key.
-fn empty_groups(alloc: Global, keys: IndexSet<Vec<Value>>) -> Result<Vec<Group>, AllocError>
+fn empty_groups(alloc: Global, keys: IndexSet<Vec<Value>, Seed>) -> Result<Vec<Group>, AllocError>
     ensures { IfOk result (λ groups. groups.items ≡ filled (key_items keys.keys) []) }
 {
     let mut groups = Vec::with_capacity(alloc, keys.len())?;
@@ -100,12 +101,13 @@ pub(crate) fn by_front(
     groups: &[Group],
     front: usize,
     rows: usize,
+    seed: Seed,
 ) -> Result<Vec<Group>, AllocError>
     requires long { All (λ g. front ≤ length g.0) groups.now }
     requires groups { (keys : List (List Value')) × AreGroupsOf rows keys groups.now }
     ensures { IfOk result (λ found. (keys : List (List Value')) → AreGroupsOf rows keys groups.now → found.items ≡ groups_of (placed 0 (map (take front) keys))) }
 {
-    let mut fronts = IndexSet::new(alloc);
+    let mut fronts = IndexSet::with_hasher(alloc, seed);
     let group_numbers = front_numbers(alloc, groups, front, &mut fronts)?;
     let numbers = row_numbers(alloc, groups, &group_numbers, rows)?;
     let empty = empty_groups(alloc, fronts)?;

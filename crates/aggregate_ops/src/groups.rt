@@ -8,6 +8,7 @@ ghost use Rattle.aggregate_ops.specs.KeyTables.{groups_of, map_groups};
 
 use crate::fronts::by_front;
 use crate::key_maps::KeyMap;
+use crate::seeds::Seed;
 use crate::values::copies;
 use edm_values::Value;
 use std::alloc::{AllocError, Global};
@@ -78,6 +79,7 @@ impl Group {
 #[derive(Drop)]
 pub struct Groups {
     groups: Vec<Group>,
+    seed: Seed,
 }
 
 impl Model for Groups {
@@ -94,22 +96,24 @@ impl Groups {
     pub(crate) fn of(alloc: Global, map: &KeyMap) -> Result<Groups, AllocError>
         ensures { IfOk result (λ g. g ≡ map_groups map.now.entries) }
     {
+        let seed = *map.hasher();
         let mut groups = Vec::with_capacity(alloc, map.len())?;
         for (key, places) in map {
             groups.push(Group::of(alloc, key.as_slice(), places.as_slice())?)?;
         }
-        Ok(Groups { groups })
+        Ok(Groups { groups, seed })
     }
 
     /// What the map holds, which is given up: no key and no list of places is copied.
     pub(crate) fn from_map(alloc: Global, map: KeyMap) -> Result<Groups, AllocError>
         ensures { IfOk result (λ g. g ≡ map_groups map.entries) }
     {
+        let seed = *map.hasher();
         let mut groups = Vec::with_capacity(alloc, map.len())?;
         for (key, places) in map {
             groups.push(Group { key, places })?;
         }
-        Ok(Groups { groups })
+        Ok(Groups { groups, seed })
     }
 
     /// The groups of so many rows by the first values of their keys, made from these, their groups by all of them. Key lists
@@ -119,8 +123,11 @@ impl Groups {
         requires groups { (keys : List (List Value')) × AreGroupsOf rows keys self.now }
         ensures value { IfOk result (λ found. (keys : List (List Value')) → AreGroupsOf rows keys self.now → found ≡ groups_of (placed 0 (map (take front) keys))) }
     {
-        let groups = by_front(alloc, self.groups.as_slice(), front, rows)?;
-        Ok(Groups { groups })
+        let groups = by_front(alloc, self.groups.as_slice(), front, rows, self.seed)?;
+        Ok(Groups {
+            groups,
+            seed: self.seed,
+        })
     }
 
     /// How many groups there are.

@@ -3,8 +3,9 @@
 //! `SumOf`, `MinOf`, `MaxOf`, `DistinctOf` and `CountOf` are each a `Partial` over values: made for a type by `new`, given one
 //! value at a time or those of a later part, and ended by `finish`. `aggregate_values` folds a list of values by the partial of
 //! a method. `KeyTable` is a `Partial` over key lists, which finds a key by its hash (`key_maps`); `groups` and `into_groups` give
-//! its `Groups`, and `by_front` those by the first values of their keys (`fronts`). `values` has what is asked of a single
-//! value, and copies of values.
+//! its `Groups`, and `by_front` those by the first values of their keys (`fronts`). The hashes of a table begin with a `Seed` of the
+//! list that it is made for, so that no list of keys can be chosen whose hashes are all one (`seeds`). `values` has what is asked
+//! of a single value, and copies of values.
 //!
 //! The crate stands on `par_stages` for folds, on `apply_meaning` for the meaning of aggregates and of groups, and on
 //! `edm_values` for values and their order.
@@ -23,6 +24,7 @@ mod fronts;
 mod groups;
 mod key_maps;
 mod key_tables;
+mod seeds;
 mod sums;
 mod values;
 
@@ -32,5 +34,6 @@ pub use extremes::{MaxOf, MinOf};
 pub use folds::aggregate_values;
 pub use groups::Groups;
 pub use key_tables::KeyTable;
+pub use seeds::Seed;
 pub use sums::SumOf;
 pub use values::copies;

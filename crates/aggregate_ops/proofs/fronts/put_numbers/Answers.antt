@@ -1,4 +1,4 @@
-use Rattle.std.proofs.Common.{◌≡◌, ◌∙◌, ◌<◌, length, subst, ap, arith, ℕ, List, [], get_or}
+use Rattle.std.proofs.Common.{◌≡◌, ◌∙◌, ◌<◌, length, subst, ap, arith, ℕ, List, []}
 use Rattle.std.specs.Prelude.{◌⊎◌, slice_index}
 use Rattle.std.proofs.lemmas.List.{get_or_read}
 use Rattle.aggregate_ops.specs.Fronts.{AreNumberedTo, places_at}

@@ -1,4 +1,4 @@
-use Rattle.std.proofs.Common.{◌∙◌, length, length-set, ap, refl}
+use Rattle.std.proofs.Common.{◌∙◌, length-set, refl}
 use Rattle.aggregate_ops.proofs.FrontLemmas.{row-goes, rows-gone}
 use Rattle.aggregate_ops.proofs.fronts.put_rows.Goals as goal
 
