@@ -19,7 +19,7 @@ use edm_data::Data;
 use edm_model::CustomId;
 use edm_values::{Method, Value};
 use par_stages::Gate;
-use row_values::values_of;
+use row_values::PlacedRows;
 use std::alloc::{AllocError, Global};
 use std::thread::Threads;
 
@@ -30,7 +30,7 @@ fn over_all<R: Threads + Sync, G: Gate>(
     store: &Data,
     e: &Expr,
     method: Method,
-    rows: &[Row],
+    rows: &PlacedRows<'_>,
     workers: u32,
     gate: &G,
 ) -> Result<Value, AllocError>
@@ -40,7 +40,7 @@ fn over_all<R: Threads + Sync, G: Gate>(
     requires foldable { AreFoldable method (spec.values store.now (expr_of e.now) rows.now) }
     ensures { IfOk result (λ v. v ≡ aggregate method (spec.values store.now (expr_of e.now) rows.now)) }
 {
-    let values = values_of(rt, alloc, store, e, rows, workers)?;
+    let values = rows.values(rt, alloc, store, e, workers)?;
     aggregate_values(rt, alloc, method, values.as_slice(), workers, gate)
 }
 
@@ -52,7 +52,7 @@ fn over_groups<R: Threads + Sync, G: Gate>(
     read: &ReadCustom,
     method: Method,
     outer: Method,
-    rows: &[Row],
+    rows: &PlacedRows<'_>,
     workers: u32,
     gate: &G,
 ) -> Result<Value, AllocError>
@@ -69,13 +69,13 @@ fn over_groups<R: Threads + Sync, G: Gate>(
     aggregate_values(rt, alloc, outer, results.as_slice(), workers, gate)
 }
 
-/// The value of a custom aggregate on rows: with paths to group by, its method over the values of each group and then its
-/// outer method over the groups' results; without, its method over all values.
-pub fn custom<R: Threads + Sync, G: Gate>(
+/// The value of a custom aggregate on rows that are told by their places: with paths to group by, its method over the values of
+/// each group and then its outer method over the groups' results; without, its method over all values.
+pub fn custom_at<R: Threads + Sync, G: Gate>(
     rt: &R,
     alloc: Global,
     store: &Data,
-    rows: &[Row],
+    rows: &PlacedRows<'_>,
     c: &Customs,
     id: CustomId,
     workers: u32,
@@ -97,4 +97,27 @@ pub fn custom<R: Threads + Sync, G: Gate>(
         None => over_all(rt, alloc, store, &read.of, method, rows, workers, gate),
         Some(outer) => over_groups(rt, alloc, store, read, method, outer, rows, workers, gate),
     }
+}
+
+/// The value of a custom aggregate on all rows of a list, as `custom_at` has it.
+pub fn custom<R: Threads + Sync, G: Gate>(
+    rt: &R,
+    alloc: Global,
+    store: &Data,
+    rows: &[Row],
+    c: &Customs,
+    id: CustomId,
+    workers: u32,
+    gate: &G,
+) -> Result<Value, AllocError>
+    requires some { 0 < workers }
+    requires few { workers ≤ 64 }
+    requires customs { AreTypedOver store.now.model c.now }
+    requires there { IsCustom store.now.model id }
+    requires read { IsTrue (is_some (typed_at c.now id)) }
+    requires fit { HaveRoot store.now id.of rows.now }
+    ensures value { IfOk result (λ v. Some v ≡ value_by_id store.now c.now id rows.now) }
+{
+    let rows = PlacedRows::all(rows);
+    custom_at(rt, alloc, store, &rows, c, id, workers, gate)
 }

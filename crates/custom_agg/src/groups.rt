@@ -8,14 +8,12 @@ ghost use Rattle.apply_meaning.specs.Running.{all_of};
 ghost use Rattle.par_stages.specs.Placed.{placed};
 ghost use Rattle.custom_agg.specs.CustomValues.{are_within, results_at};
 
-use crate::values::values_at;
-use aggregate_ops::{Groups, KeyTable, aggregate_values};
+use aggregate_ops::{Groups, KeyTable, Seed, aggregate_values};
 use apply_ast::{Expr, Path};
-use apply_meaning::Row;
 use edm_data::Data;
 use edm_values::{Method, Value};
 use par_stages::{Gate, pieces};
-use row_values::key_lists;
+use row_values::PlacedRows;
 use std::alloc::{AllocError, Global};
 use std::thread::Threads;
 
@@ -25,7 +23,7 @@ pub(crate) fn groups_by<R: Threads + Sync, G: Gate>(
     alloc: Global,
     store: &Data,
     paths: &[Path],
-    rows: &[Row],
+    rows: &PlacedRows<'_>,
     workers: u32,
     gate: &G,
 ) -> Result<Groups, AllocError>
@@ -34,8 +32,8 @@ pub(crate) fn groups_by<R: Threads + Sync, G: Gate>(
     requires of { IsTrue (all_of store.now rows.now) }
     ensures { IfOk result (λ found. found ≡ groups_of (placed 0 (map (key_list store.now paths.now) rows.now))) }
 {
-    let lists = key_lists(rt, alloc, store, paths, rows, workers)?;
-    let empty = KeyTable::new(alloc, paths.len());
+    let lists = rows.key_lists(rt, alloc, store, paths, workers)?;
+    let empty = KeyTable::new(alloc, paths.len(), Seed::of(&lists));
     pieces(rt, lists.as_slice(), workers, gate, &empty)?.into_groups()
 }
 
@@ -47,7 +45,7 @@ pub(crate) fn group_values<R: Threads + Sync, G: Gate>(
     store: &Data,
     e: &Expr,
     method: Method,
-    rows: &[Row],
+    rows: &PlacedRows<'_>,
     groups: &Groups,
     gate: &G,
 ) -> Result<Vec<Value>, AllocError>
@@ -58,7 +56,7 @@ pub(crate) fn group_values<R: Threads + Sync, G: Gate>(
 {
     let mut results = Vec::with_capacity(alloc, groups.len())?;
     for k in 0..groups.len() {
-        let values = values_at(alloc, store, e, rows, groups.places(k))?;
+        let values = rows.values_at(alloc, store, e, groups.places(k))?;
         results.push(aggregate_values(rt, alloc, method, values.as_slice(), 1, gate)?)?;
     }
     Ok(results)

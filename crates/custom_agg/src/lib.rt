@@ -1,8 +1,9 @@
 //! Custom aggregates: the value of one on rows.
 //!
-//! `custom` evaluates the expression of a custom aggregate on each row and aggregates the values by its method, in groups and
-//! again by its outer method where its definition says so. `definitions` finds the definition of a custom aggregate, `values`
-//! has the values of expressions on some of the rows, and `groups` groups rows and aggregates the values of each group.
+//! `custom_at` evaluates the expression of a custom aggregate on each row of some that are told by their places, and aggregates
+//! the values by its method, in groups and again by its outer method where its definition says so; `custom` does so on all rows
+//! of a list. `definitions` finds the definition of a custom aggregate, and `groups` groups rows and aggregates the values of
+//! each group. No row is copied.
 //!
 //! The crate stands on `aggregate_ops` for aggregates and tables of keys, on `par_stages` for folds in pieces, on
 //! `row_values` for values on rows, on `apply_meaning` for rows and expressions, on `context_typing` for the readings of custom aggregates, and on `edm_data` and
@@ -15,6 +16,5 @@
 mod customs;
 mod definitions;
 mod groups;
-mod values;
 
-pub use customs::custom;
+pub use customs::{custom, custom_at};

@@ -7,7 +7,7 @@ ghost use Rattle.group_rollup.specs.Groupings.{front_groups, groups, key_groups,
 
 use crate::GroupRefused;
 use crate::row_keys::key_lists;
-use aggregate_ops::{Groups, KeyTable};
+use aggregate_ops::{Groups, KeyTable, Seed};
 use apply_ast::Path;
 use apply_meaning::Row;
 use edm_data::Data;
@@ -30,7 +30,8 @@ fn groups_of<R: Threads + Sync, G: Gate>(
     requires width { All (HasWidth width) lists.now }
     ensures { IfOk result (λ found. found ≡ key_groups (map (λ k. k.items) lists.now)) }
 {
-    pieces(rt, lists, workers, gate, &KeyTable::new(alloc, width))?.into_groups()
+    let empty = KeyTable::new(alloc, width, Seed::of(lists));
+    pieces(rt, lists, workers, gate, &empty)?.into_groups()
 }
 
 /// The groups of rows by key paths, in order of first appearance, each with the places of its rows. The keys are worked out

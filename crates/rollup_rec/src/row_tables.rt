@@ -37,11 +37,11 @@ impl<'a> RowTable<'a> {
         RowTable { keys, table }
     }
 
-    /// The groups of the rows by their key lists.
-    pub(crate) fn groups(&self) -> Result<Groups, AllocError>
-        ensures { IfOk result (λ g. (xs : List (ℕ × ℕ)) → IsRowTableOf self.now xs → g ≡ groups_of (keyed_rows (map (λ k. k.items) self.now.keys) (map (λ x. x.0) xs))) }
+    /// The groups of the rows by their key lists. The table is given up, and its keys and places are moved.
+    pub(crate) fn into_groups(self) -> Result<Groups, AllocError>
+        ensures { IfOk result (λ g. (xs : List (ℕ × ℕ)) → IsRowTableOf self.entry xs → g ≡ groups_of (keyed_rows (map (λ k. k.items) self.entry.keys) (map (λ x. x.0) xs))) }
     {
-        self.table.groups()
+        self.table.into_groups()
     }
 }
 

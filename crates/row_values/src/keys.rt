@@ -15,7 +15,7 @@ use std::alloc::{AllocError, Global};
 use std::thread::Threads;
 
 /// The values of the paths on a row.
-fn key_list(
+pub(crate) fn key_list(
     alloc: Global,
     store: &Data,
     paths: &[Path],

@@ -1,9 +1,10 @@
 //! Values on rows, in the order of the rows, worked out by several threads.
 //!
 //! `values_of` has the values of an expression on rows, `key_lists` those of key paths; `filter_rows` keeps the rows on which an
-//! expression is true. The rows are cut into at most as many parts as there are workers, by `rayon`, and few rows are not cut at
-//! all. Threads read the data, the rows and the expression, and write nothing that is shared. Rows are moved by the thread that
-//! called.
+//! expression is true, and `compute_rows` extends rows by new columns. `PlacedRows` is rows of a list that are told by their
+//! places, with the values on them: no row is copied. The rows are cut into at most as many parts as there are workers, by
+//! `rayon`, and few rows are not cut at all. Threads read the data, the rows and the expression, and write nothing that is
+//! shared. Rows are moved and made by the thread that called.
 //!
 //! The crate stands on `apply_meaning` for rows and the values of expressions on them, on `apply_ast` for expressions and paths,
 //! and on `edm_data` for the data.
@@ -11,11 +12,15 @@
 //! It promises the values of the definitions, in the order of the rows, for every number of workers.
 #![tactic(auto)]
 
+mod computes;
 mod filters;
 mod keys;
 mod parts;
+mod placed;
 mod values;
 
+pub use computes::compute_rows;
 pub use filters::filter_rows;
 pub use keys::key_lists;
+pub use placed::PlacedRows;
 pub use values::values_of;

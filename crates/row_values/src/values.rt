@@ -17,7 +17,12 @@ use std::alloc::{AllocError, Global};
 use std::thread::Threads;
 
 /// The value of an expression on a row.
-fn value_on(alloc: Global, store: &Data, e: &Expr, row: &Row) -> Result<Value, AllocError>
+pub(crate) fn value_on(
+    alloc: Global,
+    store: &Data,
+    e: &Expr,
+    row: &Row,
+) -> Result<Value, AllocError>
     requires { IsTrue (is_of store.now row.now) }
     ensures { IfOk result (λ v. v ≡ val store.now row.now (expr_of e.now)) }
 {
@@ -49,7 +54,7 @@ fn value_results<R: Threads + Sync>(
 }
 
 /// The values of an expression on rows, worked out in parts.
-fn values_in_parts<R: Threads + Sync>(
+pub(crate) fn values_in_parts<R: Threads + Sync>(
     rt: &R,
     alloc: Global,
     store: &Data,

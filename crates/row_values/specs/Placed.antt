@@ -1,0 +1,15 @@
+-- Instances that are told by their places in a list.
+use Rattle.std.specs.Prelude.{ℕ, List, length, nat_lt, Option, Some, None, IsTrue}
+use Rattle.std.specs.List.{list_all}
+use Rattle.edm_values.specs.Lists.{at_places}
+use Rattle.apply_meaning.specs.Instances.{Instance}
+
+-- all of the list, or those at the places
+abbrev pub placed_in : List Instance → Option (List ℕ) → List Instance
+placed_in l None = l
+placed_in l (Some ks) = at_places l ks
+
+-- the places, where there are some, are places of the list
+abbrev pub are_within : List Instance → Option (List ℕ) → Type 0
+are_within l None = Unit {0}
+are_within l (Some ks) = IsTrue (list_all (λ k. nat_lt k (length l)) ks)
