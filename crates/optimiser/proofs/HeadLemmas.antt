@@ -20,7 +20,7 @@ use Rattle.apply_ast.proofs.ViewEquations.{keys_of-is, pipes_of-is, step_of-Conc
 use Rattle.context_typing.specs.Shapes.{Shape}
 use Rattle.context_typing.specs.Typing.{Customs, group_keys, has_kind, is_nodes, is_sure, rollup_part, rollup_paths, steps_shape}
 use Rattle.rewrite_laws.specs.Rewrites.{branches, grouping_quiet, node_shape, on_node, over, paths}
-use Rattle.rewrite_rules.specs.GroupForms.{chosen_nodes, in_every_row, recursive_key}
+use Rattle.rewrite_forms.specs.GroupForms.{chosen_nodes, in_every_row, recursive_key}
 use Rattle.optimiser.specs.HeadForms.{branches_enter, grouping_passes, nodes_enter}
 use Rattle.optimiser.specs.HeldSegments.{into_branches, into_nodes}
 use Rattle.walk_laws.specs.Walks.{Rules, Test, chooses_nodes, is_late, step_enters, step_lets}

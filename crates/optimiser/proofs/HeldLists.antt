@@ -14,7 +14,7 @@ use Rattle.apply_ast.specs.Trees.{Expr}
 use Rattle.apply_ast.specs.declared.expressions.BinOp.TheVariants as BinOp
 use Rattle.context_typing.specs.Shapes.{Shape}
 use Rattle.context_typing.specs.Typing.{is_sure}
-use Rattle.rewrite_rules.proofs.FirstPlaces.{dropped-next}
+use Rattle.rewrite_forms.proofs.CutLists.{dropped-next}
 use Rattle.walk_laws.specs.Walks as spec
 use Rattle.optimiser.specs.HeldSegments.{Frame, GoesTo, IsPast, outline, segment_of, segments_of, test_of}
 use Rattle.optimiser.specs.declared.held.Entry.{Entry}

@@ -11,7 +11,7 @@ use Rattle.apply_ast.specs.Views.{expr_of, top_of}
 use Rattle.context_typing.specs.Shapes.{Shape}
 use Rattle.context_typing.specs.Typing.{Customs}
 use Rattle.rewrite_laws.specs.Rewrites.{is_among}
-use Rattle.rewrite_rules.specs.Forms.{count_by}
+use Rattle.rewrite_forms.specs.Forms.{count_by}
 use Rattle.edm_values.proofs.OptionFacts.{none_or, some_value}
 use Rattle.rewrite_laws.specs.TreeEquality.{expr_same}
 use Rattle.optimiser.specs.HeldSegments.{made, segment_of, test_of, written}

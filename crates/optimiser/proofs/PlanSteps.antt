@@ -10,9 +10,10 @@ use Rattle.apply_meaning.specs.MeaningLaws.{IsLoaded}
 use Rattle.context_typing.specs.Answers.{IsTyping}
 use Rattle.context_typing.specs.Typing.{Customs, shape_of_set, steps_shape}
 use Rattle.context_typing.specs.declared.typed.Typed.{Typed}
-use Rattle.rewrite_rules.specs.Places.{IsFirst, MayStand, rule_of}
+use Rattle.rewrite_places.specs.Places.{IsFirst, MayStand}
+use Rattle.rewrite_rules.specs.RuleNames.{rule_of}
 use Rattle.rewrite_rules.specs.declared.rules.RuleName.{RuleName}
-use Rattle.rewrite_rules.proofs.FirstPlaces.{mapped-next, mapped-whole}
+use Rattle.rewrite_forms.proofs.CutLists.{mapped-next, mapped-whole}
 use Rattle.rewrite_laws.specs.RewriteLaws.{MayStandFor}
 use Rattle.rewrite_laws.specs.Rewrites.{Rule, first_rewrite, rules}
 use Rattle.walk_laws.specs.Walks.{Early, rules_of}

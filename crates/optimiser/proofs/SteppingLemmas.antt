@@ -16,7 +16,7 @@ use Rattle.context_typing.specs.Shapes.{Shape}
 use Rattle.context_typing.specs.ShapeTypes.{has_types}
 use Rattle.context_typing.specs.Typing.{Customs, after, step_shape, steps_shape}
 use Rattle.context_typing.proofs.TypingEquations.{steps_shape-Then}
-use Rattle.rewrite_rules.proofs.FirstPlaces.{dropped-next}
+use Rattle.rewrite_forms.proofs.CutLists.{dropped-next}
 use Rattle.optimiser.specs.HeldSegments.{Frame, are_right, are_there, enters, is_right, is_there, made, outline, passes, segment_of, segments_of, test_of}
 use Rattle.optimiser.specs.IdleForms.{before_aggregate, frame, is_put, joined_last, segment, stepped}
 use Rattle.walk_laws.specs.Walks as spec

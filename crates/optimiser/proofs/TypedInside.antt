@@ -17,7 +17,7 @@ use Rattle.context_typing.specs.Steps.{nodes_at}
 use Rattle.context_typing.specs.Typing.{Customs, branch_shapes, group_keys, hierarchy_at, inner_shape, is_free, is_node_path, is_nodes, join_navigation, RollupPart, joined_shape, key_typed, keys_typed, no_shape, rollup_part, root_type, step_shape, steps_shape}
 use Rattle.context_typing.proofs.TypingEquations.{inner_shape-SomePipe, key_typed-Recursive, step_shape-Climb, step_shape-Concat, step_shape-GroupBy, step_shape-Join}
 use Rattle.rewrite_laws.specs.Rewrites.{node_shape}
-use Rattle.rewrite_rules.specs.GroupForms.{chosen_nodes, recursive_key}
+use Rattle.rewrite_forms.specs.GroupForms.{chosen_nodes, recursive_key}
 use Rattle.optimiser.proofs.HeldLists.{all-at}
 use Rattle.optimiser.specs.WalkForms.{branches_typed, inner_typed, key_inside_typed, keys_inside_typed}
 

@@ -13,7 +13,7 @@ use Rattle.apply_ast.specs.Views.{keys_from, pipes_from}
 use Rattle.context_typing.specs.Shapes.{Shape, set_shape}
 use Rattle.context_typing.specs.Steps.{nodes_at}
 use Rattle.context_typing.specs.Typing.{Customs, after, hierarchy_at, join_navigation, steps_shape}
-use Rattle.rewrite_rules.proofs.FirstPlaces.{dropped-next, mapped-next}
+use Rattle.rewrite_forms.proofs.CutLists.{dropped-next, mapped-next}
 use Rattle.walk_laws.specs.Walks.{Rules, Segment, front, is_late, put_step, put_steps, settled_branches, settled_inner, settled_key, settled_keys, settled_step, whole, without_idle}
 use Rattle.optimiser.specs.WalkForms.{of_filters, settled_on, walked}
 

@@ -6,7 +6,7 @@ ghost use Rattle.context_typing.specs.Readings.{AreTypedOver, readings};
 ghost use Rattle.context_typing.specs.ShapeTypes.{has_types};
 ghost use Rattle.context_typing.specs.Typing as typing;
 ghost use Rattle.optimiser.specs.HeldSegments as held;
-ghost use Rattle.rewrite_rules.specs.GroupForms as groups;
+ghost use Rattle.rewrite_forms.specs.GroupForms as groups;
 ghost use Rattle.edm_model.specs.Models as seen;
 ghost use Rattle.context_typing.specs.Shapes as shapes;
 ghost use Rattle.optimiser.specs.HeadForms as form;
@@ -18,7 +18,7 @@ use crate::rules::{Rules, is_late};
 use apply_ast::{JoinStep, KeyItem, KeyList, Pipe, PipeList, Step};
 use context_typing::{Customs, Shape, is_risky, join_target, set_shape};
 use edm_model::Model;
-use rewrite_rules::{
+use rewrite_forms::{
     branch_shapes, chosen_nodes, grouping_quiet, in_every_row, inner_quiet, order_sure,
     recursive_key,
 };

@@ -10,7 +10,7 @@ ghost use Rattle.optimiser.specs.HeldSegments as held;
 use apply_ast::{Expr, Name, Named, Path, TopStep};
 use context_typing::{Shape, is_sure, is_test};
 use edm_model::Model;
-use rewrite_rules::{
+use rewrite_forms::{
     all_begin, any_begins, has_path, is_test_on, names_any, on_node, over, without_first,
 };
 use std::alloc::{AllocError, Global};

@@ -11,7 +11,7 @@ ghost use Rattle.walk_laws.specs.Walks as spec;
 
 use crate::held::{Head, Segment};
 use apply_ast::{Limit, Path, Step, TopStep};
-use rewrite_rules::{count_by, is_made, same_expr};
+use rewrite_forms::{count_by, is_made, same_expr};
 use std::alloc::{AllocError, Global};
 
 /// Whether a step is idle at the end: an order that lets filters pass, or before a climb to a path a computation that does not make

@@ -4,7 +4,8 @@
 //! entity set and the same shape (`specs/Plans`). `Plan::written` makes the plan that runs the pipeline as it was written, and
 //! `optimise` the one that runs what rewriting makes of it.
 //!
-//! The crate stands on `rewrite_laws` for what a plan is, on `walk_laws` for the walk, on `rewrite_rules` for the rules, on
+//! The crate stands on `rewrite_laws` for what a plan is, on `walk_laws` for the walk, on `rewrite_places` for the rules at their
+//! first places, by their names in `rewrite_rules`, on `rewrite_forms` for what the walk asks of steps and expressions, on
 //! `context_typing` for typed pipelines, and on `apply_ast` for pipelines. It promises that a typing makes a plan over its
 //! model and customs (`plan`); that the plan which `Plan::written` makes runs that typing's pipeline; and that the pipeline
 //! which a plan of `optimise` runs is the plan of the written one (`own`): it is reached by rewrites in their order, no rule

@@ -8,12 +8,14 @@ ghost use Rattle.context_typing.specs.Readings.{AreTypedOver, readings};
 ghost use Rattle.context_typing.specs.Typing.{customs_typed, shape_of_set};
 ghost use Rattle.rewrite_laws.specs.RewriteLaws.{MayStandFor};
 ghost use Rattle.rewrite_laws.specs.Rewrites.{rules};
-ghost use Rattle.rewrite_rules.specs.Places.{MayStand, rule_of};
+ghost use Rattle.rewrite_places.specs.Places.{MayStand};
+ghost use Rattle.rewrite_rules.specs.RuleNames.{rule_of};
 ghost use Rattle.optimiser.specs.Plans.{IsFirstOf, IsNext, later_rules};
 
 use context_typing::{Customs, Typed};
 use edm_model::Model;
-use rewrite_rules::{RuleName, first_place};
+use rewrite_places::first_place;
+use rewrite_rules::RuleName;
 use std::alloc::{AllocError, Global};
 
 /// How many rules come first, by which any pipeline is settled in one walk.

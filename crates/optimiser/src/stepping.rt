@@ -20,7 +20,7 @@ use crate::rules::{Rules, is_late};
 use apply_ast::{Step, TopStep};
 use context_typing::{Customs, Shape};
 use edm_model::Model;
-use rewrite_rules::shape_after;
+use rewrite_forms::shape_after;
 use std::alloc::{AllocError, Global};
 
 /// The segments of no steps.

@@ -22,7 +22,7 @@ use crate::rules::Rules;
 use apply_ast::{ClimbStep, Expr, JoinStep, KeyItem, KeyList, Path, Pipe, PipeList, Step};
 use context_typing::{Customs, Shape, join_target, nodes_of, set_shape};
 use edm_model::{Model, TypeId};
-use rewrite_rules::{copy_inner, type_of};
+use rewrite_forms::{copy_inner, type_of};
 use std::alloc::{AllocError, Global};
 
 /// The step of a segment, the filters that have gone into it, and those behind it.

@@ -1,10 +1,9 @@
 -- What the rules of concatenations make, by the form of the step at the place.
-use Rattle.std.proofs.Common.{◌≡◌, refl, sym, ◌∙◌, ap, ℕ, ◌+◌, ◌-◌, ◌<◌, ◌≤◌, Bool, true, false, ◌&&◌, not, List, [], ◌∷◌, ◌++◌, Option, Some, None, cond, drop, find, get_or, length, map, take}
+use Rattle.std.proofs.Common.{◌≡◌, refl, sym, ◌∙◌, ap, ℕ, ◌+◌, ◌-◌, ◌<◌, Bool, true, false, ◌&&◌, not, List, [], ◌∷◌, ◌++◌, Option, Some, None, cond, drop, find, get_or, length, map, take}
 use Rattle.std.specs.Prelude.{option_and_then, option_map, slice_get}
 use Rattle.std.specs.Bool.{then_some}
 use Rattle.std.specs.List.{list_all}
-use Rattle.std.proofs.lemmas.List.{map-append, take_all}
-use Rattle.std.proofs.lemmas.List.Folds.{list_all-append}
+use Rattle.std.proofs.lemmas.List.{map-append}
 use Rattle.edm_values.specs.Lists.{all_some, is_some_and}
 use Rattle.edm_values.specs.Literals.{is_boolean_kind}
 use Rattle.edm_values.proofs.OptionFacts.{mapped, none_or, some_value, unmapped}
@@ -16,9 +15,9 @@ use Rattle.context_typing.specs.Typing.{Customs, after, has_kind, steps_shape}
 use Rattle.context_typing.proofs.WalkFacts.{steps-pipe}
 use Rattle.rewrite_laws.specs.Rewrites.{FilterRun, behind, branches, concat, ended, factor_branches, filter_branches, is_identity, movable}
 use Rattle.rewrite_rules.specs.Branches.{begins_with, common_first, into_branches, without_first}
-use Rattle.rewrite_rules.specs.Forms.{begins_with_filter}
-use Rattle.rewrite_rules.specs.StepForms.{branches_of}
-use Rattle.rewrite_rules.proofs.FirstPlaces.{mapped-next, mapped-whole}
+use Rattle.rewrite_forms.specs.Forms.{begins_with_filter}
+use Rattle.rewrite_forms.specs.StepForms.{branches_of}
+use Rattle.rewrite_forms.proofs.CutLists.{mapped-next}
 use Rattle.rewrite_rules.proofs.RuleForms.{behind-first}
 
 -- the branches of a list of them
@@ -37,36 +36,6 @@ made-next f g h done xs i d x k is e here =
 -- the steps of a pipeline behind its first, as a slice has them
 pub rest-steps : {X : Type 0} (f : X → Step) (xs : List X) (p : Pipe) → p ≡ pipe (map f xs) → map f (take (length xs - 1) (drop 1 xs)) ≡ drop 1 (steps p)
 rest-steps f xs p e = behind-first f xs ∙ ap (drop 1) (sym (steps-pipe (map f xs)) ∙ ap steps (sym e))
-
--- one answer more
-some-more : {X : Type 0} (os : List (Option X)) (ys : List X) (y : X) → all_some os ≡ Some ys → all_some (os ++ Some y ∷ []) ≡ Some (ys ++ y ∷ [])
-some-more [] ys y e = ap (λ l. Some (l ++ y ∷ [])) (some_value e)
-some-more (None ∷ os) ys y e = none_or ys e
-some-more (Some x ∷ os) ys y e = let p = mapped (λ l. x ∷ l) (all_some os) ys e in ap (option_map (λ l. x ∷ l)) (some-more os p.0 y p.1) ∙ ap (λ l. Some (l ++ y ∷ [])) p.2
-
--- an answer that is missing
-some-missing : {X : Type 0} (os rest : List (Option X)) → all_some (os ++ None ∷ rest) ≡ None
-some-missing [] rest = refl
-some-missing (None ∷ os) rest = refl
-some-missing (Some x ∷ os) rest = ap (option_map (λ l. x ∷ l)) (some-missing os rest)
-
-module _ {X Y Z : Type 0} (f : X → Y) (g : Y → Option Z) (xs : List X) (i : ℕ) where
-  -- all answers are there
-  pub shapes-end : (zs : List Z) → length xs ≤ i → all_some (map g (map f (take i xs))) ≡ Some zs → Some zs ≡ all_some (map g (map f xs))
-  shapes-end zs h e = sym (ap (λ l. all_some (map g (map f l))) (sym (take_all i xs h)) ∙ e)
-
-  module _ (d : X) (h : i < length xs) (is : d ≡ get_or xs i d) where
-    pub shapes-next : (zs : List Z) (z : Z) → all_some (map g (map f (take i xs))) ≡ Some zs → Some z ≡ g (f d) → all_some (map g (map f (take (i + 1) xs))) ≡ Some (zs ++ z ∷ [])
-    shapes-next zs z e k =
-        ap all_some (ap (map g) (mapped-next f xs i d h is) ∙ map-append g (map f (take i xs)) (f d ∷ []) ∙ ap (λ o. map g (map f (take i xs)) ++ o ∷ []) (sym k)) ∙ some-more (map g (map f (take i xs))) zs z e
-
-    pub shapes-missing : None ≡ g (f d) → None ≡ all_some (map g (map f xs))
-    shapes-missing k =
-        sym (ap all_some (ap (map g) (mapped-whole f xs i d h is) ∙ map-append g (map f (take i xs)) (f d ∷ map f (drop (i + 1) xs)) ∙ ap (λ o. map g (map f (take i xs)) ++ o ∷ map g (map f (drop (i + 1) xs))) (sym k))
-        ∙ some-missing (map g (map f (take i xs))) (map g (map f (drop (i + 1) xs))))
-
-pub all-more : {X : Type 0} (test : X → Bool) (xs : List X) (x : X) → list_all test xs ≡ true → test x ≡ true → list_all test (xs ++ x ∷ []) ≡ true
-all-more test xs x e h = list_all-append test xs (x ∷ []) ∙ (λ i. e i && (h i && true))
 
 -- ---- shapes of branches
 

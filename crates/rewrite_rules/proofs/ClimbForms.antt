@@ -14,7 +14,7 @@ use Rattle.context_typing.specs.Typing.{Customs, steps_shape}
 use Rattle.context_typing.proofs.WalkFacts.{steps-pipe}
 use Rattle.rewrite_laws.specs.Rewrites.{all_but_last, drop_idle, is_idle, pipe_or_identity}
 use Rattle.rewrite_rules.specs.Climbs.{may_be_idle, without_idle}
-use Rattle.rewrite_rules.specs.StepForms.{climbed_by}
+use Rattle.rewrite_forms.specs.StepForms.{climbed_by}
 
 -- ---- the last step of a pipeline
 

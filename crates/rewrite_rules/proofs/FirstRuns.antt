@@ -15,9 +15,9 @@ use Rattle.context_typing.specs.Shapes.{Shape}
 use Rattle.context_typing.specs.Typing.{is_sure}
 use Rattle.rewrite_laws.specs.Rewrites.{FilterRun, behind, longer, runs, movable, passing}
 use Rattle.rewrite_rules.specs.Conditions.{entered, moved, nearest, place_and_filter}
-use Rattle.rewrite_rules.specs.Forms.{filtered_by}
+use Rattle.rewrite_forms.specs.Forms.{filtered_by}
 use Rattle.rewrite_laws.proofs.FilterRuns.{IsRunOf, runs-each, found-each}
-use Rattle.rewrite_rules.proofs.FirstPlaces.{dropped-next, mapped-next}
+use Rattle.rewrite_forms.proofs.CutLists.{dropped-next, mapped-next}
 
 -- a run with more filters before it
 abbrev pub behind_filters : List Expr → FilterRun → FilterRun

@@ -1,14 +1,7 @@
 pub mod BranchForms
 pub mod ClimbForms
-pub mod FirstPlaces
-pub mod FirstRules
 pub mod FirstRuns
 pub mod GroupForms
 pub mod JoinForms
-pub mod NewPaths
 pub mod NodeForms
-pub mod ResultEquations
 pub mod RuleForms
-pub mod SameLists
-pub mod TypedPlaces
-pub mod TypedSteps

@@ -1,67 +1,24 @@
 -- The nodes that a recursive rollup shows, and what the rule makes that sends a filter among them.
 use Rattle.std.proofs.Common.{◌≡◌, refl, sym, ◌∙◌, ap, Bool, true, false, ◌&&◌, List, [], ◌∷◌, Option, Some, None, find, map}
-use Rattle.std.specs.Prelude.{option_map, option_and_then, is_some, slice_get, unwrap_or, ◌==◌, if◌then◌else◌}
+use Rattle.std.specs.Prelude.{option_map, option_and_then, is_some, ◌==◌, if◌then◌else◌}
 use Rattle.std.proofs.lemmas.Bool.{and_parts}
-use Rattle.edm_values.specs.Lists.{is_nonempty, is_some_and, same_text}
+use Rattle.edm_values.specs.Lists.{is_nonempty, is_some_and}
 use Rattle.edm_values.specs.Literals.{is_boolean_kind}
-use Rattle.edm_values.specs.Names.{Name, Path, is_name}
-use Rattle.edm_values.proofs.OptionFacts.{chained, mapped, none_or, some_value, some_there}
-use Rattle.edm_model.specs.LookUps.{HierarchyPlace, key_of, placed, property_at, set_named, set_type, type_at, type_of_set}
-use Rattle.edm_model.specs.Models.{Model, Part}
-use Rattle.edm_model.specs.Soundness.{IsSound}
-use Rattle.apply_ast.specs.Trees.{HierName, Key, Keys, OptPipe, Pipe, Step, is_long, pipe}
+use Rattle.edm_values.specs.Names.{Name, Path}
+use Rattle.edm_values.proofs.OptionFacts.{none_or, some_value}
+use Rattle.edm_model.specs.LookUps.{HierarchyPlace}
+use Rattle.edm_model.specs.Models.{Model}
+use Rattle.apply_ast.specs.Trees.{HierName, Key, Keys, OptPipe, Step}
 use Rattle.apply_ast.specs.Views.{keys_from}
 use Rattle.context_typing.specs.Shapes.{Shape, set_shape}
 use Rattle.context_typing.specs.Typing.{Customs, after, group_keys, has_kind, hierarchy_at, inner_shape, is_nodes, is_sure, keys_typed, rollup_part, rollup_paths, root_type, step_shape, steps_shape}
-use Rattle.context_typing.proofs.TypingEquations.{inner_shape-SomePipe, step_shape-GroupBy, steps_shape-End, steps_shape-Then}
+use Rattle.context_typing.proofs.TypingEquations.{step_shape-GroupBy}
 use Rattle.rewrite_laws.specs.Rewrites.{FilterRun, behind, ended_key, ended_keys, filter_nodes, grouping_quiet, movable, node_shape, on_node, over, paths}
-use Rattle.rewrite_rules.specs.Forms.{begins_with_filter}
-use Rattle.rewrite_rules.specs.GroupForms.{chosen_nodes, first_rollup, grouped_by, into_nodes, part_of, recursive, recursive_key}
-use Rattle.rewrite_rules.specs.Places.{shape_behind}
-use Rattle.rewrite_rules.proofs.GroupForms.{grouped-is, part-first}
-
--- ---- the key of a hierarchy's nodes
-
--- it is that of their type
-pub place-key : (m : Model) (h : HierName) (f : HierarchyPlace) → hierarchy_at m h ≡ Some f → property_at m (key_of m f.type) ≡ Some f.key
-place-key m h f e =
-    let a = chained (λ s. option_and_then (λ t. option_and_then (placed m s) (find (λ x. same_text x.qualifier h.qualifier) t.hierarchies)) (type_of_set m s)) (set_named m h.set) f e in
-    let b = chained (λ t. option_and_then (placed m a.0) (find (λ x. same_text x.qualifier h.qualifier) t.hierarchies)) (type_of_set m a.0) f a.2 in
-    let d = chained (placed m a.0) (find (λ x. same_text x.qualifier h.qualifier) (b.0).hierarchies) f b.2 in
-    let g = chained (λ t. option_map {U = HierarchyPlace} (λ k. record { set = a.0; type = set_type m a.0; key = k; hierarchy = d.0 }) (slice_get t.properties t.key)) (type_of_set m a.0) f d.2 in
-    let k = mapped {Y = HierarchyPlace} (λ k. record { set = a.0; type = set_type m a.0; key = k; hierarchy = d.0 }) (slice_get (g.0).properties (g.0).key) f g.2 in
-    let z = chained (λ es. type_at m es.of) (slice_get m.sets a.0) g.0 g.1 in
-    let type : type_at m (set_type m a.0) ≡ Some g.0 = ap (λ o. type_at m (unwrap_or (option_map (λ es. es.of) o) 0)) z.1 ∙ z.2 in
-    ap (λ f. property_at m (key_of m f.type)) (sym k.2)
-    ∙ ap (λ o. slice_get (unwrap_or (option_map (λ e. e.properties) o) []) (unwrap_or (option_map (λ e. e.key) o) 0)) type
-    ∙ k.1 ∙ ap (λ f. Some f.key) k.2
-
--- ---- the shape behind typed steps
-
-pub typed-behind : (m : Model) (c : Customs) (S S' : Shape) (ss : List Step) → steps_shape m c S (pipe ss) ≡ Some S' → shape_behind m c S ss ≡ S'
-typed-behind m c S S' [] e = some_value (sym (steps_shape-End m c S) ∙ e)
-typed-behind m c S S' (s ∷ ss) e =
-    let x = chained (λ Z. steps_shape m c Z (pipe ss)) (step_shape m c S s) S' (sym (steps_shape-Then m c S s (pipe ss)) ∙ e) in
-    ap (λ o. shape_behind m c (unwrap_or o S) ss) x.1 ∙ typed-behind m c x.0 S' ss x.2
-
--- the shape of what a pipeline chooses, where it has one
-pub chosen-behind : (m : Model) (c : Customs) (S : Shape) (p : Pipe) (ss : List Step) → p ≡ pipe ss → is_some (inner_shape m c S S (OptPipe.SomePipe p)) ≡ true → Some (shape_behind m c S ss) ≡ inner_shape m c S S (OptPipe.SomePipe p)
-chosen-behind m c S p ss e h = go (is_long p) (sym (ap is_some (inner_shape-SomePipe m c S S p)) ∙ h) ∙ sym (inner_shape-SomePipe m c S S p)
-  where
-    go : (b : Bool) → is_some (if b then steps_shape m c S p else None) ≡ true → Some (shape_behind m c S ss) ≡ (if b then steps_shape m c S p else None)
-    go false h = cc
-    go true h =
-        let x = some_there (steps_shape m c S p) h in
-        ap Some (typed-behind m c S x.0 ss (sym (ap (steps_shape m c S) e) ∙ x.1)) ∙ sym x.1
-
--- the name of a property is a name
-pub property-named : (m : Model) (p : Part) (n : Name) → IsSound m → option_map (λ q. q.name) (property_at m p) ≡ Some n → is_name n ≡ true
-property-named m p n sound e =
-    let x = mapped (λ q. q.name) (property_at m p) n e in
-    ap is_name (sym x.2) ∙ sound.property_names p x.0 x.1
-
-pub named-text : (n : Name) (o : Option Name) → is_name n ≡ true → o ≡ (if is_name n then Some n else None) → o ≡ Some n
-named-text n o h e = e ∙ ap (λ b. if b then Some n else None) h
+use Rattle.rewrite_forms.specs.Forms.{begins_with_filter}
+use Rattle.rewrite_forms.specs.GroupForms.{chosen_nodes, first_rollup, part_of, recursive, recursive_key}
+use Rattle.rewrite_rules.specs.GroupForms.{grouped_by, into_nodes}
+use Rattle.rewrite_rules.proofs.GroupForms.{grouped-is}
+use Rattle.rewrite_forms.proofs.KeyForms.{part-first}
 
 -- ---- the recursive rollup among keys
 

@@ -11,7 +11,7 @@ use Rattle.context_typing.specs.Shapes.{Shape}
 use Rattle.context_typing.specs.Typing.{Customs, after, is_sure, order_sure}
 use Rattle.rewrite_laws.specs.TreeEquality.{expr_same}
 use Rattle.rewrite_laws.specs.Rewrites.{passing, split_conjunction, pass_compute, pass_order, drop_order, join_counts}
-use Rattle.rewrite_rules.specs.Forms.{operands, computed_by, ordered_by, begins_with_filter, begins_with_aggregate, count_from_top, count_to, first_count}
+use Rattle.rewrite_forms.specs.Forms.{operands, computed_by, ordered_by, begins_with_filter, begins_with_aggregate, count_from_top, count_to, first_count}
 use Rattle.rewrite_rules.specs.Conditions.{names_none}
 
 -- a list is not empty where what it stands for is not

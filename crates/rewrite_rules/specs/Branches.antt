@@ -3,17 +3,12 @@ use Rattle.std.specs.Prelude.{Bool, not, ◌&&◌, List, Option, drop, find, map
 use Rattle.std.specs.Bool.{then_some}
 use Rattle.std.specs.List.{list_all}
 use Rattle.edm_values.specs.Lists.{is_some_and}
-use Rattle.edm_values.specs.Literals.{is_boolean_kind}
 use Rattle.edm_model.specs.Models.{Model}
-use Rattle.apply_ast.specs.Trees.{Expr, Pipe, Step, steps}
+use Rattle.apply_ast.specs.Trees.{Pipe, Step, steps}
 use Rattle.context_typing.specs.Shapes.{Shape}
-use Rattle.context_typing.specs.Typing.{has_kind}
+use Rattle.rewrite_forms.specs.Branches.{is_test_on}
 use Rattle.rewrite_laws.specs.Rewrites.{behind, concat, ended, is_identity, movable, pipe_or_identity}
 use Rattle.rewrite_laws.specs.TreeEquality.{step_same}
-
--- an expression is a test on each of these shapes
-abbrev pub is_test_on : Model → List Shape → Expr → Bool
-is_test_on m Ss b = list_all (λ S. has_kind is_boolean_kind m S b) Ss
 
 -- the steps after the nearest filter that is a test on these shapes has gone to the end of each branch
 abbrev pub into_branches : Model → Shape → List Shape → List Pipe → List Step → Option (List Step)

@@ -1,9 +1,8 @@
 -- What a filter must meet to pass a step or to go into it, and the steps after it has.
-use Rattle.std.specs.Prelude.{ℕ, suc, Bool, true, not, ◌&&◌, IsTrue, List, [], ◌∷◌, ◌++◌, Option, length, map, option_map, take, drop, find}
+use Rattle.std.specs.Prelude.{ℕ, suc, Bool, true, not, ◌&&◌, IsTrue, List, ◌∷◌, ◌++◌, Option, length, map, option_map, take, drop, find}
 use Rattle.std.specs.List.{list_any, list_all}
 use Rattle.edm_values.specs.Lists.{is_nonempty}
 use Rattle.edm_values.specs.Literals.{is_boolean_kind}
-use Rattle.edm_values.specs.Names.{Path}
 use Rattle.edm_model.specs.Models.{Model}
 use Rattle.apply_ast.specs.Trees.{Expr, Named, Step}
 use Rattle.apply_ast.specs.Views.{named_of}
@@ -11,13 +10,10 @@ use Rattle.context_typing.specs.Paths.{begins}
 use Rattle.context_typing.specs.Shapes.{Shape}
 use Rattle.context_typing.specs.ShapeTypes.{has_types}
 use Rattle.context_typing.specs.Typing.{has_kind, is_sure}
+use Rattle.rewrite_forms.specs.Columns.{new_paths}
 use Rattle.rewrite_rules.specs.declared.filters.Condition.{Condition}
 use Rattle.rewrite_rules.specs.declared.filters.Condition.TheVariants as condition
 use Rattle.rewrite_laws.specs.Rewrites.{FilterRun, is_among, movable, on_node, over, paths}
-
--- the paths of the columns that a computation makes
-abbrev pub new_paths : List Named → List Path
-new_paths ns = map (λ x. x.name ∷ []) ns
 
 -- no path of an expression is a column that a computation makes
 abbrev pub names_none : List Named → Expr → Bool

@@ -1,67 +1,29 @@
 //! The rules of concatenations: a filter goes into the branches, and a step with which all begin goes before them.
 ghost use Rattle.std.specs.Prelude.{◌≡◌, ◌<◌, Bool, IfOk, IfSome, IsTrue, Some, length, map, option_map, slice_get};
 ghost use Rattle.std.specs.List.{list_all};
-ghost use Rattle.edm_values.specs.Lists.{all_some};
 ghost use Rattle.edm_model.specs.Models as seen;
 ghost use Rattle.edm_model.specs.Soundness.{IsSound};
 ghost use Rattle.apply_ast.specs.Trees.{steps};
-ghost use Rattle.apply_ast.specs.Views.{expr_of, pipe_of, pipes_from, pipes_of, step_of};
+ghost use Rattle.apply_ast.specs.Views.{pipe_of, pipes_from, pipes_of, step_of};
 ghost use Rattle.context_typing.specs.Readings.{readings, AreTypedOver};
 ghost use Rattle.context_typing.specs.Shapes as shapes;
 ghost use Rattle.context_typing.specs.ShapeTypes.{has_types};
 ghost use Rattle.context_typing.specs.Typing as typing;
 ghost use Rattle.rewrite_rules.specs.Branches as spec;
-ghost use Rattle.rewrite_rules.specs.Places.{shape_behind};
+ghost use Rattle.rewrite_forms.specs.StepShapes.{shape_behind};
 ghost use Rattle.rewrite_laws.specs.Rewrites as rule;
 
 use crate::filters::{Condition, entered, nearest};
-use crate::forms::{begins_with_filter, is_identity};
 use crate::made::two_before_copies;
 use crate::pipelines::{ended, pipe_or_identity};
-use crate::same_steps::same_step;
-use crate::shapes::{shape_after, shape_behind, steps_shape};
-use crate::step_forms::branches_of;
-use apply_ast::{Expr, Pipe, PipeList, Step};
-use context_typing::{Customs, Shape, is_test};
+use apply_ast::{Pipe, PipeList, Step};
+use context_typing::{Customs, Shape};
 use edm_model::Model;
+use rewrite_forms::{
+    begins_with_filter, branch_shapes, branches_of, is_identity, same_step, shape_after,
+    shape_behind,
+};
 use std::alloc::{AllocError, Global};
-
-/// Whether an expression is a test on each of these shapes.
-pub fn is_test_on(m: &Model, shapes: &[Shape], e: &Expr) -> bool
-    requires { IsTrue (list_all (has_types m.now) shapes.now) }
-    ensures value { result ≡ spec.is_test_on m.now shapes.now (expr_of e.now) }
-{
-    for shape in shapes {
-        if !is_test(m, shape, e) {
-            return false;
-        }
-    }
-    true
-}
-
-/// The shape behind each branch, where all of them have a typing.
-pub fn branch_shapes(
-    alloc: Global,
-    m: &Model,
-    c: &Customs,
-    shape: &Shape,
-    branches: &[Pipe],
-) -> Result<Option<Vec<Shape>>, AllocError>
-    requires types { IsTrue (has_types m.now shape.now) }
-    requires customs { AreTypedOver m.now c.now }
-    requires sound { IsSound m.now }
-    ensures value { IfOk result (λ o. option_map (λ v. v.items) o ≡ all_some (map (typing.steps_shape m.now (readings c.now) shape.now) (map pipe_of branches.now))) }
-    ensures types { IfOk result (λ o. IfSome o (λ v. IsTrue (list_all (has_types m.now) v.items))) }
-{
-    let mut shapes = Vec::new(alloc);
-    for branch in branches {
-        match steps_shape(alloc, m, c, shape, branch.steps())? {
-            Some(next) => shapes.push(next)?,
-            None => return Ok(None),
-        }
-    }
-    Ok(Some(shapes))
-}
 
 /// The branches with a step more at the end of each.
 fn ended_branches(alloc: Global, branches: &[Pipe], step: &Step) -> Result<PipeList, AllocError>

@@ -5,18 +5,15 @@ ghost use Rattle.apply_ast.specs.Views.{pipe_of, step_of};
 ghost use Rattle.context_typing.specs.Readings.{readings, AreTypedOver};
 ghost use Rattle.context_typing.specs.ShapeTypes.{has_types};
 ghost use Rattle.rewrite_rules.specs.Climbs as spec;
-ghost use Rattle.rewrite_rules.specs.Places.{shape_behind};
+ghost use Rattle.rewrite_forms.specs.StepShapes.{shape_behind};
 ghost use Rattle.rewrite_laws.specs.Rewrites as rule;
 
-use crate::filters::{is_made, order_sure};
 use crate::made::before_copies;
 use crate::pipelines::pipe_or_identity;
-use crate::shapes::{shape_behind, steps_shape};
-use crate::step_forms::climbed_by;
-use crate::trees::with_starts;
 use apply_ast::{ClimbStep, Path, Pipe, Step};
 use context_typing::{Customs, Shape};
 use edm_model::Model;
+use rewrite_forms::{climbed_by, is_made, order_sure, shape_behind, steps_shape, with_starts};
 use std::alloc::{AllocError, Global};
 
 /// Whether a step may be idle at the end of a climb's pipeline.

@@ -4,8 +4,8 @@ ghost use Rattle.apply_ast.specs.Trees.{OptPipe as opt, Pipe as tree};
 ghost use Rattle.apply_ast.specs.Views.{inner_of, pipe_of, step_of};
 ghost use Rattle.rewrite_laws.specs.Rewrites as rule;
 
-use crate::trees::put_copies;
 use apply_ast::{Pipe, Step};
+use rewrite_forms::put_copies;
 use std::alloc::{AllocError, Global};
 
 /// A pipeline with one more step at its end.

@@ -1,25 +1,20 @@
 //! The filters behind a step: which of them may pass it, and the steps after it has.
 ghost use Rattle.std.specs.Prelude.{◌≡◌, ◌<◌, ◌==◌, ◌&&◌, ◌||◌, IfOk, IfSome, IsTrue, length, map, option_map};
-ghost use Rattle.std.specs.List.{list_all, list_any};
-ghost use Rattle.edm_values.specs.Lists.{same_text};
 ghost use Rattle.edm_values.specs.Literals.{is_boolean_kind};
-ghost use Rattle.apply_ast.specs.Views.{expr_of, item_of, named_of, step_of};
+ghost use Rattle.apply_ast.specs.Views.{expr_of, step_of};
 ghost use Rattle.context_typing.specs.ShapeTypes.{has_types};
 ghost use Rattle.context_typing.specs.Typing as typing;
 ghost use Rattle.rewrite_rules.specs.Conditions as spec;
-ghost use Rattle.rewrite_laws.specs.Rewrites.{is_among, passing, paths};
+ghost use Rattle.rewrite_laws.specs.Rewrites.{passing};
 ghost use Rattle.rewrite_laws.specs.Rewrites as rule;
 
-use crate::alias::{all_begin, any_begins, has_path};
-use crate::branches::is_test_on;
-use crate::forms::filtered_by;
 use crate::made::{before_copies, two_before_copies};
-use crate::path_copies::on_node;
-use crate::paths::over;
-use crate::trees::put_copies;
-use apply_ast::{Expr, Name, Named, OrderItem, Path, Step};
+use apply_ast::{Expr, Name, Named, Path, Step};
 use context_typing::{Shape, is_sure, is_test};
 use edm_model::Model;
+use rewrite_forms::{
+    all_begin, any_begins, filtered_by, has_path, is_test_on, names_any, on_node, over, put_copies,
+};
 use std::alloc::{AllocError, Global};
 
 /// What a filter must meet to pass a step, or to go into it.
@@ -43,22 +38,6 @@ pub(crate) enum Condition<'a> {
     TypedOn(&'a [Shape]),
     /// It is sure, there is a path, each is one of these, and with the key's name in place of each it is a sure test on the nodes' shape.
     OnNodes(&'a [Path], &'a Name, &'a Shape),
-}
-
-/// Whether all items of an order are sure.
-pub fn order_sure(m: &Model, shape: &Shape, items: &[OrderItem]) -> bool
-    requires { IsTrue (has_types m.now shape.now) }
-    ensures value { result ≡ typing.order_sure m.now shape.now (map item_of items.now) }
-{
-    each_sure(m, shape, items)
-}
-
-/// Whether the expression of each item is sure.
-fn each_sure(m: &Model, shape: &Shape, items: &[OrderItem]) -> bool
-    requires { IsTrue (has_types m.now shape.now) }
-    ensures { result ≡ list_all (λ x. typing.is_sure m.now shape.now (expr_of x.expr)) items.now }
-{
-    items.iter().all(|item| is_sure(m, shape, &item.expr))
 }
 
 /// Whether an expression meets a condition, on the shape behind the step. It is passed whether it is sure there.
@@ -105,43 +84,6 @@ fn may_choose(
 {
     let there = on_node(alloc, key, e)?;
     Ok(is_test(m, nodes, &there) && is_sure(m, nodes, &there))
-}
-
-/// Whether a path of an expression is one of the new columns.
-pub fn names_any(e: &Expr, made: &[Named]) -> bool
-    ensures value { result ≡ list_any (is_among (spec.new_paths (map named_of made.now))) (paths (expr_of e.now)) }
-{
-    match e {
-        Expr::Path(path) => is_made(path, made),
-        Expr::Unary(_, a) => names_any(a, made),
-        Expr::Binary(_, a, b) => names_any(a, made) || names_any(b, made),
-        Expr::Call1(_, a) => names_any(a, made),
-        Expr::Call2(_, a, b) => names_any(a, made) || names_any(b, made),
-        Expr::Null => false,
-        Expr::Bool(_) => false,
-        Expr::Int(_) => false,
-        Expr::Dec(_) => false,
-        Expr::Text(_) => false,
-        Expr::Day(_) => false,
-    }
-}
-
-/// Whether a path is one of the new columns.
-pub fn is_made(path: &Path, made: &[Named]) -> bool
-    ensures value { result ≡ is_among (spec.new_paths (map named_of made.now)) path.now }
-{
-    let names = path.names();
-    if names.len() != 1 {
-        return false;
-    }
-    is_new(&names[0], made)
-}
-
-/// Whether a name is that of a new column.
-fn is_new(name: &Name, made: &[Named]) -> bool
-    ensures { result ≡ list_any (λ x. same_text name.now x.name) made.now }
-{
-    made.iter().any(|x| name.text() == x.name.text())
 }
 
 /// Whether a filter behind so many others may pass them, and meets the condition.

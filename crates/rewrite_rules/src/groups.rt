@@ -5,19 +5,20 @@ ghost use Rattle.apply_ast.specs.Views.{inner_of, key_of, keys_from, pipe_of, st
 ghost use Rattle.context_typing.specs.Readings.{readings, AreTypedOver};
 ghost use Rattle.context_typing.specs.ShapeTypes.{has_types};
 ghost use Rattle.context_typing.specs.Typing as typing;
+ghost use Rattle.rewrite_forms.specs.GroupForms.{key_part, part_of};
 ghost use Rattle.rewrite_rules.specs.GroupForms as spec;
-ghost use Rattle.rewrite_rules.specs.Places.{shape_behind};
+ghost use Rattle.rewrite_forms.specs.StepShapes.{shape_behind};
 ghost use Rattle.rewrite_laws.specs.Rewrites as rule;
 
 use crate::filters::{Condition, entered, nearest, passed_by};
-use crate::forms::begins_with_filter;
-use crate::keys::{any_risky, first_rollup, in_every_row, only, recursive_key};
-use crate::nodes::{chosen_nodes, with_chosen};
-use crate::path_copies::on_node;
-use crate::shapes::{shape_after, shape_behind};
+use crate::nodes::with_chosen;
 use apply_ast::{KeyItem, Name, Path, Pipe, Step};
-use context_typing::{Customs, Shape, is_quiet};
+use context_typing::{Customs, Shape};
 use edm_model::Model;
+use rewrite_forms::{
+    begins_with_filter, chosen_nodes, first_rollup, grouping_quiet, in_every_row, on_node, only,
+    recursive_key, shape_after, shape_behind,
+};
 use std::alloc::{AllocError, Global};
 
 /// What stands beside plain keys in the groupings of a rule.
@@ -43,7 +44,7 @@ fn grouped_by(step: &Step) -> Option<(&[KeyItem], &Option<Pipe>)>
 
 /// Whether a key is a plain path.
 fn is_path(key: &KeyItem) -> bool
-    ensures { result ≡ rule.is_no_rollup (spec.key_part (key_of key.now)) }
+    ensures { result ≡ rule.is_no_rollup (key_part (key_of key.now)) }
 {
     match key {
         KeyItem::Plain(_) => true,
@@ -54,7 +55,7 @@ fn is_path(key: &KeyItem) -> bool
 
 /// Whether a key is the levels of a rollup.
 fn is_levels(key: &KeyItem) -> bool
-    ensures { result ≡ rule.is_levels (spec.key_part (key_of key.now)) }
+    ensures { result ≡ rule.is_levels (key_part (key_of key.now)) }
 {
     match key {
         KeyItem::Plain(_) => false,
@@ -65,7 +66,7 @@ fn is_levels(key: &KeyItem) -> bool
 
 /// Whether a key is a recursive rollup.
 fn is_recursive(key: &KeyItem) -> bool
-    ensures { result ≡ typing.is_nodes (spec.key_part (key_of key.now)) }
+    ensures { result ≡ typing.is_nodes (key_part (key_of key.now)) }
 {
     match key {
         KeyItem::Plain(_) => false,
@@ -76,7 +77,7 @@ fn is_recursive(key: &KeyItem) -> bool
 
 /// Whether a key is what is looked for.
 fn is_of(kind: Grouping, key: &KeyItem) -> bool
-    ensures { result ≡ spec.is_of kind (spec.key_part (key_of key.now)) }
+    ensures { result ≡ spec.is_of kind (key_part (key_of key.now)) }
 {
     match kind {
         Grouping::Plain => is_path(key),
@@ -87,7 +88,7 @@ fn is_of(kind: Grouping, key: &KeyItem) -> bool
 
 /// Whether nothing beside plain keys is looked for.
 fn is_plain(kind: Grouping) -> bool
-    ensures { result ≡ spec.is_of kind (spec.part_of None) }
+    ensures { result ≡ spec.is_of kind (part_of None) }
 {
     match kind {
         Grouping::Plain => true,
@@ -104,45 +105,6 @@ fn has_part(kind: Grouping, keys: &[KeyItem]) -> bool
         Some(key) => is_of(kind, key),
         None => is_plain(kind),
     }
-}
-
-/// Whether the pipeline for each group is quiet, where there is one.
-pub fn inner_quiet(
-    alloc: Global,
-    m: &Model,
-    c: &Customs,
-    shape: &Shape,
-    inner: &Option<Pipe>,
-) -> Result<bool, AllocError>
-    requires types { IsTrue (has_types m.now shape.now) }
-    requires customs { AreTypedOver m.now c.now }
-    requires typed { IfSome inner.now (λ p. IsTrue (is_some (typing.steps_shape m.now (readings c.now) shape.now (pipe_of p)))) }
-    ensures value { IfOk result (λ quiet. quiet ≡ typing.inner_quiet m.now (readings c.now) shape.now (inner_of (option_map pipe_of inner.now))) }
-{
-    match inner {
-        Some(pipe) => is_quiet(alloc, m, c, shape, pipe),
-        None => Ok(true),
-    }
-}
-
-/// Whether no key of a grouping may be past its range, and what is made of each group is quiet.
-pub fn grouping_quiet(
-    alloc: Global,
-    m: &Model,
-    c: &Customs,
-    shape: &Shape,
-    keys: &[KeyItem],
-    inner: &Option<Pipe>,
-) -> Result<bool, AllocError>
-    requires types { IsTrue (has_types m.now shape.now) }
-    requires customs { AreTypedOver m.now c.now }
-    requires typed { IfSome inner.now (λ p. IsTrue (is_some (typing.steps_shape m.now (readings c.now) shape.now (pipe_of p)))) }
-    ensures value { IfOk result (λ quiet. quiet ≡ rule.grouping_quiet m.now (readings c.now) shape.now (keys_from (map key_of keys.now)) (inner_of (option_map pipe_of inner.now))) }
-{
-    if any_risky(shape, keys) {
-        return Ok(false);
-    }
-    inner_quiet(alloc, m, c, shape, inner)
 }
 
 /// A sure filter on keys that stand in every row passes a grouping whose keys are of this kind.

@@ -7,16 +7,15 @@ ghost use Rattle.context_typing.specs.ShapeTypes.{has_types};
 ghost use Rattle.context_typing.specs.Typing.{step_shape};
 ghost use Rattle.rewrite_rules.specs.Conditions.{IsRight};
 ghost use Rattle.rewrite_rules.specs.Joins.{passing_quiet, IsTypedFrom};
-ghost use Rattle.rewrite_rules.specs.Places.{shape_behind};
+ghost use Rattle.rewrite_forms.specs.StepShapes.{shape_behind};
 ghost use Rattle.rewrite_laws.specs.Rewrites as rule;
 
 use crate::filters::{Condition, entered, nearest, passed_by};
-use crate::forms::begins_with_filter;
 use crate::related::{joined_by, with_filter};
-use crate::shapes::{shape_after, shape_behind};
 use apply_ast::Step;
 use context_typing::{Customs, Shape, type_step};
 use edm_model::Model;
+use rewrite_forms::{begins_with_filter, shape_after, shape_behind};
 use std::alloc::{AllocError, Global};
 
 /// The nearest filter that meets a condition passes a step that is quiet.

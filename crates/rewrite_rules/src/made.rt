@@ -1,10 +1,10 @@
 //! The steps that rules put together.
 ghost use Rattle.std.specs.Prelude.{◌≡◌, ◌<◌, ◌∷◌, IfOk, length, map};
 ghost use Rattle.apply_ast.specs.Views.{expr_of, step_of};
-ghost use Rattle.rewrite_rules.specs.Forms.{count_to};
+ghost use Rattle.rewrite_forms.specs.Forms.{count_to};
 
-use crate::trees::put_copies;
 use apply_ast::{Expr, Limit, Step, TopStep};
+use rewrite_forms::put_copies;
 use std::alloc::{AllocError, Global};
 
 /// Copies of steps.

@@ -6,8 +6,8 @@ ghost use Rattle.rewrite_rules.specs.Joins as spec;
 ghost use Rattle.rewrite_laws.specs.Rewrites.{paths};
 
 use crate::ended::ended_inner;
-use crate::path_copies::without_first;
 use apply_ast::{Expr, JoinStep, Step};
+use rewrite_forms::without_first;
 use std::alloc::{AllocError, Global};
 
 /// The join that a step is.

@@ -10,25 +10,25 @@ ghost use Rattle.context_typing.specs.ShapeTypes.{has_types};
 ghost use Rattle.context_typing.specs.Typing as typing;
 ghost use Rattle.context_typing.specs.Typing.{step_shape};
 ghost use Rattle.rewrite_rules.specs.Joins.{IsTypedFrom};
-ghost use Rattle.rewrite_rules.specs.Places.{rule_of, shape_behind};
+ghost use Rattle.rewrite_rules.specs.RuleNames.{rule_of};
+ghost use Rattle.rewrite_forms.specs.StepShapes.{shape_behind};
 ghost use Rattle.rewrite_laws.specs.Rewrites as rule;
 
 use crate::branches::{factor_branches, filter_branches};
 use crate::climbs::drop_idle;
-use crate::filters::{Condition, order_sure, passed_by};
-use crate::forms::{
-    begins_with_aggregate, begins_with_filter, computed_by, count_from_top, first_count,
-    is_identity, operands, ordered_by, passes_all,
-};
+use crate::filters::{Condition, passed_by};
 use crate::groups::{Grouping, filter_nodes, pass_grouping};
 use crate::joins::{filter_related, pass_join, pass_outer_join};
 use crate::made::{before_copies, copies, count_before_copies, two_before_copies};
-use crate::same::same_expr;
-use crate::shapes::{shape_after, shape_behind};
 use crate::walks::pass_traverse;
 use apply_ast::Step;
 use context_typing::{Customs, Shape, is_sure};
 use edm_model::Model;
+use rewrite_forms::{
+    begins_with_aggregate, begins_with_filter, computed_by, count_from_top, first_count,
+    is_identity, operands, order_sure, ordered_by, passes_all, same_expr, shape_after,
+    shape_behind,
+};
 use std::alloc::{AllocError, Global};
 
 /// A rule by its name, in the order in which the rules come.
@@ -229,7 +229,7 @@ fn join_counts(alloc: Global, step: &Step, rest: &[Step]) -> Result<Option<Vec<S
 }
 
 /// What a rule makes of the steps from a place on, where it applies there.
-pub(crate) fn at_place(
+pub fn at_place(
     alloc: Global,
     m: &Model,
     c: &Customs,

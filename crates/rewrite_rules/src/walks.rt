@@ -4,27 +4,15 @@ ghost use Rattle.edm_model.specs.Soundness.{IsSound};
 ghost use Rattle.apply_ast.specs.Views.{step_of};
 ghost use Rattle.context_typing.specs.Readings.{readings, AreTypedOver};
 ghost use Rattle.context_typing.specs.ShapeTypes.{has_types};
-ghost use Rattle.rewrite_rules.specs.Forms as spec;
-ghost use Rattle.rewrite_rules.specs.Places.{shape_behind};
+ghost use Rattle.rewrite_forms.specs.StepShapes.{shape_behind};
 ghost use Rattle.rewrite_laws.specs.Rewrites as rule;
 
 use crate::filters::{Condition, passed_by};
-use crate::forms::begins_with_filter;
-use crate::shapes::shape_behind;
-use apply_ast::{Path, Step};
+use apply_ast::Step;
 use context_typing::{Customs, Shape, is_risky};
 use edm_model::Model;
+use rewrite_forms::{begins_with_filter, shape_behind, walked_by};
 use std::alloc::{AllocError, Global};
-
-/// The path of the nodes that a step walks over.
-fn walked_by(step: &Step) -> Option<&Path>
-    ensures { option_map (λ p. p.now) result ≡ spec.walked_by (step_of step.now) }
-{
-    match step {
-        Step::Traverse(walk) => Some(&walk.path),
-        _ => None,
-    }
-}
 
 /// A sure filter passes a walk over the nodes of a sure path.
 pub(crate) fn pass_traverse(

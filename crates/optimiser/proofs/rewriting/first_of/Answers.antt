@@ -1,7 +1,7 @@
 use Rattle.std.proofs.Common.{◌≤◌, get_or, length, arith}
 use Rattle.context_typing.specs.Readings.{readings}
 use Rattle.optimiser.proofs.PlanSteps.{first-typed, found-next, none-at_all, none-more}
-use Rattle.rewrite_rules.specs.Places.{rule_of}
+use Rattle.rewrite_rules.specs.RuleNames.{rule_of}
 use Rattle.rewrite_rules.specs.declared.rules.RuleName.TheVariants as name
 use Rattle.optimiser.proofs.rewriting.first_of.Goals as goal
 

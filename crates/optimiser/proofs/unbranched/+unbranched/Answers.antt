@@ -3,7 +3,7 @@ use Rattle.std.proofs.Math.ListN.{drop_of_length-le}
 use Rattle.apply_ast.specs.Trees.{Key, Keys, Pipe, Step, pipe}
 use Rattle.apply_ast.specs.Views.{key_of, keys_from, step_of}
 use Rattle.apply_ast.proofs.ViewEquations.{keys_of-is}
-use Rattle.rewrite_rules.proofs.FirstPlaces.{dropped-next}
+use Rattle.rewrite_forms.proofs.CutLists.{dropped-next}
 use Rattle.walk_laws.specs.Walks as spec
 use Rattle.optimiser.proofs.unbranched.+unbranched.Goals as goal
 

@@ -4,7 +4,7 @@ use Rattle.apply_ast.specs.Trees.{Expr, Step}
 use Rattle.apply_ast.specs.Views.{expr_of, pipe_of, pipes_from, step_of}
 use Rattle.apply_ast.proofs.ViewEquations.{step_of-Concat, step_of-Filter}
 use Rattle.rewrite_laws.specs.Rewrites.{concat, ended}
-use Rattle.rewrite_rules.specs.Branches.{is_test_on}
+use Rattle.rewrite_forms.specs.Branches.{is_test_on}
 use Rattle.rewrite_rules.specs.Conditions.{entered}
 use Rattle.rewrite_rules.proofs.FirstRuns.{nearest-entered}
 use Rattle.rewrite_rules.proofs.branches.into_branches.Goals as goal

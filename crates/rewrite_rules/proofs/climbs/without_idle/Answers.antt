@@ -1,7 +1,7 @@
 use Rattle.std.proofs.Common.{◌≡◌, sym, ◌∙◌, ap, ◌+◌, ◌-◌, Some, length, map, arith}
 use Rattle.apply_ast.specs.Views.{pipe_of, step_of}
 use Rattle.context_typing.specs.Readings.{readings}
-use Rattle.rewrite_rules.specs.Places.{shape_behind}
+use Rattle.rewrite_forms.specs.StepShapes.{shape_behind}
 use Rattle.rewrite_rules.proofs.ClimbForms.{idle-given, idle-kept, idle-other, idle-untyped}
 use Rattle.rewrite_rules.proofs.climbs.without_idle.Goals as goal
 

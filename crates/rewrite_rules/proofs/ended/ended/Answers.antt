@@ -14,6 +14,6 @@ returns c =
           c.new.ensures.tree
           ∙ ap (λ l. pipe (map step_of l)) c.in_ok-push.ensures.items
           ∙ ap pipe (map-append step_of xs (c.args.step ∷ []))
-          ∙ ap (λ (l : List Step). pipe (l ++ s ∷ [])) (c.in_ok-put_copies.ensures ∙ ap (λ l. map step_of l ++ map step_of c.steps.result.now) c.new-steps.ensures.items)
+          ∙ ap (λ (l : List Step). pipe (l ++ s ∷ [])) (c.in_ok-put_copies.ensures.steps ∙ ap (λ l. map step_of l ++ map step_of c.steps.result.now) c.new-steps.ensures.items)
           ∙ sym (ap (λ p. pipe (steps p ++ s ∷ [])) c.steps.ensures.tree ∙ ap (λ (l : List Step). pipe (l ++ s ∷ [])) (steps-pipe (map step_of c.steps.result.now)));
     }

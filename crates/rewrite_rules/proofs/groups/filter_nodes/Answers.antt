@@ -3,7 +3,7 @@ use Rattle.std.specs.Prelude.{IfOk, option_map}
 use Rattle.apply_ast.specs.Trees.{Step}
 use Rattle.apply_ast.specs.Views.{hier_of, inner_of, key_of, keys_from, pipe_of, step_of}
 use Rattle.context_typing.specs.Readings.{readings}
-use Rattle.rewrite_rules.specs.Places.{shape_behind}
+use Rattle.rewrite_forms.specs.StepShapes.{shape_behind}
 use Rattle.rewrite_rules.proofs.GroupForms.{groups-typed}
 use Rattle.rewrite_rules.proofs.NodeForms.{nodes-given, nodes-missing, nodes-other, nodes-typed}
 use Rattle.rewrite_rules.proofs.groups.filter_nodes.Goals as goal

@@ -4,7 +4,7 @@ use Rattle.apply_ast.specs.Trees.{Step}
 use Rattle.apply_ast.specs.Views.{inner_of, key_of, keys_from, pipe_of, step_of}
 use Rattle.context_typing.specs.Readings.{readings}
 use Rattle.rewrite_rules.specs.GroupForms.{is_of}
-use Rattle.rewrite_rules.specs.Places.{shape_behind}
+use Rattle.rewrite_forms.specs.StepShapes.{shape_behind}
 use Rattle.rewrite_rules.proofs.GroupForms.{grouping-given, groups-typed}
 use Rattle.rewrite_rules.proofs.groups.pass_grouping.Goals as goal
 

@@ -5,7 +5,7 @@ use Rattle.context_typing.specs.Readings.{readings}
 use Rattle.context_typing.specs.Typing.{after}
 use Rattle.rewrite_rules.specs.Conditions.{entered}
 use Rattle.rewrite_rules.specs.Joins.{join_parts}
-use Rattle.rewrite_rules.specs.Places.{shape_behind}
+use Rattle.rewrite_forms.specs.StepShapes.{shape_behind}
 use Rattle.rewrite_rules.proofs.JoinForms.{inside-longer, related-given, related-left}
 use Rattle.rewrite_rules.proofs.joins.filter_related.Goals as goal
 

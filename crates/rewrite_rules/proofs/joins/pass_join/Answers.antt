@@ -4,7 +4,7 @@ use Rattle.apply_ast.specs.Trees.{Step}
 use Rattle.apply_ast.specs.Views.{step_of}
 use Rattle.context_typing.specs.Readings.{readings}
 use Rattle.rewrite_rules.specs.Joins.{join_parts}
-use Rattle.rewrite_rules.specs.Places.{shape_behind}
+use Rattle.rewrite_forms.specs.StepShapes.{shape_behind}
 use Rattle.rewrite_rules.proofs.JoinForms.{join-given}
 use Rattle.rewrite_rules.proofs.joins.pass_join.Goals as goal
 

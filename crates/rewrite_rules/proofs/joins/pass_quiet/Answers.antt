@@ -6,7 +6,7 @@ use Rattle.context_typing.specs.Outcomes.{Outcome, step_outcome}
 use Rattle.context_typing.specs.Readings.{readings}
 use Rattle.context_typing.proofs.TypesKept.{step-types}
 use Rattle.context_typing.proofs.WalkFacts.{outcome-parts}
-use Rattle.rewrite_rules.specs.Places.{shape_behind}
+use Rattle.rewrite_forms.specs.StepShapes.{shape_behind}
 use Rattle.rewrite_rules.proofs.JoinForms.{quiet-given}
 use Rattle.rewrite_rules.proofs.joins.pass_quiet.Goals as goal
 

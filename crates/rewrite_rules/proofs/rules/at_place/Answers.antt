@@ -2,7 +2,7 @@ use Rattle.std.proofs.Common.{map}
 use Rattle.edm_values.specs.Lists.{is_nonempty}
 use Rattle.apply_ast.specs.Views.{step_of}
 use Rattle.context_typing.specs.Readings.{readings}
-use Rattle.rewrite_rules.specs.Places.{shape_behind}
+use Rattle.rewrite_forms.specs.StepShapes.{shape_behind}
 use Rattle.rewrite_rules.proofs.rules.at_place.Goals as goal
 
 pub returns-in-DropIdentity-clause-value : goal.returns-in-DropIdentity-clause-value

@@ -1,7 +1,7 @@
 use Rattle.std.proofs.Common.{sym, ◌∙◌, ap, ◌∷◌, Some, map}
 use Rattle.std.specs.Prelude.{option_map}
 use Rattle.apply_ast.specs.Views.{expr_of, step_of}
-use Rattle.rewrite_rules.specs.Forms.{count_to}
+use Rattle.rewrite_forms.specs.Forms.{count_to}
 use Rattle.rewrite_rules.proofs.RuleForms.{behind-first, count-given, count-different, count-none, count-alone}
 use Rattle.rewrite_rules.proofs.rules.join_counts.Goals as goal
 

@@ -4,7 +4,7 @@ use Rattle.apply_ast.specs.Trees.{Step}
 use Rattle.apply_ast.specs.Views.{named_of, step_of}
 use Rattle.context_typing.specs.Readings.{readings}
 use Rattle.context_typing.specs.Typing.{after}
-use Rattle.rewrite_rules.specs.Places.{shape_behind}
+use Rattle.rewrite_forms.specs.StepShapes.{shape_behind}
 use Rattle.rewrite_rules.proofs.RuleForms.{compute-given, compute-front, compute-form_none}
 use Rattle.rewrite_rules.proofs.rules.pass_compute.Goals as goal
 
@@ -13,7 +13,7 @@ returns-then-not-begins_with_filter-clause-value c =
     let m = c.args.m.now in
     let cs = readings c.args.c.now in λ b.
     compute-front m cs (shape_behind m cs c.args.start.now (map step_of c.args.before.now)) b (step_of c.args.step.now) (map step_of c.args.rest.now) (map named_of c.in-Some.items.now)
-    (sym c.computed_by.ensures ∙ ap (option_map (λ l. map named_of l.now)) c.in-Some.is) (sym c.begins_with_filter.ensures ∙ c.if-not-begins_with_filter.true)
+    (sym c.computed_by.ensures.value ∙ ap (option_map (λ l. map named_of l.now)) c.in-Some.is) (sym c.begins_with_filter.ensures.value ∙ c.if-not-begins_with_filter.true)
 
 pub returns-in_ok-shape-in-Some-clause-value : goal.returns-in_ok-shape-in-Some-clause-value
 returns-in_ok-shape-in-Some-clause-value c =
@@ -24,7 +24,7 @@ returns-in_ok-shape-in-Some-clause-value c =
     let ns = map named_of c.as_slice.result.now in λ b.
     subst (λ (R : Option (List Step)). IfOk c.passed_by.result (λ o. option_map (λ v. map step_of v.items) o ≡ R))
     (compute-given m cs S b s (map step_of c.args.rest.now) ns c.in_ok-shape-in-Some.shape
-    (sym c.computed_by.ensures ∙ ap (option_map (λ l. map named_of l.now)) c.in-Some.is ∙ ap (λ l. Some (map named_of l)) (sym c.as_slice.ensures.value))
+    (sym c.computed_by.ensures.value ∙ ap (option_map (λ l. map named_of l.now)) c.in-Some.is ∙ ap (λ l. Some (map named_of l)) (sym c.as_slice.ensures.value))
     (c.in_ok-shape-in-Some.ensures.value ∙ ap (λ Z. after m cs Z s) c.in_ok-there-in-Some.ensures.value))
     c.passed_by.ensures.value
 
@@ -33,4 +33,4 @@ returns-in-None-clause-value c =
     let m = c.args.m.now in
     let cs = readings c.args.c.now in λ b.
     sym (compute-form_none m cs (shape_behind m cs c.args.start.now (map step_of c.args.before.now)) b (step_of c.args.step.now) (map step_of c.args.rest.now)
-    (sym c.computed_by.ensures ∙ ap (option_map (λ l. map named_of l.now)) c.in-None.is))
+    (sym c.computed_by.ensures.value ∙ ap (option_map (λ l. map named_of l.now)) c.in-None.is))

@@ -4,7 +4,7 @@ use Rattle.apply_ast.specs.Trees.{Step}
 use Rattle.apply_ast.specs.Views.{expr_of, step_of}
 use Rattle.apply_ast.proofs.ViewEquations.{step_of-Filter}
 use Rattle.context_typing.specs.Readings.{readings}
-use Rattle.rewrite_rules.specs.Places.{shape_behind}
+use Rattle.rewrite_forms.specs.StepShapes.{shape_behind}
 use Rattle.rewrite_rules.proofs.RuleForms.{split-given, split-kept, split-none}
 use Rattle.rewrite_rules.proofs.rules.split_conjunction.Goals as goal
 
@@ -14,7 +14,7 @@ returns-then-not-is_sure-clause-value c =
     let cs = readings c.args.c.now in λ b.
     split-kept m cs (shape_behind m cs c.args.start.now (map step_of c.args.before.now)) b c.in_ok-shape-in-Some.shape c.in_ok-shape-in-Some.ensures.value (step_of c.args.step.now) (map step_of c.args.rest.now)
     (expr_of c.in-Some.first.now, expr_of c.in-Some.second.now)
-    (sym c.operands.ensures ∙ ap (option_map (λ x. (expr_of x.0.now, expr_of x.1.now))) c.in-Some.is)
+    (sym c.operands.ensures.value ∙ ap (option_map (λ x. (expr_of x.0.now, expr_of x.1.now))) c.in-Some.is)
     (sym c.is_sure.ensures.value ∙ c.if-not-is_sure.true)
 
 pub returns-in_ok-two_before_copies-in-Some-clause-value : goal.returns-in_ok-two_before_copies-in-Some-clause-value
@@ -25,7 +25,7 @@ returns-in_ok-two_before_copies-in-Some-clause-value c =
     ap Some made
     ∙ split-given m cs (shape_behind m cs c.args.start.now (map step_of c.args.before.now)) b c.in_ok-shape-in-Some.shape c.in_ok-shape-in-Some.ensures.value (step_of c.args.step.now) (map step_of c.args.rest.now)
     (expr_of c.in-Some.first.now, expr_of c.in-Some.second.now)
-    (sym c.operands.ensures ∙ ap (option_map (λ x. (expr_of x.0.now, expr_of x.1.now))) c.in-Some.is)
+    (sym c.operands.ensures.value ∙ ap (option_map (λ x. (expr_of x.0.now, expr_of x.1.now))) c.in-Some.is)
     (sym c.is_sure.ensures.value ∙ c.if-not-is_sure.false)
 
 pub returns-in-None-clause-value : goal.returns-in-None-clause-value
@@ -33,4 +33,4 @@ returns-in-None-clause-value c =
     let m = c.args.m.now in
     let cs = readings c.args.c.now in λ b.
     sym (split-none m cs (shape_behind m cs c.args.start.now (map step_of c.args.before.now)) b (step_of c.args.step.now) (map step_of c.args.rest.now)
-    (sym c.operands.ensures ∙ ap (option_map (λ x. (expr_of x.0.now, expr_of x.1.now))) c.in-None.is))
+    (sym c.operands.ensures.value ∙ ap (option_map (λ x. (expr_of x.0.now, expr_of x.1.now))) c.in-None.is))

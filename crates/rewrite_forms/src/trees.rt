@@ -1,0 +1,48 @@
+//! Copies of steps, and of trees with one part changed.
+ghost use Rattle.std.specs.Prelude.{◌≡◌, ◌++◌, IfOk, OnOk, map, option_map};
+ghost use Rattle.apply_ast.specs.Trees.{Step as tree};
+ghost use Rattle.apply_ast.specs.Views.{hier_of, pipe_of, step_of};
+
+use apply_ast::{ClimbStep, Pipe, Step};
+use std::alloc::{AllocError, Global};
+
+/// Puts copies of steps at the end of a list.
+pub fn put_copies(out: &mut Vec<Step>, alloc: Global, steps: &[Step]) -> Result<(), AllocError>
+    ensures steps { OnOk result (map step_of out.new.items ≡ map step_of out.old.items ++ map step_of steps.now) }
+{
+    for step in steps {
+        out.push(step.copy(alloc)?)?;
+    }
+    Ok(())
+}
+
+/// The climb with another pipeline.
+pub fn with_starts(
+    alloc: Global,
+    climb: &ClimbStep,
+    made: Option<Pipe>,
+) -> Result<Option<Step>, AllocError>
+    ensures value { IfOk result (λ o. option_map step_of o ≡ option_map (λ q. tree.Climb climb.now.up (hier_of climb.now.hier) climb.now.path q climb.now.distance climb.now.keep) (option_map pipe_of made)) }
+{
+    match made {
+        Some(pipe) => Ok(Some(Step::Climb(ClimbStep {
+            up: climb.up,
+            hier: climb.hier.copy(alloc)?,
+            path: climb.path.copy(alloc)?,
+            inner: pipe,
+            distance: climb.distance,
+            keep: climb.keep,
+        }))),
+        None => Ok(None),
+    }
+}
+
+/// The same pipeline, where there is one.
+pub fn copy_inner(alloc: Global, inner: &Option<Pipe>) -> Result<Option<Pipe>, AllocError>
+    ensures value { IfOk result (λ o. option_map pipe_of o ≡ option_map pipe_of inner.now) }
+{
+    match inner {
+        Some(pipe) => Ok(Some(pipe.copy(alloc)?)),
+        None => Ok(None),
+    }
+}

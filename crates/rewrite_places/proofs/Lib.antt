@@ -1,0 +1,4 @@
+pub mod FirstPlaces
+pub mod FirstRules
+pub mod ResultEquations
+pub mod TypedPlaces

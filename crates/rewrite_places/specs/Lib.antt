@@ -1,0 +1,16 @@
+pub use Rattle.edm_model.specs.LookUps
+pub use Rattle.edm_model.specs.Models
+pub use Rattle.edm_data.specs.Worlds
+pub use Rattle.apply_ast.specs.Trees
+pub use Rattle.apply_ast.specs.Views
+pub use Rattle.context_typing.specs.Answers
+pub use Rattle.context_typing.specs.Readings
+pub use Rattle.context_typing.specs.Shapes
+pub use Rattle.context_typing.specs.Typing
+pub use Rattle.apply_meaning.specs.Instances
+pub use Rattle.apply_meaning.specs.Meaning
+pub use Rattle.apply_meaning.specs.MeaningLaws
+pub use Rattle.rewrite_laws.specs.RewriteLaws
+pub use Rattle.rewrite_laws.specs.Rewrites
+pub use Rattle.rewrite_rules.specs.RuleNames
+pub mod Places

@@ -1,7 +1,0 @@
-use Rattle.context_typing.specs.Paths.{same_path}
-use Rattle.rewrite_rules.proofs.SameLists.{SameFrom}
-use Rattle.rewrite_rules.proofs.same_items.same_paths.Given as goal
-
--- the paths so far are equal
-abbrev pub invariant-loop-i : goal.invariant-loop-i
-invariant-loop-i l = SameFrom same_path l.a l.b l.i
