@@ -5,7 +5,7 @@
 //! statements. `laws` has a function for each law. `docs/rewrites.md` states the rules.
 //!
 //! The crate stands on `apply_ast` for pipelines, on `context_typing` for their typing, and on `apply_meaning` for their meaning and
-//! its laws. It has no code but its laws: `rewrite_rules` finds the places and makes the rewritten pipelines.
+//! its laws. It has no code but its laws: `rewrite_rules` makes what a rule makes at a place, and `rewrite_places` finds the places.
 //!
 //! It promises that a rewritten pipeline has the shape and the meaning that it had, and is quiet where it was, that rewriting ends,
 //! and that a plan is one and settled.
