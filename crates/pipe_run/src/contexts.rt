@@ -1,0 +1,315 @@
+//! What a run works with.
+ghost use Rattle.std.specs.Prelude.{◌≡◌, ◌++◌, ◌+◌, ◌<◌, ◌≤◌, All, Some, IfOk, IfSome, IsTrue, is_some, filter, length, map, true};
+ghost use Rattle.edm_values.specs.Values.{is_value};
+ghost use Rattle.edm_model.specs.LookUps.{HierarchyPlace, IsCustom, IsSet};
+ghost use Rattle.edm_data.specs.Nodes.{parents_of};
+ghost use Rattle.apply_ast.specs.Views.{expr_of, hier_of, named_of};
+ghost use Rattle.context_typing.specs.Readings.{AreTypedOver, readings, typed_at};
+ghost use Rattle.context_typing.specs.Typing.{customs_typed, hierarchy_at};
+ghost use Rattle.apply_meaning.specs.Aggregates as aggregates;
+ghost use Rattle.apply_meaning.specs.Instances.{extended, val};
+ghost use Rattle.apply_meaning.specs.Meaning.{key_list, refused_at_beyond, values};
+ghost use Rattle.apply_meaning.specs.Running.{Gives, all_free, all_of, new_columns};
+ghost use Rattle.aggregate_ops.specs.KeyTables.{HasWidth};
+ghost use Rattle.aggregate_ops.specs.Partials.{AreFoldable};
+ghost use Rattle.custom_agg.specs.CustomValues.{value_by_id, HaveRoot};
+ghost use Rattle.group_rollup.specs.Groupings.{groups, level_groups};
+ghost use Rattle.hier_states.specs.States.{IsReadyAt};
+ghost use Rattle.rollup_rec.specs.Rollups.{rolled, width_of};
+ghost use Rattle.pipe_run.specs.Levels.{GivesFor};
+
+use aggregate_ops::{Groups, aggregate_values};
+use apply_ast::{Expr, HierName, Named, Path};
+use apply_meaning::{Row, RunRefused, Steps};
+use context_typing::Customs;
+use custom_agg::custom_at;
+use edm_data::Data;
+use edm_model::CustomId;
+use edm_values::{Method, Value};
+use group_rollup::{GroupRefused, group, key_lists, rollup};
+use hier_index::Index;
+use hier_states::{HierState, Nodes, nodes_at};
+use par_stages::{Gate, workers_for};
+use rollup_rec::roll;
+use row_values::{PlacedRows, compute_rows, filter_rows};
+use std::alloc::{AllocError, Global};
+use std::marker::Model;
+use std::sync::ledger::Ledger;
+use std::thread::Threads;
+
+/// The data with the custom aggregates of its model and the states of its hierarchies, and the threads that fold lists of it.
+#[derive(Drop)]
+pub struct Context<'a, R: Threads + Sync, G: Gate> {
+    rt: &'a R,
+    store: &'a Data,
+    customs: &'a Customs,
+    hiers: &'a [HierState],
+    workers: u32,
+    gate: &'a G,
+}
+
+impl<'a, R: Threads + Sync, G: Gate> Model for Context<'a, R, G> {
+    ghost use Rattle.std.specs.Coded.{codes};
+    ghost use Rattle.std.specs.Prelude.{◌<◌, ◌≤◌, IsTrue};
+    ghost use Rattle.apply_ast.specs.contracts.expressions.Expr as of_expr;
+    ghost use Rattle.context_typing.specs.Readings.{AreTypedOver, readings};
+    ghost use Rattle.context_typing.specs.Typing.{customs_typed};
+    ghost use Rattle.pipe_run.specs.Contexts as seen;
+
+    ghost Value = { seen.Context };
+
+    ghost coded = { Prim.hlevel (codes, of_expr.the_row.coded) };
+
+    ghost view = { λ s. record { world = s.store.now; customs = s.customs.now; hiers = s.hiers.now } };
+
+    ghost invariant = { λ s. AreTypedOver s.store.now.model s.customs.now × IsTrue (customs_typed s.store.now.model (readings s.customs.now))
+        × (0 < s.workers) × (s.workers ≤ 64) };
+}
+
+impl<'a, R: Threads + Sync, G: Gate> Context<'a, R, G> {
+    /// The data with the custom aggregates of its model and the states of its hierarchies, whose lists are folded in at most
+    /// so many pieces.
+    pub fn new(
+        rt: &'a R,
+        store: &'a Data,
+        customs: &'a Customs,
+        hiers: &'a [HierState],
+        workers: u32,
+        gate: &'a G,
+    ) -> Context<'a, R, G>
+        requires some { 0 < workers }
+        requires few { workers ≤ 64 }
+        requires typed { AreTypedOver store.now.model customs.now }
+        requires whole { IsTrue (customs_typed store.now.model (readings customs.now)) }
+        ensures value { result ≡ record { world = store.now; customs = customs.now; hiers = hiers.now } }
+    {
+        Context {
+            rt,
+            store,
+            customs,
+            hiers,
+            workers,
+            gate,
+        }
+    }
+
+    /// The same data, whose lists are folded in one piece: for pipelines that are run again and again, on few rows each.
+    pub(crate) fn alone(&self) -> Context<'a, R, G>
+        ensures { result ≡ self.now }
+    {
+        Context {
+            rt: self.rt,
+            store: self.store,
+            customs: self.customs,
+            hiers: self.hiers,
+            workers: 1,
+            gate: self.gate,
+        }
+    }
+
+    /// Whether there is one worker.
+    pub(crate) fn is_alone(&self) -> bool {
+        self.workers == 1
+    }
+
+    /// How many of the workers a list of n items is worth: two at least, where there are two.
+    fn hands(&self, n: usize) -> u32
+        ensures some { 0 < result }
+        ensures few { result ≤ 64 }
+    {
+        workers_for(n, 2, self.workers)
+    }
+
+    /// The data.
+    pub fn store(&self) -> &Data
+        ensures value { result.now ≡ self.now.world }
+    {
+        self.store
+    }
+
+    /// The custom aggregates of the model.
+    pub fn customs(&self) -> &Customs
+        ensures value { result.now ≡ self.now.customs }
+        ensures typed { AreTypedOver self.now.world.model result.now }
+        ensures whole { IsTrue (customs_typed self.now.world.model (readings result.now)) }
+    {
+        self.customs
+    }
+
+    /// How many workers a run has.
+    pub fn workers(&self) -> u32
+        ensures some { 0 < result }
+        ensures few { result ≤ 64 }
+    {
+        self.workers
+    }
+
+    /// The aggregate of values of one type by a method.
+    pub fn aggregate(
+        &self,
+        alloc: Global,
+        method: Method,
+        values: &[Value],
+    ) -> Result<Value, AllocError>
+        requires { AreFoldable method values.now }
+        ensures value { IfOk result (λ v. v ≡ aggregates.aggregate method values.now) }
+    {
+        let hands = self.hands(values.len());
+        aggregate_values(self.rt, alloc, method, values, hands, self.gate)
+    }
+
+    /// The values of an expression on rows.
+    pub(crate) fn values(
+        &self,
+        alloc: Global,
+        e: &Expr,
+        rows: &PlacedRows<'_>,
+    ) -> Result<Vec<Value>, AllocError>
+        requires { IsTrue (all_of self.now.world rows.now) }
+        ensures { IfOk result (λ vs. vs.items ≡ values self.now.world (expr_of e.now) rows.now) }
+    {
+        rows.values(self.rt, alloc, self.store, e, self.workers)
+    }
+
+    /// Each row with its new columns: one step a row.
+    pub(crate) fn compute<L: Ledger>(
+        &self,
+        alloc: Global,
+        items: &[Named],
+        rows: Vec<Row>,
+        steps: &mut Steps<L>,
+    ) -> Result<Vec<Row>, AllocError>
+        requires of { IsTrue (all_of self.now.world rows.items) }
+        requires free { IsTrue (all_free self.now.world (map named_of items.now) rows.items) }
+        ensures rows { let ns = map named_of items.now in IfOk result (λ made. made.items ≡ map (λ i. extended i (new_columns self.now.world ns i)) rows.items) }
+        ensures steps { steps.new ≤ steps.old + length rows.items }
+        ensures grown { steps.old ≤ steps.new }
+    {
+        compute_rows(self.rt, alloc, self.store, items, rows, self.workers, steps)
+    }
+
+    /// The rows on which an expression is true.
+    pub(crate) fn filter(
+        &self,
+        alloc: Global,
+        e: &Expr,
+        rows: Vec<Row>,
+    ) -> Result<Vec<Row>, RunRefused>
+        requires { IsTrue (all_of self.now.world rows.items) }
+        ensures { Gives result (refused_at_beyond (values self.now.world (expr_of e.now) rows.items) (filter (λ i. is_value true (val self.now.world i (expr_of e.now))) rows.items)) }
+    {
+        filter_rows(self.rt, alloc, self.store, e, rows, self.workers)
+    }
+
+    /// The value of a custom aggregate on rows.
+    pub(crate) fn custom(
+        &self,
+        alloc: Global,
+        id: CustomId,
+        rows: &PlacedRows<'_>,
+    ) -> Result<Value, AllocError>
+        requires there { IsCustom self.now.world.model id }
+        requires read { IsTrue (is_some (typed_at self.now.customs id)) }
+        requires fit { HaveRoot self.now.world id.of rows.now }
+        ensures { IfOk result (λ v. Some v ≡ value_by_id self.now.world self.now.customs id rows.now) }
+    {
+        let hands = self.hands(rows.len());
+        custom_at(
+            self.rt,
+            alloc,
+            self.store,
+            rows,
+            self.customs,
+            id,
+            hands,
+            self.gate,
+        )
+    }
+
+    /// The groups of rows by key paths.
+    pub(crate) fn group(
+        &self,
+        alloc: Global,
+        rows: &[Row],
+        keys: &[Path],
+    ) -> Result<Groups, RunRefused>
+        requires { IsTrue (all_of self.now.world rows.now) }
+        ensures { GivesFor (λ found. found ≡ groups self.now.world keys.now rows.now) self.now.world keys.now rows.now result }
+    {
+        let hands = self.hands(rows.len());
+        match group(self.rt, alloc, self.store, rows, keys, hands, self.gate) {
+            Ok(found) => Ok(found),
+            Err(GroupRefused::Range) => Err(RunRefused::Range),
+            Err(GroupRefused::Memory) => Err(RunRefused::Memory),
+        }
+    }
+
+    /// The groups of rows by each level of a rollup, the finest first.
+    pub(crate) fn rollup(
+        &self,
+        alloc: Global,
+        rows: &[Row],
+        keys: &[Path],
+        levels: &[Path],
+        with_all: bool,
+    ) -> Result<Vec<Groups>, RunRefused>
+        requires { IsTrue (all_of self.now.world rows.now) }
+        ensures { GivesFor (λ found. found.items ≡ level_groups self.now.world keys.now levels.now with_all rows.now) self.now.world (keys.now ++ levels.now) rows.now result }
+    {
+        let hands = self.hands(rows.len());
+        match rollup(
+            self.rt, alloc, self.store, rows, keys, levels, with_all, hands, self.gate,
+        ) {
+            Ok(found) => Ok(found),
+            Err(GroupRefused::Range) => Err(RunRefused::Range),
+            Err(GroupRefused::Memory) => Err(RunRefused::Memory),
+        }
+    }
+
+    /// The key list of each row by the paths.
+    pub(crate) fn key_lists(
+        &self,
+        alloc: Global,
+        keys: &[Path],
+        rows: &[Row],
+    ) -> Result<Vec<Vec<Value>>, RunRefused>
+        requires { IsTrue (all_of self.now.world rows.now) }
+        ensures { GivesFor (λ lists. map (λ k. k.items) lists.items ≡ map (key_list self.now.world keys.now) rows.now) self.now.world keys.now rows.now result }
+    {
+        match key_lists(self.rt, alloc, self.store, keys, rows, self.workers) {
+            Ok(lists) => Ok(lists),
+            Err(GroupRefused::Range) => Err(RunRefused::Range),
+            Err(GroupRefused::Memory) => Err(RunRefused::Memory),
+        }
+    }
+
+    /// What a pipeline takes of a hierarchy that it names.
+    pub(crate) fn nodes(&self, name: &HierName) -> Nodes<'_>
+        requires there { IsTrue (is_some (hierarchy_at self.now.world.model (hier_of name.now))) }
+        requires ready { IsReadyAt self.now.world self.now.hiers (hier_of name.now) }
+        ensures set { (f : HierarchyPlace) → hierarchy_at self.now.world.model (hier_of name.now) ≡ Some f → result.set ≡ f.set }
+        ensures index { (f : HierarchyPlace) → hierarchy_at self.now.world.model (hier_of name.now) ≡ Some f → result.index.now ≡ parents_of self.now.world f }
+        ensures is_set { IsSet self.now.world.model result.set }
+    {
+        nodes_at(self.store, self.hiers, name)
+    }
+
+    /// For each node that is shown and has rows, the groups of the rows at it or below it by their key lists.
+    pub(crate) fn roll(
+        &self,
+        alloc: Global,
+        index: &Index,
+        nodes: &[Option<u32>],
+        shown: &[u32],
+        keys: &[Vec<Value>],
+    ) -> Result<Vec<(u32, Groups)>, AllocError>
+        requires rows { length keys.now ≡ length nodes.now }
+        requires nodes { All (λ n. IfSome n (λ y. y < length index.now)) nodes.now }
+        requires shown { All (λ y. y < length index.now) shown.now }
+        requires width { All (HasWidth (width_of keys.now)) keys.now }
+        ensures { IfOk result (λ v. v.items ≡ rolled index.now nodes.now (map (λ k. k.items) keys.now) shown.now) }
+    {
+        let hands = self.hands(keys.len());
+        roll(self.rt, alloc, index, nodes, shown, keys, hands, self.gate)
+    }
+}

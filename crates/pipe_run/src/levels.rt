@@ -1,0 +1,237 @@
+//! The levels of a grouping, each with its groups.
+ghost use Rattle.std.specs.Prelude.{◌≡◌, ◌<◌, ◌∷◌, [], ◌++◌, Some, IfOk, IsTrue, length, map, option_map, slice_get, zip};
+ghost use Rattle.apply_ast.specs.Views.{key_of, keys_from, keys_of};
+ghost use Rattle.context_typing.specs.Typing.{group_keys, plain_paths, rollup_part, rollup_paths};
+ghost use Rattle.apply_meaning.specs.Meaning.{level_paths};
+ghost use Rattle.apply_meaning.specs.Running.{all_of};
+ghost use Rattle.group_rollup.specs.Groupings.{groups};
+ghost use Rattle.pipe_run.specs.RecursiveKeys.{are_flat_keys};
+ghost use Rattle.pipe_run.specs.Levels.{AreKeys, GivesFor, GivesFlatLevels, part_of, with_node};
+
+use crate::contexts::Context;
+use aggregate_ops::{Groups, copies};
+use apply_ast::{KeyItem, KeyList, Path};
+use apply_meaning::{Row, RunRefused};
+use edm_values::Value;
+use par_stages::Gate;
+use std::alloc::{AllocError, Global};
+use std::marker::Model;
+use std::thread::Threads;
+
+/// The paths of a rollup from the coarsest level on, and whether all rows are a level too.
+#[derive(Clone, Copy)]
+struct Rollup<'a> {
+    with_all: bool,
+    paths: &'a [Path],
+}
+
+/// The keys of a grouping without a recursive rollup.
+#[derive(Drop)]
+struct LevelKeys<'a> {
+    plain: Vec<Path>,
+    rollup: Option<Rollup<'a>>,
+}
+
+impl<'a> Model for LevelKeys<'a> {
+    ghost use Rattle.std.specs.Prelude.{option_map};
+    ghost use Rattle.pipe_run.specs.Levels as seen;
+
+    ghost Value = { seen.LevelKeys };
+
+    ghost view = { λ k. record { plain = k.plain.items; rollup = option_map (λ r. (r.with_all, r.paths.now)) k.rollup } };
+}
+
+/// The plain keys.
+pub(crate) fn plain_keys(alloc: Global, keys: &[KeyItem]) -> Result<Vec<Path>, AllocError>
+    ensures { IfOk result (λ paths. paths.items ≡ plain_paths (keys_from (map key_of keys.now))) }
+{
+    let mut paths = Vec::new(alloc);
+    for key in keys {
+        if let KeyItem::Plain(path) = key {
+            paths.push(path.copy(alloc)?)?;
+        }
+    }
+    Ok(paths)
+}
+
+/// The first rollup among the keys.
+fn first_rollup(keys: &[KeyItem]) -> Option<Rollup<'_>>
+    requires { IsTrue (are_flat_keys (keys_from (map key_of keys.now))) }
+    ensures { part_of (option_map (λ r. (r.with_all, r.paths.now)) result) ≡ rollup_part (group_keys (keys_from (map key_of keys.now))) }
+{
+    for key in keys {
+        if let KeyItem::Rollup(with_all, paths) = key {
+            return Some(Rollup {
+                with_all: *with_all,
+                paths: paths.as_slice(),
+            });
+        }
+    }
+    None
+}
+
+/// The keys of a grouping, taken apart.
+fn taken_apart(alloc: Global, keys: &KeyList) -> Result<LevelKeys<'_>, AllocError>
+    requires { IsTrue (are_flat_keys (keys_of keys.now)) }
+    ensures { IfOk result (AreKeys (keys_of keys.now)) }
+{
+    Ok(LevelKeys {
+        plain: plain_keys(alloc, keys.as_slice())?,
+        rollup: first_rollup(keys.as_slice()),
+    })
+}
+
+/// A list of one element.
+fn alone(alloc: Global, groups: Groups) -> Result<Vec<Groups>, AllocError>
+    ensures { IfOk result (λ all. all.items ≡ groups ∷ []) }
+{
+    let mut all = Vec::new(alloc);
+    all.push(groups)?;
+    Ok(all)
+}
+
+/// The groups of rows by each level of the keys, the finest first.
+fn level_groups<R: Threads + Sync, G: Gate>(
+    alloc: Global,
+    context: &Context<'_, R, G>,
+    keys: &LevelKeys<'_>,
+    rows: &[Row],
+) -> Result<Vec<Groups>, RunRefused>
+    requires { IsTrue (all_of context.now.world rows.now) }
+    ensures { let part = part_of keys.now.rollup in
+        GivesFor (λ found. found.items ≡ map (λ level. groups context.now.world level rows.now) (level_paths keys.now.plain part)) context.now.world (keys.now.plain ++ rollup_paths part) rows.now result }
+{
+    let plain = keys.plain.as_slice();
+    match keys.rollup {
+        Some(rollup) => context.rollup(alloc, rows, plain, rollup.paths, rollup.with_all),
+        None => Ok(alone(alloc, context.group(alloc, rows, plain)?)?),
+    }
+}
+
+/// Copies of the paths of two lists, one after the other.
+fn paths_of(alloc: Global, first: &[Path], others: &[Path]) -> Result<Vec<Path>, AllocError>
+    ensures { IfOk result (λ paths. paths.items ≡ first.now ++ others.now) }
+{
+    let mut paths = Vec::with_capacity(alloc, first.len())?;
+    for path in first {
+        paths.push(path.copy(alloc)?)?;
+    }
+    for path in others {
+        paths.push(path.copy(alloc)?)?;
+    }
+    Ok(paths)
+}
+
+/// The paths of level k, the finest being level 0.
+fn paths_at(alloc: Global, keys: &LevelKeys<'_>, k: usize) -> Result<Vec<Path>, AllocError>
+    requires { k < length (level_paths keys.now.plain (part_of keys.now.rollup)) }
+    ensures { IfOk result (λ paths. Some paths.items ≡ slice_get (level_paths keys.now.plain (part_of keys.now.rollup)) k) }
+{
+    let plain = keys.plain.as_slice();
+    match keys.rollup {
+        Some(rollup) => paths_of(alloc, plain, &rollup.paths[..rollup.paths.len() - k]),
+        None => paths_of(alloc, plain, &[]),
+    }
+}
+
+/// A level of a grouping: its paths, and the groups by them. The key of each group of a recursive rollup ends with the
+/// identifier of the node.
+#[derive(Drop)]
+pub(crate) struct Level {
+    paths: Vec<Path>,
+    groups: Groups,
+    node: Option<Value>,
+}
+
+impl Model for Level {
+    ghost use Rattle.pipe_run.specs.Levels as seen;
+    ghost use Rattle.pipe_run.specs.Levels.{with_node};
+
+    ghost Value = { seen.Level };
+
+    ghost view = { λ l. (l.paths.items, with_node l.node l.groups) };
+}
+
+impl Level {
+    /// The level of a recursive rollup that has the groups of the rows at a node or below it.
+    pub(crate) fn of_node(paths: Vec<Path>, groups: Groups, node: Value) -> Level
+        ensures { result ≡ (paths.items, with_node (Some node) groups) }
+    {
+        Level {
+            paths,
+            groups,
+            node: Some(node),
+        }
+    }
+
+    /// The paths.
+    pub(crate) fn paths(&self) -> &[Path]
+        ensures { result.now ≡ self.now.0 }
+    {
+        self.paths.as_slice()
+    }
+
+    /// How many groups there are.
+    pub(crate) fn len(&self) -> usize
+        ensures { result ≡ length self.now.1 }
+    {
+        self.groups.len()
+    }
+
+    /// The key of group k, counted from 0.
+    pub(crate) fn key(&self, alloc: Global, k: usize) -> Result<Vec<Value>, AllocError>
+        requires { k < length self.now.1 }
+        ensures { IfOk result (λ key. Some key.items ≡ option_map (λ g. g.0) (slice_get self.now.1 k)) }
+    {
+        let mut key = copies(alloc, self.groups.key(k))?;
+        if let Some(node) = &self.node {
+            key.push(node.seen().own(alloc)?)?;
+        }
+        Ok(key)
+    }
+
+    /// The places of group k, counted from 0.
+    pub(crate) fn places(&self, k: usize) -> &[usize]
+        requires { k < length self.now.1 }
+        ensures { Some result.now ≡ option_map (λ g. g.1) (slice_get self.now.1 k) }
+    {
+        self.groups.places(k)
+    }
+}
+
+/// The groups of each level with its paths.
+fn with_paths(
+    alloc: Global,
+    keys: &LevelKeys<'_>,
+    found: Vec<Groups>,
+) -> Result<Vec<Level>, AllocError>
+    requires { length found.items ≡ length (level_paths keys.now.plain (part_of keys.now.rollup)) }
+    ensures { IfOk result (λ levels. levels.items ≡ zip (level_paths keys.now.plain (part_of keys.now.rollup)) found.items) }
+{
+    let mut levels = Vec::with_capacity(alloc, found.len())?;
+    for groups in found {
+        let paths = paths_at(alloc, keys, levels.len())?;
+        levels.push(Level {
+            paths,
+            groups,
+            node: None,
+        })?;
+    }
+    Ok(levels)
+}
+
+/// The levels of a grouping without a recursive rollup on rows, the finest first, each with its groups.
+pub(crate) fn levels_of<R: Threads + Sync, G: Gate>(
+    alloc: Global,
+    context: &Context<'_, R, G>,
+    keys: &KeyList,
+    rows: &[Row],
+) -> Result<Vec<Level>, RunRefused>
+    requires flat { IsTrue (are_flat_keys (keys_of keys.now)) }
+    requires of { IsTrue (all_of context.now.world rows.now) }
+    ensures { GivesFlatLevels result context.now.world (keys_of keys.now) rows.now }
+{
+    let keys = taken_apart(alloc, keys)?;
+    let found = level_groups(alloc, context, &keys, rows)?;
+    Ok(with_paths(alloc, &keys, found)?)
+}

@@ -1,0 +1,130 @@
+//! Selections from the top and the bottom: rows taken by the values of an expression. No row is made.
+ghost use Rattle.std.specs.Prelude.{◌≡◌, ℕ, Bool, List, Option, Some, IfOk, IsTrue, filter, length, map};
+ghost use Rattle.edm_values.specs.Lists.{at_places, places as all_places};
+ghost use Rattle.edm_values.specs.Values.{number_part, seen_value, top_places};
+ghost use Rattle.apply_ast.specs.Views.{limit_of, number_literal_of, top_of};
+ghost use Rattle.apply_meaning.specs.Meaning.{reaches, selected, values};
+ghost use Rattle.apply_meaning.specs.Running.{Gives, all_of};
+ghost use Rattle.top_family.specs.Selections.{Takes};
+ghost use Rattle.pipe_run.specs.Conditions.{LimitReady};
+ghost use Rattle.pipe_run.specs.Selections.{literal_number};
+ghost use Rattle.row_orders.specs.Ranks.{GivesNumbers};
+
+use crate::contexts::Context;
+use apply_ast::{Limit, Number, TopStep};
+use apply_meaning::{Row, RunRefused, seen_values};
+use edm_values::{Seen, Value};
+use par_stages::Gate;
+use row_values::PlacedRows;
+use std::alloc::{AllocError, Global};
+use std::thread::Threads;
+use top_family::{
+    TopRefused, bottom_count, bottom_percent, bottom_sum, top_count, top_percent, top_sum,
+};
+
+/// The number of a literal, as a value.
+fn number_value(number: &Number) -> Seen<'_>
+    ensures { number_part (seen_value result) ≡ literal_number (number_literal_of number.now) }
+{
+    match number {
+        Number::Int(n) => Seen::Int(*n),
+        Number::Dec(d) => Seen::Dec(*d),
+    }
+}
+
+/// What a selection answered, as a run returns it.
+fn run_answer(taken: Result<Vec<usize>, TopRefused>) -> Result<Vec<usize>, RunRefused>
+    ensures { (places : Option (List ℕ)) → Takes places taken → GivesNumbers result places }
+{
+    match taken {
+        Ok(places) => Ok(places),
+        Err(TopRefused::Range) => Err(RunRefused::Range),
+        Err(TopRefused::Memory) => Err(RunRefused::Memory),
+    }
+}
+
+/// The places that a selection takes, in ascending order.
+fn taken_places(
+    alloc: Global,
+    limit: &Limit,
+    bottom: bool,
+    values: &[Seen<'_>],
+) -> Result<Vec<usize>, RunRefused>
+    requires { LimitReady (limit_of limit.now) (map seen_value values.now) }
+    ensures { let vs = map seen_value values.now in GivesNumbers result (top_places (reaches (limit_of limit.now) vs) bottom vs) }
+{
+    match (limit, bottom) {
+        (Limit::Count(n), false) => run_answer(top_count(alloc, values, *n)),
+        (Limit::Count(n), true) => run_answer(bottom_count(alloc, values, *n)),
+        (Limit::Sum(number), false) => run_answer(top_sum(alloc, values, number_value(number))),
+        (Limit::Sum(number), true) => run_answer(bottom_sum(alloc, values, number_value(number))),
+        (Limit::Percent(p), false) => run_answer(top_percent(alloc, values, *p)),
+        (Limit::Percent(p), true) => run_answer(bottom_percent(alloc, values, *p)),
+    }
+}
+
+/// The rows at ascending places.
+pub(crate) fn rows_at(
+    alloc: Global,
+    rows: Vec<Row>,
+    places: &[usize],
+) -> Result<Vec<Row>, AllocError>
+    requires { (q : ℕ → Bool) × (places.now ≡ filter q (all_places (length rows.items))) }
+    ensures { IfOk result (λ kept. kept.items ≡ at_places rows.items places.now) }
+{
+    let mut kept = Vec::with_capacity(alloc, places.len())?;
+    for (k, row) in rows.into_iter().enumerate() {
+        let next = kept.len();
+        if next < places.len() && places[next] == k {
+            kept.push(row)?;
+        }
+    }
+    Ok(kept)
+}
+
+/// The values, as they are seen.
+fn seen_all(alloc: Global, values: &[Value]) -> Result<Vec<Seen<'_>>, AllocError>
+    ensures { IfOk result (λ seen. map seen_value seen.items ≡ values.now) }
+{
+    let mut seen = Vec::with_capacity(alloc, values.len())?;
+    for value in values {
+        seen.push(value.seen())?;
+    }
+    Ok(seen)
+}
+
+/// The places of the rows that a selection takes, in ascending order. Where there are several workers, they work out the values.
+fn places_of<R: Threads + Sync, G: Gate>(
+    alloc: Global,
+    context: &Context<'_, R, G>,
+    top: &TopStep,
+    rows: &[Row],
+) -> Result<Vec<usize>, RunRefused>
+    requires of { IsTrue (all_of context.now.world rows.now) }
+    requires limit { let t = top_of top.now in LimitReady t.limit (values context.now.world t.expr rows.now) }
+    ensures { let t = top_of top.now in let vs = values context.now.world t.expr rows.now in GivesNumbers result (top_places (reaches t.limit vs) t.bottom vs) }
+{
+    if context.is_alone() {
+        let seen = seen_values(alloc, context.store(), &top.expr, rows)?;
+        return taken_places(alloc, &top.limit, top.bottom, seen.as_slice());
+    }
+    let all = PlacedRows::all(rows);
+    let values = context.values(alloc, &top.expr, &all)?;
+    let seen = seen_all(alloc, values.as_slice())?;
+    taken_places(alloc, &top.limit, top.bottom, seen.as_slice())
+}
+
+/// The rows that a selection takes, in their order.
+pub(crate) fn select_rows<R: Threads + Sync, G: Gate>(
+    alloc: Global,
+    context: &Context<'_, R, G>,
+    top: &TopStep,
+    rows: Vec<Row>,
+) -> Result<Vec<Row>, RunRefused>
+    requires of { IsTrue (all_of context.now.world rows.items) }
+    requires limit { let t = top_of top.now in LimitReady t.limit (values context.now.world t.expr rows.items) }
+    ensures { Gives result (selected context.now.world (top_of top.now) rows.items) }
+{
+    let places = places_of(alloc, context, top, rows.as_slice())?;
+    Ok(rows_at(alloc, rows, places.as_slice())?)
+}
