@@ -5,7 +5,6 @@ use Rattle.std.proofs.lemmas.List.Elements.{All-contains, All-contains_itself, A
 use Rattle.edm_data.specs.Worlds.{World}
 use Rattle.edm_model.specs.LookUps.{IsSet, set_type}
 use Rattle.apply_ast.specs.NamedHierarchies.{hierarchies}
-use Rattle.apply_ast.specs.Trees.{HierName}
 use Rattle.apply_ast.specs.Views.{pipe_of}
 use Rattle.context_typing.proofs.LawfulShapes.{own_is_lawful}
 use Rattle.context_typing.specs.Typing.{Customs, customs_typed, shape_of_set, steps_shape}
@@ -21,8 +20,8 @@ use Rattle.context_typing.specs.Shapes.{Shape}
 use Rattle.context_typing.specs.declared.typed.Typed.{Typed}
 use Rattle.context_typing.specs.Readings.{readings}
 use Rattle.hier_states.specs.States.{IsReadyAt}
-use Rattle.plan_run.specs.Conditions.{AreReady, RunsFrom}
-use Rattle.plan_run.specs.Contexts.{Context}
+use Rattle.pipe_run.specs.Conditions.{AreReady, RunsFrom}
+use Rattle.pipe_run.specs.Contexts.{Context}
 
 -- the plan's own pipeline runs on the instances of its set
 pub plan-runs : (w : World) (c : Customs) (p : Plan) (l : List Instance) → IsLoaded w → IsTrue (customs_typed w.model c) → IsPlan w.model c p → IsSet w.model (written_of p).set

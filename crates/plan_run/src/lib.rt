@@ -1,37 +1,15 @@
 //! Running a plan over data.
 //!
-//! `run` makes the rows of a plan's entity set and passes them through its pipeline, one transformation after another
-//! (`pipes`). `filter`, `compute`, `skip` and `top` are those of `apply_meaning`, and `orderby` that of `row_orders`;
-//! `aggregations` has `aggregate`. `levels` finds the groups of each level of a `groupby`, and `recursive` those of each node
-//! of a recursive rollup; `groups` makes rows of groups and puts key columns on them. `selections` takes rows from the top and
-//! the bottom; `joins` says what a join takes; `hierarchies` has climbs and traversals; `copies` copies rows for pipelines that
-//! share them. `roots` follows the type at the empty prefix from one transformation to the next, which custom aggregates are
-//! looked up by. `contexts` is what a run works with.
+//! `run` makes the rows of a plan's entity set and passes them through the plan's own pipeline.
 //!
-//! The crate stands on `apply_meaning` for rows, the plain transformations and the meaning of pipelines, on `aggregate_ops`,
-//! `custom_agg` and `group_rollup` for aggregates, custom aggregates and groups, on `row_orders` for orders, on `join_concat`
-//! for joins and concatenation, on `top_family` for selections, on `hier_index`, `hier_states`, `hier_rows` and `rollup_rec`
-//! for hierarchies, on `par_stages` for gates, on `optimiser` for plans, on `context_typing` for typed pipelines and custom
-//! aggregates, on `apply_ast` for pipelines, and on `edm_data` and `edm_model` for the data.
+//! The crate stands on `pipe_run` for pipelines over rows, on `optimiser` for plans and what they mean, on `apply_meaning` for the
+//! rows of an entity set and the meaning of pipelines, and on `context_typing`, `hier_states`, `edm_data` and `edm_model` for what a
+//! run is given.
 //!
 //! It promises that what `run` answers is the meaning of the pipeline that was written, refused exactly where that is, and
-//! that the counter of steps rises by no more than the pipeline that is run costs (`specs/Costs`) and never falls. Rows that a
-//! transformation passes on are moved and not copied, but for those of a traversal, which leave in another order; the rows of a
-//! group are copied for a pipeline that is run on them, and all rows for each branch of a concatenation and for the pipeline of
-//! a climb.
+//! that the counter of steps rises by no more than the pipeline that is run costs (`specs/Costs` of `pipe_run`) and never falls.
 #![tactic(auto)]
 
-mod aggregations;
-mod contexts;
-mod copies;
-mod groups;
-mod hierarchies;
-mod joins;
-mod levels;
-mod pipes;
-mod recursive;
-mod roots;
 mod runs;
-mod selections;
 
 pub use runs::run;

@@ -7,21 +7,23 @@ ghost use Rattle.context_typing.specs.Typing.{customs_typed, shape_of_set};
 ghost use Rattle.apply_meaning.specs.Instances as instances;
 ghost use Rattle.apply_meaning.specs.Meaning.{mean};
 ghost use Rattle.apply_meaning.specs.Running.{Gives};
-ghost use Rattle.plan_run.specs.Conditions.{AreReady, RunsFrom};
+ghost use Rattle.pipe_run.specs.Conditions.{AreReady, RunsFrom};
 ghost use Rattle.optimiser.specs.Plans.{IsPlan, own_of, written_of};
-ghost use Rattle.plan_run.specs.Costs.{total_cost};
+ghost use Rattle.pipe_run.specs.Costs.{total_cost};
+ghost use Rattle.frame_run.specs.HeldRows.{rows_of};
 ghost use Rattle.hier_states.specs.NamedHierarchies.{hierarchies};
 ghost use Rattle.hier_states.specs.States.{IsReadyAt};
 
-use crate::contexts::Context;
-use crate::pipes::run_pipe;
-use apply_meaning::{Row, RunRefused, Steps, data_is_loaded, set_rows};
+use apply_meaning::{Row, RunRefused, Steps, data_is_loaded};
 use context_typing::Customs;
 use edm_data::Data;
 use edm_model::TypeId;
+use frame_run::{Held, run_held};
 use hier_states::HierState;
 use optimiser::Plan;
 use par_stages::Gate;
+use pipe_run::Context;
+use row_frames::Frame;
 use std::alloc::Global;
 use std::sync::ledger::Ledger;
 use std::thread::Threads;
@@ -31,15 +33,15 @@ fn plan_ready<R: Threads + Sync, G: Gate>(
     context: &Context<'_, R, G>,
     plan: &Plan,
     root: &Option<TypeId>,
-    rows: &Vec<Row>,
+    held: &Held,
 )
     requires plan { IsPlan context.now.world.model (readings context.now.customs) plan.now }
     requires set { IsSet context.now.world.model (written_of plan.now).set }
     requires root { root.now ≡ Some (set_type context.now.world.model (own_of plan.now).set) }
-    requires rows { rows.now.items ≡ instances.rows context.now.world (own_of plan.now).set }
+    requires rows { rows_of held.now ≡ instances.rows context.now.world (own_of plan.now).set }
     requires named { AreReady context.now (hierarchies (pipe_of (written_of plan.now).pipe)) }
     ensures runs { let t = own_of plan.now in
-        RunsFrom context.now root.now (shape_of_set context.now.world.model t.set) t.shape (pipe_of t.pipe) rows.now.items }
+        RunsFrom context.now root.now (shape_of_set context.now.world.model t.set) t.shape (pipe_of t.pipe) (rows_of held.now) }
     ensures named { AreReady context.now (hierarchies (pipe_of (own_of plan.now).pipe)) }
     ensures means { let t = own_of plan.now in let u = written_of plan.now in
         mean context.now.world (readings context.now.customs) (shape_of_set context.now.world.model t.set) (pipe_of t.pipe) (instances.rows context.now.world t.set)
@@ -76,9 +78,10 @@ pub fn run<R: Threads + Sync, G: Gate, L: Ledger>(
     ensures grown { steps.old ≤ steps.new }
 {
     let typed = plan.typed();
-    let rows = set_rows(alloc, store, typed.set, steps)?;
+    let frame = Frame::of_set(alloc, store, typed.set)?;
+    let held = Held::Frame(frame);
     let context = Context::new(rt, store, c, hiers, workers, gate);
     let root = Some(store.model().set_type(typed.set));
-    plan_ready(&context, plan, &root, &rows);
-    run_pipe(alloc, &context, &root, &typed.pipe, rows, steps)
+    plan_ready(&context, plan, &root, &held);
+    run_held(alloc, &context, &root, &typed.pipe, held, steps)
 }

@@ -1,0 +1,29 @@
+-- The rows that a plan has come to, made or not.
+use Rattle.std.specs.Prelude.{◌≡◌, ℕ, List, Some, None, length}
+use Rattle.std.specs.declared.result.Result as result
+use Rattle.std.specs.declared.result.Result.TheVariants.{Ok, Err}
+use Rattle.apply_meaning.specs.Instances.{Instance}
+use Rattle.apply_meaning.specs.Meaning.{Outcome}
+use Rattle.apply_meaning.specs.Running.{Returns}
+use Rattle.apply_meaning.specs.declared.refusals.RunRefused.{RunRefused}
+use Rattle.frame_run.specs.declared.held.Held.{Held}
+use Rattle.frame_run.specs.declared.held.Held.TheVariants as held
+
+-- the instances of the rows
+abbrev pub rows_of : Held → List Instance
+rows_of (held.Frame f) = f
+rows_of (held.Rows v) = v.items
+
+-- how many rows are still to be made
+abbrev pub owed : Held → ℕ
+owed (held.Frame f) = length f
+owed (held.Rows v) = 0
+
+-- the same of what a run returned, nothing where it is refused
+abbrev pub owed_by : result.Result Held RunRefused → ℕ
+owed_by (Ok h) = owed h
+owed_by (Err e) = 0
+
+-- what a run returned, where the meaning is known: `Memory` says nothing
+abbrev pub GivesHeld : result.Result Held RunRefused → Outcome → Type 0
+GivesHeld r m = Returns (λ (h : Held). m ≡ Some (rows_of h)) (m ≡ None) r

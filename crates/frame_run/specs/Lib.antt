@@ -1,0 +1,9 @@
+pub use Rattle.apply_ast.specs.Views
+pub use Rattle.context_typing.specs.Readings
+pub use Rattle.context_typing.specs.Shapes
+pub use Rattle.apply_meaning.specs.Meaning
+pub use Rattle.apply_meaning.specs.Running
+pub use Rattle.hier_states.specs.NamedHierarchies
+pub use Rattle.pipe_run.specs.Conditions
+pub use Rattle.pipe_run.specs.Costs
+pub mod HeldRows

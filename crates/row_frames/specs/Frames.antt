@@ -1,0 +1,114 @@
+-- Frames: lists of instances that are kept by columns.
+use Rattle.std.specs.Prelude.{◌≡◌, ℕ, List, Option, Some, None, map, slice_get, unwrap_or}
+use Rattle.std.specs.declared.result.Result as result
+use Rattle.std.specs.Global.{Vec}
+use Rattle.std.specs.List.{All}
+use Rattle.edm_values.specs.declared.Value.{Value}
+use Rattle.edm_values.specs.Values.{seen_value, negated, negation}
+use Rattle.edm_values.specs.Names.{Path}
+use Rattle.edm_data.specs.Worlds.{World, Entity, entity_at}
+use Rattle.edm_data.specs.References.{property}
+use Rattle.apply_ast.specs.declared.expressions.UnOp.TheVariants as UnOp
+use Rattle.apply_ast.specs.Trees.{Expr}
+use Rattle.apply_meaning.specs.Instances.{Instance, no_instance, lookup, val, binary, call1, call2}
+use Rattle.apply_meaning.specs.Meaning.{Outcome}
+use Rattle.apply_meaning.specs.RowViews.{row_instance, IsRow}
+use Rattle.apply_meaning.specs.Running.{Returns}
+use Rattle.apply_meaning.specs.declared.refusals.RunRefused.{RunRefused}
+use Rattle.row_frames.specs.declared.tables.Roots.{Roots}
+use Rattle.row_frames.specs.declared.tables.Roots.TheVariants as roots
+use Rattle.row_frames.specs.declared.tables.Prefix.{Prefix}
+use Rattle.row_frames.specs.declared.tables.Column.{Column}
+use Rattle.row_frames.specs.declared.tables.Table.{Table}
+use Rattle.row_frames.specs.declared.tables.Pick.{Pick}
+use Rattle.row_frames.specs.declared.readers.Bound as of_bound
+use Rattle.row_frames.specs.declared.readers.Bound.TheVariants as bound
+use Rattle.row_frames.specs.declared.readers.TableReader.{TableReader}
+
+-- the entity at the empty prefix of a row
+abbrev pub root_at : Roots → ℕ → Option Entity
+root_at roots.Without k = None
+root_at (roots.Whole s) k = Some (entity_at s k)
+
+-- what stands at a prefix in a row
+abbrev pub prefix_at : ℕ → Prefix → Path × Option Entity
+prefix_at k p = (p.path, unwrap_or (slice_get p.bound.items k) None)
+
+-- the value of a column in a row
+abbrev pub column_at : ℕ → Column → Path × Value
+column_at k c = (c.path, unwrap_or (slice_get c.values.items k) Value.Null)
+
+abbrev pub prefixes_at : Table → ℕ → List (Path × Option Entity)
+prefixes_at t k = map (prefix_at k) t.prefixes.items
+
+abbrev pub columns_at : Table → ℕ → List (Path × Value)
+columns_at t k = map (column_at k) t.columns.items
+
+-- the instance that is a row of a table
+abbrev pub instance_at : Table → ℕ → Instance
+instance_at t k = row_instance (root_at t.roots k) (prefixes_at t k) (columns_at t k)
+
+-- each row of a table is a row
+abbrev pub IsTable : Table → Type 0
+IsTable t = (k : ℕ) → IsRow (prefixes_at t k) (columns_at t k)
+
+-- the instance that is picked
+abbrev pub picked_in : Option Table → ℕ → Instance
+picked_in None k = no_instance
+picked_in (Some t) k = instance_at t k
+
+abbrev pub picked : List Table → Pick → Instance
+picked ts x = picked_in (slice_get ts x.table) x.row
+
+-- the instances that are picked, in their order
+abbrev pub all_picked : List Table → List Pick → List Instance
+all_picked ts xs = map (picked ts) xs
+
+-- a list that was made, where the meaning is known: `Memory` says nothing
+abbrev pub GivesFrame : result.Result (List Instance) RunRefused → Outcome → Type 0
+GivesFrame r m = Returns (λ l. m ≡ Some l) (m ≡ None) r
+
+-- picks that were kept, where the meaning is known
+abbrev pub GivesPicks : List Table → result.Result (Vec Pick) RunRefused → Outcome → Type 0
+GivesPicks ts r m = Returns (λ (xs : Vec Pick). m ≡ Some (all_picked ts xs.items)) (m ≡ None) r
+
+-- ---- bound expressions
+
+-- the value of a column that may be there
+abbrev pub cell_in : Option Column → ℕ → Value
+cell_in None k = Value.Null
+cell_in (Some c) k = (column_at k c).1
+
+-- the value of a property of an entity that may be there
+abbrev pub property_in : World → Option Entity → ℕ → Value
+property_in w None p = Value.Null
+property_in w (Some e) p = property w e p
+
+-- the value of a bound expression in a row of a table
+abbrev pub bound_value : World → Table → ℕ → of_bound.Bound → Value
+bound_value w t k (bound.Literal v) = seen_value v
+bound_value w t k (bound.Column c) = cell_in (slice_get t.columns.items c) k
+bound_value w t k (bound.Property p) = property_in w (root_at t.roots k) p.at
+bound_value w t k (bound.Path p) = lookup w (instance_at t k) p.now
+bound_value w t k (bound.Unary' UnOp.Neg p a) = negated (bound_value w t k a)
+bound_value w t k (bound.Unary' UnOp.Not p a) = negation (bound_value w t k a)
+bound_value w t k (bound.Binary' op p a q b) = binary op (bound_value w t k a) (bound_value w t k b)
+bound_value w t k (bound.Call1' f p a) = call1 f (bound_value w t k a)
+bound_value w t k (bound.Call2' f p a q b) = call2 f (bound_value w t k a) (bound_value w t k b)
+
+-- the bound expression has the values of the expression in each row of the table
+abbrev pub IsBound : World → Table → Expr → of_bound.Bound → Type 0
+IsBound w t e b = (k : ℕ) → val w (instance_at t k) e ≡ bound_value w t k b
+
+-- the reader's expression is bound to its table
+pub record IsReaderOf (w : World) (e : Expr) (r : TableReader) : Type 0 where
+  pub values : IsBound w r.table.now e r.bound
+
+-- an expression that is bound to each of the tables
+pub record IsReader (w : World) (ts : List Table) (e : Expr) (rs : List TableReader) : Type 0 where
+  pub tables : map (λ r. r.table.now) rs ≡ ts
+  pub bound : All (IsReaderOf w e) rs
+
+-- a row of the first table
+abbrev pub first_pick : ℕ → Pick
+first_pick k = record { table = 0; row = k }

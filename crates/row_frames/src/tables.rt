@@ -1,0 +1,147 @@
+//! Tables: rows that have the same prefixes and columns, kept by columns.
+ghost use Rattle.std.specs.Prelude.{◌≡◌, ◌+◌, ◌≤◌, ◌∷◌, [], ℕ, IfOk, map};
+ghost use Rattle.edm_values.specs.Values.{seen_value};
+ghost use Rattle.edm_data.specs.Worlds.{entity_at};
+ghost use Rattle.apply_meaning.specs.Instances.{entity_instance};
+ghost use Rattle.apply_meaning.specs.RowViews.{IsRow};
+ghost use Rattle.row_frames.specs.Frames as spec;
+
+use apply_ast::Path;
+use apply_meaning::{Row, Steps};
+use edm_data::EntityRef;
+use edm_model::SetId;
+use edm_values::{Seen, Value};
+use std::alloc::{AllocError, Global};
+use std::sync::ledger::Ledger;
+
+/// The entities at the empty prefix.
+#[derive(Clone, Copy, Debug, Drop)]
+pub(crate) enum Roots {
+    /// There are none.
+    Without,
+    /// A row's number is the place of its entity in the set.
+    Whole(SetId),
+}
+
+/// A prefix with what stands there in each row.
+#[derive(Debug, Drop)]
+pub(crate) struct Prefix {
+    pub(crate) path: Path,
+    pub(crate) bound: Vec<Option<EntityRef>>,
+}
+
+/// A column with its value in each row.
+#[derive(Debug, Drop)]
+pub(crate) struct Column {
+    pub(crate) path: Path,
+    pub(crate) values: Vec<Value>,
+}
+
+/// Rows of one layout.
+#[derive(Debug, Drop)]
+pub(crate) struct Table {
+    pub(crate) roots: Roots,
+    pub(crate) prefixes: Vec<Prefix>,
+    pub(crate) columns: Vec<Column>,
+}
+
+/// A row of a table: the numbers of both.
+#[derive(Clone, Copy, Debug, Drop)]
+pub(crate) struct Pick {
+    pub(crate) table: u32,
+    pub(crate) row: u32,
+}
+
+/// The entity at the empty prefix of a row.
+pub(crate) fn root_at(roots: Roots, k: u32) -> Option<EntityRef>
+    ensures { result ≡ spec.root_at roots k }
+{
+    match roots {
+        Roots::Without => None,
+        Roots::Whole(set) => Some(EntityRef { set, at: k }),
+    }
+}
+
+/// What stands at a prefix in a row.
+pub(crate) fn bound_at(prefix: &Prefix, k: u32) -> Option<EntityRef>
+    ensures { result ≡ (spec.prefix_at k prefix.now).1 }
+{
+    match prefix.bound.get(k as usize) {
+        Some(bound) => *bound,
+        None => None,
+    }
+}
+
+/// The value of a column in a row.
+pub(crate) fn value_at(column: &Column, k: u32) -> Seen<'_>
+    ensures { seen_value result ≡ (spec.column_at k column.now).1 }
+{
+    match column.values.get(k as usize) {
+        Some(value) => value.seen(),
+        None => Seen::Null,
+    }
+}
+
+/// The prefixes of a row.
+fn prefixes_of(
+    alloc: Global,
+    prefixes: &[Prefix],
+    k: u32,
+) -> Result<Vec<(Path, Option<EntityRef>)>, AllocError>
+    ensures { IfOk result (λ made. made.items ≡ map (spec.prefix_at k) prefixes.now) }
+{
+    let mut made = Vec::with_capacity(alloc, prefixes.len())?;
+    for prefix in prefixes {
+        made.push((prefix.path.copy(alloc)?, bound_at(prefix, k)))?;
+    }
+    Ok(made)
+}
+
+/// The columns of a row.
+fn columns_of(alloc: Global, columns: &[Column], k: u32) -> Result<Vec<(Path, Value)>, AllocError>
+    ensures { IfOk result (λ made. made.items ≡ map (spec.column_at k) columns.now) }
+{
+    let mut made = Vec::with_capacity(alloc, columns.len())?;
+    for column in columns {
+        made.push((column.path.copy(alloc)?, value_at(column, k).own(alloc)?))?;
+    }
+    Ok(made)
+}
+
+/// The row of this number: one step.
+pub(crate) fn row_of<L: Ledger>(
+    alloc: Global,
+    table: &Table,
+    k: u32,
+    steps: &mut Steps<L>,
+) -> Result<Row, AllocError>
+    requires { IsRow (spec.prefixes_at table.now k) (spec.columns_at table.now k) }
+    ensures row { IfOk result (λ r. r ≡ spec.instance_at table.now k) }
+    ensures steps { steps.new ≤ steps.old + 1 }
+    ensures grown { steps.old ≤ steps.new }
+{
+    let prefixes = prefixes_of(alloc, table.prefixes.as_slice(), k)?;
+    let columns = columns_of(alloc, table.columns.as_slice(), k)?;
+    Row::make(alloc, prefixes, root_at(table.roots, k), columns, steps)
+}
+
+/// A table of all entities of a set. No memory is taken.
+pub(crate) fn set_table(alloc: Global, set: SetId) -> Table
+    ensures table { spec.IsTable result }
+    ensures rows { (k : ℕ) → spec.instance_at result k ≡ entity_instance (entity_at set k) }
+{
+    Table {
+        roots: Roots::Whole(set),
+        prefixes: Vec::new(alloc),
+        columns: Vec::new(alloc),
+    }
+}
+
+/// A table alone in a list.
+pub(crate) fn one_table(alloc: Global, table: Table) -> Result<Vec<Table>, AllocError>
+    ensures { IfOk result (λ tables. tables.items ≡ table ∷ []) }
+{
+    let mut tables = Vec::new(alloc);
+    tables.push(table)?;
+    Ok(tables)
+}
