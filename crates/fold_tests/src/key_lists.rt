@@ -4,7 +4,7 @@ ghost use Rattle.std.specs.List.{All};
 ghost use Rattle.aggregate_ops.specs.KeyTables.{HasWidth};
 
 use crate::words::{value_of, word_of};
-use aggregate_ops::{Groups, KeyTable};
+use aggregate_ops::{Groups, KeyTable, Seed};
 use edm_values::{EdmType, Value};
 use par_stages::{NoGate, pieces};
 use std::alloc::Global;
@@ -128,7 +128,13 @@ fn groups_of<R: Threads + Sync>(
     requires few { workers ≤ 64 }
     requires width { All (HasWidth width) keys.now }
 {
-    let table = pieces(rt, keys, workers, &NoGate, &KeyTable::new(alloc, width))?;
+    let table = pieces(
+        rt,
+        keys,
+        workers,
+        &NoGate,
+        &KeyTable::new(alloc, width, Seed::of(keys)),
+    )?;
     let told = shown(alloc, &table.groups()?)?;
     let given = shown(alloc, &table.into_groups()?)?;
     Ok((told, given))

@@ -461,6 +461,35 @@ const ANSWERS: &[(&str, &str, &str)] = &[
     ),
 ];
 
+/// Requests over groups whose inner pipeline begins with an aggregation, or does not, and their responses over the sample.
+const GROUPED: &[(&str, &str, &str)] = &[
+    (
+        "Sales?$apply=groupby((OrgID),aggregate(ID with min as F,ID with max as L,$count as N))",
+        "200",
+        "{\"@context\":\"$metadata#Sales(F,L,N,OrgID)\",\"value\":[{\"F@type\":\"Int64\",\"F\":\"1\",\"L@type\":\"Int64\",\"L\":\"4\",\"N@type\":\"Int64\",\"N\":\"2\",\"OrgID\":\"West\"},{\"F@type\":\"Int64\",\"F\":\"2\",\"L@type\":\"Int64\",\"L\":\"2\",\"N@type\":\"Int64\",\"N\":\"1\",\"OrgID\":\"East\"},{\"F@type\":\"Int64\",\"F\":\"3\",\"L@type\":\"Int64\",\"L\":\"3\",\"N@type\":\"Int64\",\"N\":\"1\",\"OrgID\":\"EMEA\"},{\"F@type\":\"Int64\",\"F\":\"5\",\"L@type\":\"Int64\",\"L\":\"5\",\"N@type\":\"Int64\",\"N\":\"1\",\"OrgID\":null},{\"F@type\":\"Int64\",\"F\":\"6\",\"L@type\":\"Int64\",\"L\":\"6\",\"N@type\":\"Int64\",\"N\":\"1\",\"OrgID\":\"US\"}]}",
+    ),
+    (
+        "Sales?$apply=groupby((rollup($all,Customer/Country,OrgID)),aggregate(ID with min as F,ID with max as L,$count as N))",
+        "200",
+        "{\"@context\":\"$metadata#Sales(Customer(Country),F,L,N,OrgID)\",\"value\":[{\"Customer\":{\"Country\":\"US\"},\"F@type\":\"Int64\",\"F\":\"1\",\"L@type\":\"Int64\",\"L\":\"1\",\"N@type\":\"Int64\",\"N\":\"1\",\"OrgID\":\"West\"},{\"Customer\":{\"Country\":\"US\"},\"F@type\":\"Int64\",\"F\":\"2\",\"L@type\":\"Int64\",\"L\":\"2\",\"N@type\":\"Int64\",\"N\":\"1\",\"OrgID\":\"East\"},{\"Customer\":{\"Country\":\"NL\"},\"F@type\":\"Int64\",\"F\":\"3\",\"L@type\":\"Int64\",\"L\":\"3\",\"N@type\":\"Int64\",\"N\":\"1\",\"OrgID\":\"EMEA\"},{\"Customer\":{\"Country\":\"FR\"},\"F@type\":\"Int64\",\"F\":\"4\",\"L@type\":\"Int64\",\"L\":\"4\",\"N@type\":\"Int64\",\"N\":\"1\",\"OrgID\":\"West\"},{\"Customer\":{\"Country\":\"NL\"},\"F@type\":\"Int64\",\"F\":\"5\",\"L@type\":\"Int64\",\"L\":\"5\",\"N@type\":\"Int64\",\"N\":\"1\",\"OrgID\":null},{\"Customer\":{\"Country\":\"US\"},\"F@type\":\"Int64\",\"F\":\"6\",\"L@type\":\"Int64\",\"L\":\"6\",\"N@type\":\"Int64\",\"N\":\"1\",\"OrgID\":\"US\"},{\"Customer\":{\"Country\":\"US\"},\"F@type\":\"Int64\",\"F\":\"1\",\"L@type\":\"Int64\",\"L\":\"6\",\"N@type\":\"Int64\",\"N\":\"3\"},{\"Customer\":{\"Country\":\"NL\"},\"F@type\":\"Int64\",\"F\":\"3\",\"L@type\":\"Int64\",\"L\":\"5\",\"N@type\":\"Int64\",\"N\":\"2\"},{\"Customer\":{\"Country\":\"FR\"},\"F@type\":\"Int64\",\"F\":\"4\",\"L@type\":\"Int64\",\"L\":\"4\",\"N@type\":\"Int64\",\"N\":\"1\"},{\"F@type\":\"Int64\",\"F\":\"1\",\"L@type\":\"Int64\",\"L\":\"6\",\"N@type\":\"Int64\",\"N\":\"6\"}]}",
+    ),
+    (
+        "Sales?$apply=groupby((Customer/Country),aggregate(Best,$count as N))",
+        "200",
+        "{\"@context\":\"$metadata#Sales(Best,Customer(Country),N)\",\"value\":[{\"Best@type\":\"Decimal\",\"Best\":\"17.75\",\"Customer\":{\"Country\":\"US\"},\"N@type\":\"Int64\",\"N\":\"3\"},{\"Best@type\":\"Decimal\",\"Best\":\"8.25\",\"Customer\":{\"Country\":\"NL\"},\"N@type\":\"Int64\",\"N\":\"2\"},{\"Best@type\":\"Decimal\",\"Best\":null,\"Customer\":{\"Country\":\"FR\"},\"N@type\":\"Int64\",\"N\":\"1\"}]}",
+    ),
+    (
+        "Sales?$apply=groupby((OrgID),aggregate(Amount with sum as T)/compute(T mul 2 as D)/filter(D gt 10))",
+        "200",
+        "{\"@context\":\"$metadata#Sales(D,OrgID,T)\",\"value\":[{\"D@type\":\"Decimal\",\"D\":\"20.00\",\"OrgID\":\"West\",\"T@type\":\"Decimal\",\"T\":\"10.00\"},{\"D@type\":\"Decimal\",\"D\":\"11.00\",\"OrgID\":\"East\",\"T@type\":\"Decimal\",\"T\":\"5.50\"},{\"D@type\":\"Decimal\",\"D\":\"14.50\",\"OrgID\":\"EMEA\",\"T@type\":\"Decimal\",\"T\":\"7.25\"}]}",
+    ),
+    (
+        "Sales?$apply=groupby((CustomerID),filter(Amount gt 5)/aggregate($count as N,Amount with sum as T))",
+        "200",
+        "{\"@context\":\"$metadata#Sales(CustomerID,N,T)\",\"value\":[{\"CustomerID\":\"C1\",\"N@type\":\"Int64\",\"N\":\"2\",\"T@type\":\"Decimal\",\"T\":\"15.50\"},{\"CustomerID\":\"C2\",\"N@type\":\"Int64\",\"N\":\"1\",\"T@type\":\"Decimal\",\"T\":\"7.25\"},{\"CustomerID\":\"C3\",\"N@type\":\"Int64\",\"N\":\"0\",\"T@type\":\"Decimal\",\"T\":null}]}",
+    ),
+];
+
 /// The same with transformations over the hierarchy of the organisations.
 const BY_NODES: &[(&str, &str, &str)] = &[
     (
@@ -487,6 +516,11 @@ const BY_NODES: &[(&str, &str, &str)] = &[
         "Sales?$apply=groupby((rolluprecursive($root/Orgs,OrgTree,OrgID)),aggregate(Amount with sum as T))",
         "200",
         "{\"@context\":\"$metadata#Sales(OrgID,T)\",\"value\":[{\"OrgID\":\"Corp\",\"T@type\":\"Decimal\",\"T\":\"25.00\"},{\"OrgID\":\"EMEA\",\"T@type\":\"Decimal\",\"T\":\"7.25\"},{\"OrgID\":\"US\",\"T@type\":\"Decimal\",\"T\":\"17.75\"},{\"OrgID\":\"West\",\"T@type\":\"Decimal\",\"T\":\"10.00\"},{\"OrgID\":\"East\",\"T@type\":\"Decimal\",\"T\":\"5.50\"}]}",
+    ),
+    (
+        "Sales?$apply=groupby((rolluprecursive($root/Orgs,OrgTree,OrgID)),aggregate(ID with min as F,ID with max as L,$count as N,Best))",
+        "200",
+        "{\"@context\":\"$metadata#Sales(Best,F,L,N,OrgID)\",\"value\":[{\"Best@type\":\"Decimal\",\"Best\":\"17.75\",\"F@type\":\"Int64\",\"F\":\"1\",\"L@type\":\"Int64\",\"L\":\"6\",\"N@type\":\"Int64\",\"N\":\"5\",\"OrgID\":\"Corp\"},{\"Best@type\":\"Decimal\",\"Best\":\"7.25\",\"F@type\":\"Int64\",\"F\":\"3\",\"L@type\":\"Int64\",\"L\":\"3\",\"N@type\":\"Int64\",\"N\":\"1\",\"OrgID\":\"EMEA\"},{\"Best@type\":\"Decimal\",\"Best\":\"17.75\",\"F@type\":\"Int64\",\"F\":\"1\",\"L@type\":\"Int64\",\"L\":\"6\",\"N@type\":\"Int64\",\"N\":\"4\",\"OrgID\":\"US\"},{\"Best@type\":\"Decimal\",\"Best\":\"10.00\",\"F@type\":\"Int64\",\"F\":\"1\",\"L@type\":\"Int64\",\"L\":\"4\",\"N@type\":\"Int64\",\"N\":\"2\",\"OrgID\":\"West\"},{\"Best@type\":\"Decimal\",\"Best\":\"5.50\",\"F@type\":\"Int64\",\"F\":\"2\",\"L@type\":\"Int64\",\"L\":\"2\",\"N@type\":\"Int64\",\"N\":\"1\",\"OrgID\":\"East\"}]}",
     ),
     (
         "Sales?$apply=groupby((rolluprecursive($root/Orgs,OrgTree,OrgID)),aggregate(Amount with sum as T))/filter(OrgID eq 'US')",
@@ -640,6 +674,11 @@ pub(crate) fn expect_answers<'a, R: Threads + Sync + Abort>(
 #[test]
 fn pipelines_have_their_bodies(rt: HostRuntime) -> Result<(), Fail> {
     expect_answers(&rt, rt.alloc(), SAMPLE, SALES_DATA, ANSWERS)
+}
+
+#[test]
+fn groups_have_their_bodies(rt: HostRuntime) -> Result<(), Fail> {
+    expect_answers(&rt, rt.alloc(), SAMPLE, SALES_DATA, GROUPED)
 }
 
 #[test]

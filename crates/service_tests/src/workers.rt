@@ -1,7 +1,8 @@
 //! Runs with several workers.
 use crate::worlds::PLAIN;
 use apply_service::Status;
-use run_support::{Case, outcome_at, outcome_of, texts};
+use run_support::{Case, outcome, outcome_at, outcome_of, texts};
+use sample_data::gen_data;
 use std::test::Fail;
 use test_support::meetings::Meeting;
 use test_support::samples::{SALES_DATA, SAMPLE};
@@ -52,6 +53,43 @@ fn generated_worlds_have_one_answer_for_all_workers(rt: HostRuntime) -> Result<(
         assert_eq!(rt;
             ran.output.as_slice(),
             alone.output.as_slice(),
+            "by {workers}"
+        );
+    }
+    Ok(())
+}
+
+/// Lines whose values are worked out on parts of the rows, where these are many.
+const VALUED: &[u8] =
+    b"Sales?$apply=filter(Amount mul 2 gt 50)/aggregate($count as N)\nSales?$apply=compute(Amount mul 2 as D,OrgID as E)/aggregate(D with sum as S,E with max as M)\nSales?$apply=topsum(100000,Amount)/aggregate($count as N,ID with sum as S)\n";
+
+#[test]
+fn values_on_many_rows_are_the_same_for_all_workers(rt: HostRuntime) -> Result<(), Fail> {
+    let alloc = rt.alloc();
+    let data = String::from_utf8(gen_data(alloc, 5000)?)?;
+    let alone = Case {
+        words: &["--workers", "1"],
+        model: SAMPLE,
+        data: data.as_str(),
+        input: VALUED,
+        ..PLAIN
+    };
+    let expected = outcome(&rt, alloc, &alone)?;
+    assert_eq!(rt; expected.status, Status::Served);
+    for workers in ["2", "4", "64"] {
+        let words = ["--workers", workers];
+        let case = Case {
+            words: &words,
+            model: SAMPLE,
+            data: data.as_str(),
+            input: VALUED,
+            ..PLAIN
+        };
+        let ran = outcome(&rt, alloc, &case)?;
+        assert_eq!(rt; ran.status, Status::Served);
+        assert_eq!(rt;
+            ran.output.as_slice(),
+            expected.output.as_slice(),
             "by {workers}"
         );
     }

@@ -1,4 +1,4 @@
-//! Tests of `apply_meaning`, `hier_index`, `hier_traverse`, `hier_states`, `rewrite_rules`, `optimiser` and `plan_run`. They say what no
+//! Tests of `apply_meaning`, `hier_index`, `hier_traverse`, `hier_states`, `rewrite_places`, `optimiser` and `plan_run`. They say what no
 //! clause says: rows from outside, and that calls succeed where memory is ample.
 //!
 //! `rows` has the values of expressions on rows and rows as they are read back, `runs` whole pipelines, over the tables of

@@ -12,7 +12,7 @@ use apply_grammar::read_request;
 use context_typing::{Customs, Typed, type_pipe};
 use edm_model::{Model, read_model};
 use optimiser::{next_rewrite, optimise};
-use rewrite_rules::{
+use rewrite_places::{
     rule_1, rule_2, rule_3, rule_4, rule_5, rule_6, rule_7, rule_8, rule_9, rule_10, rule_11,
     rule_12, rule_13, rule_14, rule_15, rule_16, rule_17, rule_18,
 };

@@ -22,6 +22,8 @@ Sales?$apply=top(0) =>
 Sales?$apply=skip(2)/top(3)/skip(1) => 3 | 4
 Sales?$apply=skip(6)/top(9223372036854775807) =>
 Sales?$apply=skip(9223372036854775807) =>
+Sales?$apply=skip(1)/filter(Amount gt 1)/top(2)/identity => 1 | 2
+Sales?$apply=filter(Amount gt 1)/skip(1)/filter(ID ne 3)/top(3)/orderby(ID desc)/skip(1) => 1
 // Computations are never refused.
 Sales?$apply=top(2)/compute(Amount mul 2 as D,ID sub 1 as P) => 0; D: 20.00; P: 0 | 1; D: 11.00; P: 1
 Sales?$apply=compute(Amount mul 100000000000000000 as X) => 0; X: Beyond | 1; X: Beyond | 2; X: Beyond | 3; X: null | 4; X: Beyond | 5; X: Beyond
@@ -47,6 +49,9 @@ Sales?$apply=filter(ID eq 99)/aggregate(Amount with sum as T,$count as N) => -; 
 Sales?$apply=aggregate(CustomerID with countdistinct as D,Amount with min as L,Amount with max as M) => -; D: 3; L: 1.00; M: 10.00
 /Sales?%24apply=filter(year(Customer/Since)%20eq%202020)/aggregate(%24count%20as%20N) => -; N: 2
 Sales?$apply=orderby(Amount)/top(1)/aggregate(ID with max as M) => -; M: 4
+Sales?$apply=filter(Amount gt 1)/skip(1)/filter(ID ne 3)/top(3)/aggregate(ID with sum as S,$count as N) => -; S: 8; N: 2
+Sales?$apply=top(3)/filter(Amount mul 100000000000000000 gt 0)/aggregate($count as N) => Range
+Sales?$apply=top(0)/filter(Amount mul 100000000000000000 gt 0)/aggregate($count as N) => -; N: 0
 Sales?$apply=filter(ID eq 4)/aggregate(Amount with max as M,Amount with min as L,Amount with sum as T,Amount with countdistinct as D,$count as N) => -; M: null; L: null; T: null; D: 0; N: 1
 Sales?$apply=aggregate(Amount with countdistinct as A,OrgID with countdistinct as O,Customer/Since with min as S,Customer/Since with max as U,OrgID with max as X) => -; A: 5; O: 4; S: 2019-05-01; U: 2020-02-29; X: West
 Sales?$apply=aggregate(ID mul 3000000000000000000 with sum as T) => -; T: Beyond
