@@ -1,16 +1,19 @@
 -- The nodes that a recursive rollup shows.
-use Rattle.std.proofs.Common.{◌≡◌, sym, ◌∙◌, ap, Bool, true, false, List, [], ◌∷◌, Option, Some, None, find}
+use Rattle.std.proofs.Common.{◌≡◌, ℕ, sym, ◌∙◌, ap, Bool, true, false, List, [], ◌∷◌, Option, Some, None, find}
 use Rattle.std.specs.Prelude.{option_map, option_and_then, is_some, slice_get, unwrap_or, if◌then◌else◌}
+use Rattle.edm_values.specs.declared.EdmType.{EdmType}
 use Rattle.edm_values.specs.Lists.{same_text}
 use Rattle.edm_values.specs.Names.{Name, is_name}
-use Rattle.edm_values.proofs.OptionFacts.{chained, mapped, some_value, some_there}
+use Rattle.edm_values.proofs.OptionFacts.{chained, is_some-option_map, mapped, some_value, some_there, unmapped}
 use Rattle.edm_model.specs.LookUps.{HierarchyPlace, key_of, placed, property_at, set_named, set_type, type_at, type_of_set}
 use Rattle.edm_model.specs.Models.{Model, Part}
 use Rattle.edm_model.specs.Soundness.{IsSound}
 use Rattle.apply_ast.specs.Trees.{HierName, OptPipe, Pipe, Step, is_long, pipe}
-use Rattle.context_typing.specs.Shapes.{Shape}
+use Rattle.context_typing.specs.Shapes.{Shape, set_shape}
+use Rattle.context_typing.specs.Steps.{nodes_at}
 use Rattle.context_typing.specs.Typing.{Customs, hierarchy_at, inner_shape, step_shape, steps_shape}
 use Rattle.context_typing.proofs.TypingEquations.{inner_shape-SomePipe, steps_shape-End, steps_shape-Then}
+use Rattle.rewrite_forms.specs.GroupForms.{chosen_nodes}
 use Rattle.rewrite_forms.specs.StepShapes.{shape_behind}
 
 -- ---- the key of a hierarchy's nodes
@@ -55,3 +58,43 @@ property-named m p n sound e =
 
 pub named-text : (n : Name) (o : Option Name) → is_name n ≡ true → o ≡ (if is_name n then Some n else None) → o ≡ Some n
 named-text n o h e = e ∙ ap (λ b. if b then Some n else None) h
+
+-- ---- the nodes that a pipeline chooses, with the name of their key
+
+-- the hierarchy whose nodes these are
+pub nodes-place : (m : Model) (h : HierName) (x : ℕ × EdmType) → Some x ≡ nodes_at m h → (f : HierarchyPlace) × (hierarchy_at m h ≡ Some f) × (f.type ≡ x.0)
+nodes-place m h x e =
+    let p = mapped {Y = ℕ × EdmType} (λ f. (f.type, f.key.kind)) (hierarchy_at m h) x (sym e) in
+    (p.0, p.1, ap (λ (y : ℕ × EdmType). y.0) p.2)
+
+module _ (m : Model) (c : Customs) (h : HierName) (T : OptPipe) where
+  of_place : HierarchyPlace → Option (Shape × Name)
+  of_place f = option_map {U = Shape × Name} (λ N. (N, f.key.name)) (inner_shape m c (set_shape f.type) (set_shape f.type) T)
+
+  -- their shape and the name of their key
+  pub nodes-chosen : (x : ℕ × EdmType) (S : Shape) (n : Name) → Some x ≡ nodes_at m h → Some S ≡ inner_shape m c (set_shape x.0) (set_shape x.0) T
+      → option_map (λ q. q.name) (property_at m (key_of m x.0)) ≡ Some n → Some (S, n) ≡ chosen_nodes m c h T
+  unfolding of_place
+  nodes-chosen x S n e shape name =
+      let p = nodes-place m h x e in
+      let f = p.0 in
+      let named : n ≡ f.key.name =
+      some_value (sym name ∙ ap (λ t. option_map (λ q. q.name) (property_at m (key_of m t))) (sym p.2) ∙ ap (option_map (λ q. q.name)) (place-key m h f p.1)) in
+      ap (λ (k : Name). Some (S, k)) named
+      ∙ ap (option_map {U = Shape × Name} (λ N. (N, f.key.name))) (shape ∙ ap (λ t. inner_shape m c (set_shape t) (set_shape t) T) (sym p.2))
+      ∙ ap (option_and_then of_place) (sym p.1)
+
+  -- a pipeline that chooses some is typed on them
+  pub nodes-shaped : (x : ℕ × EdmType) → Some x ≡ nodes_at m h → is_some (chosen_nodes m c h T) ≡ true → is_some (inner_shape m c (set_shape x.0) (set_shape x.0) T) ≡ true
+  unfolding of_place
+  nodes-shaped x e typed =
+      let p = nodes-place m h x e in
+      let f = p.0 in
+      ap (λ t. is_some (inner_shape m c (set_shape t) (set_shape t) T)) (sym p.2)
+      ∙ sym (is_some-option_map {Y = Shape × Name} (λ N. (N, f.key.name)) (inner_shape m c (set_shape f.type) (set_shape f.type) T))
+      ∙ ap is_some (ap (option_and_then of_place) (sym p.1)) ∙ typed
+
+  -- there are none where there is no such hierarchy
+  pub nodes-none : None ≡ nodes_at m h → None ≡ chosen_nodes m c h T
+  unfolding of_place
+  nodes-none e = ap (option_and_then of_place) (sym (unmapped {Y = ℕ × EdmType} (λ f. (f.type, f.key.kind)) (hierarchy_at m h) (sym e)))

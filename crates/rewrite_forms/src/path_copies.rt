@@ -9,7 +9,7 @@ use apply_ast::{Expr, Name, Path};
 use std::alloc::{AllocError, Global};
 
 /// What stands in place of a path.
-#[derive(Debug, Drop)]
+#[derive(Drop)]
 pub(crate) enum Change<'a> {
     /// The path without its first name.
     WithoutFirst,
