@@ -16,14 +16,14 @@ use rewrite_forms::{
 use std::alloc::{AllocError, Global};
 
 /// A filter, and whether it is sure where it was written.
-#[derive(Debug, Drop)]
+#[derive(Drop)]
 pub(crate) struct Test {
     pub(crate) expr: Expr,
     pub(crate) sure: bool,
 }
 
 /// Which filters may pass a step.
-#[derive(Debug, Drop)]
+#[derive(Drop)]
 pub(crate) enum Passage<'a> {
     /// None.
     Closed,
@@ -40,7 +40,7 @@ pub(crate) enum Passage<'a> {
 }
 
 /// Which filters go into a step.
-#[derive(Debug, Drop)]
+#[derive(Drop)]
 pub(crate) enum Entry<'a> {
     /// None.
     Closed,
@@ -53,7 +53,7 @@ pub(crate) enum Entry<'a> {
 }
 
 /// The step of a segment.
-#[derive(Debug, Drop)]
+#[derive(Drop)]
 pub(crate) enum Head {
     /// None, at the front.
     Front,
@@ -65,7 +65,7 @@ pub(crate) enum Head {
 
 /// A step, whether it lets filters pass as far as the step alone decides, which may pass then and which go into it, those
 /// that have gone into it, and those behind it.
-#[derive(Debug, Drop)]
+#[derive(Drop)]
 pub(crate) struct Segment<'a> {
     pub(crate) head: Head,
     pub(crate) lets: bool,

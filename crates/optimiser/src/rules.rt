@@ -4,7 +4,7 @@ ghost use Rattle.optimiser.specs.WalkRules.{rules_named};
 ghost use Rattle.walk_laws.specs.Walks as spec;
 
 /// The rules by which a walk settles a pipeline.
-#[derive(Clone, Copy, Debug, Drop)]
+#[derive(Clone, Copy, Drop)]
 pub enum Rules {
     /// The first eight.
     Early,
