@@ -208,6 +208,14 @@ dropped-one_more : (es : List Expr) (s : Step) (ss : List Step) → drop (suc (l
 dropped-one_more [] s ss = refl
 dropped-one_more (e ∷ es) s ss = dropped-one_more es s ss
 
+-- a list with one more is not empty
+pub one-more : {X Y : Type 0} (f : X → Y) (xs ys : List X) (z : Y) → map f ys ≡ map f xs ++ z ∷ [] → 0 < length ys
+one-more f xs ys z e =
+    let a = length-map ys f in
+    let n = length-append (map f xs) (z ∷ []) in
+    let k = ap length e in
+    omega (arith, a, n, k)
+
 -- a list that has grown is not empty
 pub grown-some : {X Y : Type 0} (f : X → Y) (xs ys : List X) (zs : List Y) → map f ys ≡ map f xs ++ zs → 0 < length xs → 0 < length ys
 grown-some f xs ys zs e h =

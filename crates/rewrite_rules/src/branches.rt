@@ -1,10 +1,10 @@
 //! The rules of concatenations: a filter goes into the branches, and a step with which all begin goes before them.
-ghost use Rattle.std.specs.Prelude.{◌≡◌, ◌<◌, Bool, IfOk, IfSome, IsTrue, Some, length, map, option_map, slice_get};
+ghost use Rattle.std.specs.Prelude.{◌≡◌, ◌<◌, ◌∷◌, Bool, IfOk, IfSome, IsTrue, Some, length, map, option_map, slice_get};
 ghost use Rattle.std.specs.List.{list_all};
 ghost use Rattle.edm_model.specs.Models as seen;
 ghost use Rattle.edm_model.specs.Soundness.{IsSound};
-ghost use Rattle.apply_ast.specs.Trees.{steps};
-ghost use Rattle.apply_ast.specs.Views.{pipe_of, pipes_from, pipes_of, step_of};
+ghost use Rattle.apply_ast.specs.Trees.{steps, Step as tree};
+ghost use Rattle.apply_ast.specs.Views.{expr_of, pipe_of, pipes_from, pipes_of, step_of};
 ghost use Rattle.context_typing.specs.Readings.{readings, AreTypedOver};
 ghost use Rattle.context_typing.specs.Shapes as shapes;
 ghost use Rattle.context_typing.specs.ShapeTypes.{has_types};
@@ -14,14 +14,14 @@ ghost use Rattle.rewrite_forms.specs.StepShapes.{shape_behind};
 ghost use Rattle.rewrite_laws.specs.Rewrites as rule;
 
 use crate::filters::{Condition, entered, nearest};
-use crate::made::two_before_copies;
+use crate::made::put_copy;
 use crate::pipelines::{ended, pipe_or_identity};
-use apply_ast::{Pipe, PipeList, Step};
+use apply_ast::{Expr, Pipe, PipeList, Step};
 use context_typing::{Customs, Shape};
 use edm_model::Model;
 use rewrite_forms::{
-    begins_with_filter, branch_shapes, branches_of, is_identity, same_step, shape_after,
-    shape_behind,
+    begins_with_filter, branch_shapes, branches_of, is_identity, put_copies, same_step,
+    shape_after, shape_behind,
 };
 use std::alloc::{AllocError, Global};
 
@@ -34,6 +34,14 @@ fn ended_branches(alloc: Global, branches: &[Pipe], step: &Step) -> Result<PipeL
         made.push(ended(alloc, branch, step)?)?;
     }
     Ok(PipeList::new(made))
+}
+
+/// The concatenation of the branches with a filter at the end of each.
+fn ended_by(alloc: Global, branches: &[Pipe], e: &Expr) -> Result<Step, AllocError>
+    ensures { IfOk result (λ s. step_of s ≡ rule.concat (map (λ p. rule.ended p (tree.Filter (expr_of e.now))) (map pipe_of branches.now))) }
+{
+    let filter = Step::Filter(e.copy(alloc)?);
+    Ok(Step::Concat(ended_branches(alloc, branches, &filter)?))
 }
 
 /// The steps after the nearest filter that is a test on the shape behind each branch has gone to the end of every branch.
@@ -52,8 +60,7 @@ fn into_branches(
 {
     match nearest(alloc, m, shape, &Condition::TypedOn(shapes), rest)? {
         Some((k, e)) => {
-            let filter = Step::Filter(e.copy(alloc)?);
-            let made = Step::Concat(ended_branches(alloc, branches, &filter)?);
+            let made = ended_by(alloc, branches, e)?;
             Ok(Some(entered(alloc, made, rest, k)?))
         }
         None => Ok(None),
@@ -151,6 +158,23 @@ fn without_first(alloc: Global, branches: &[Pipe]) -> Result<PipeList, AllocErro
     Ok(PipeList::new(made))
 }
 
+/// A step, the concatenation of the branches without their first steps, and copies of other steps behind it.
+fn factored(
+    alloc: Global,
+    first: &Step,
+    branches: &[Pipe],
+    rest: &[Step],
+) -> Result<Vec<Step>, AllocError>
+    ensures value { IfOk result (λ v. map step_of v.items ≡ step_of first.now ∷ tree.Concat (pipes_from (map spec.without_first (map pipe_of branches.now))) ∷ map step_of rest.now) }
+    ensures some { IfOk result (λ v. 0 < length v.items) }
+{
+    let mut made = Vec::new(alloc);
+    put_copy(&mut made, alloc, first)?;
+    made.push(Step::Concat(without_first(alloc, branches)?))?;
+    put_copies(&mut made, alloc, rest)?;
+    Ok(made)
+}
+
 /// A step with which all branches begin goes before the concatenation.
 pub(crate) fn factor_branches(
     alloc: Global,
@@ -165,9 +189,8 @@ pub(crate) fn factor_branches(
             let branches = branches.as_slice();
             match common_first(branches) {
                 Some(first) => {
-                    let first = first.copy(alloc)?;
-                    let others = Step::Concat(without_first(alloc, branches)?);
-                    Ok(Some(two_before_copies(alloc, first, others, rest)?))
+                    let made = factored(alloc, first, branches, rest)?;
+                    Ok(Some(made))
                 }
                 None => Ok(None),
             }

@@ -8,7 +8,7 @@ ghost use Rattle.rewrite_rules.specs.Conditions as spec;
 ghost use Rattle.rewrite_laws.specs.Rewrites.{passing};
 ghost use Rattle.rewrite_laws.specs.Rewrites as rule;
 
-use crate::made::{before_copies, two_before_copies};
+use crate::made::{before_copies, put_copy};
 use apply_ast::{Expr, Name, Named, Path, Step};
 use context_typing::{Shape, is_sure, is_test};
 use edm_model::Model;
@@ -18,7 +18,7 @@ use rewrite_forms::{
 use std::alloc::{AllocError, Global};
 
 /// What a filter must meet to pass a step, or to go into it.
-#[derive(Debug, Drop)]
+#[derive(Drop)]
 pub(crate) enum Condition<'a> {
     /// Every filter does.
     Any,
@@ -144,9 +144,10 @@ fn moved(alloc: Global, step: &Step, rest: &[Step], k: usize) -> Result<Vec<Step
     ensures value { IfOk result (λ v. map step_of v.items ≡ spec.moved (step_of step.now) (map step_of rest.now) k) }
     ensures some { IfOk result (λ v. 0 < length v.items) }
 {
-    let last = rest[k].copy(alloc)?;
-    let step = step.copy(alloc)?;
-    let mut made = two_before_copies(alloc, last, step, &rest[..k])?;
+    let mut made = Vec::new(alloc);
+    put_copy(&mut made, alloc, &rest[k])?;
+    put_copy(&mut made, alloc, step)?;
+    put_copies(&mut made, alloc, &rest[..k])?;
     put_copies(&mut made, alloc, &rest[k + 1..])?;
     Ok(made)
 }

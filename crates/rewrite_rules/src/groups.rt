@@ -1,7 +1,8 @@
 //! The rules of groupings: filters that pass one, or go into the pipeline that chooses its nodes.
 ghost use Rattle.std.specs.Prelude.{◌≡◌, ◌<◌, Bool, IfOk, IfSome, IsTrue, None, is_some, length, map, option_map};
 ghost use Rattle.edm_model.specs.Soundness.{IsSound};
-ghost use Rattle.apply_ast.specs.Views.{inner_of, key_of, keys_from, pipe_of, step_of};
+ghost use Rattle.apply_ast.specs.Trees.{Step as tree};
+ghost use Rattle.apply_ast.specs.Views.{expr_of, inner_of, key_of, keys_from, pipe_of, step_of};
 ghost use Rattle.context_typing.specs.Readings.{readings, AreTypedOver};
 ghost use Rattle.context_typing.specs.ShapeTypes.{has_types};
 ghost use Rattle.context_typing.specs.Typing as typing;
@@ -12,7 +13,7 @@ ghost use Rattle.rewrite_laws.specs.Rewrites as rule;
 
 use crate::filters::{Condition, entered, nearest, passed_by};
 use crate::nodes::with_chosen;
-use apply_ast::{KeyItem, Name, Path, Pipe, Step};
+use apply_ast::{Expr, KeyItem, Name, Path, Pipe, Step};
 use context_typing::{Customs, Shape};
 use edm_model::Model;
 use rewrite_forms::{
@@ -22,7 +23,7 @@ use rewrite_forms::{
 use std::alloc::{AllocError, Global};
 
 /// What stands beside plain keys in the groupings of a rule.
-#[derive(Clone, Copy, Debug, Drop)]
+#[derive(Clone, Copy, Drop)]
 pub(crate) enum Grouping {
     /// Nothing.
     Plain,
@@ -146,6 +147,20 @@ pub(crate) fn pass_grouping(
     }
 }
 
+/// The grouping with a filter at the end of the pipeline that chooses its nodes, which has the node's key in place of each path.
+fn chosen_by(
+    alloc: Global,
+    keys: &[KeyItem],
+    inner: &Option<Pipe>,
+    key: &Name,
+    e: &Expr,
+) -> Result<Step, AllocError>
+    ensures { IfOk result (λ s. step_of s ≡ tree.GroupBy (rule.ended_keys (tree.Filter (rule.on_node key.now (expr_of e.now))) (keys_from (map key_of keys.now))) (inner_of (option_map pipe_of inner.now))) }
+{
+    let test = on_node(alloc, key, e)?;
+    with_chosen(alloc, keys, inner, &test)
+}
+
 /// The steps after the nearest filter on the node alone has gone into the pipeline that chooses the nodes, if there is one.
 fn into_nodes(
     alloc: Global,
@@ -166,8 +181,7 @@ fn into_nodes(
     let condition = Condition::OnNodes(&paths, &nodes.1, &nodes.0);
     match nearest(alloc, m, shape, &condition, rest)? {
         Some((k, e)) => {
-            let test = on_node(alloc, &nodes.1, e)?;
-            let made = with_chosen(alloc, keys, inner, &test)?;
+            let made = chosen_by(alloc, keys, inner, &nodes.1, e)?;
             Ok(Some(entered(alloc, made, rest, k)?))
         }
         None => Ok(None),

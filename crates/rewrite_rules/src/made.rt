@@ -1,5 +1,6 @@
 //! The steps that rules put together.
-ghost use Rattle.std.specs.Prelude.{◌≡◌, ◌<◌, ◌∷◌, IfOk, length, map};
+ghost use Rattle.std.specs.Prelude.{◌≡◌, ◌<◌, ◌∷◌, [], ◌++◌, IfOk, OnOk, length, map};
+ghost use Rattle.apply_ast.specs.Trees.{Step as tree};
 ghost use Rattle.apply_ast.specs.Views.{expr_of, step_of};
 ghost use Rattle.rewrite_forms.specs.Forms.{count_to};
 
@@ -16,6 +17,39 @@ pub(crate) fn copies(alloc: Global, rest: &[Step]) -> Result<Vec<Step>, AllocErr
     Ok(made)
 }
 
+/// Puts a copy of a step at the end of a list.
+pub(crate) fn put_copy(out: &mut Vec<Step>, alloc: Global, step: &Step) -> Result<(), AllocError>
+    ensures { OnOk result (map step_of out.new.items ≡ map step_of out.old.items ++ step_of step.now ∷ []) }
+{
+    out.push(step.copy(alloc)?)?;
+    Ok(())
+}
+
+/// Puts the filter by an expression at the end of a list.
+fn put_filter(out: &mut Vec<Step>, alloc: Global, e: &Expr) -> Result<(), AllocError>
+    ensures { OnOk result (map step_of out.new.items ≡ map step_of out.old.items ++ tree.Filter (expr_of e.now) ∷ []) }
+{
+    out.push(Step::Filter(e.copy(alloc)?))?;
+    Ok(())
+}
+
+/// The filters by two expressions, and copies of other steps behind them.
+pub(crate) fn filters_before_copies(
+    alloc: Global,
+    first: &Expr,
+    second: &Expr,
+    rest: &[Step],
+) -> Result<Vec<Step>, AllocError>
+    ensures value { IfOk result (λ v. map step_of v.items ≡ tree.Filter (expr_of first.now) ∷ tree.Filter (expr_of second.now) ∷ map step_of rest.now) }
+    ensures some { IfOk result (λ v. 0 < length v.items) }
+{
+    let mut made = Vec::new(alloc);
+    put_filter(&mut made, alloc, first)?;
+    put_filter(&mut made, alloc, second)?;
+    put_copies(&mut made, alloc, rest)?;
+    Ok(made)
+}
+
 /// A step, and copies of others behind it.
 pub(crate) fn before_copies(
     alloc: Global,
@@ -27,23 +61,6 @@ pub(crate) fn before_copies(
 {
     let mut made = Vec::new(alloc);
     made.push(step)?;
-    put_copies(&mut made, alloc, rest)?;
-    Ok(made)
-}
-
-/// Two steps, and copies of others behind them.
-pub(crate) fn two_before_copies(
-    alloc: Global,
-    first: Step,
-    second: Step,
-    rest: &[Step],
-) -> Result<Vec<Step>, AllocError>
-    ensures value { IfOk result (λ v. map step_of v.items ≡ step_of first ∷ step_of second ∷ map step_of rest.now) }
-    ensures some { IfOk result (λ v. 0 < length v.items) }
-{
-    let mut made = Vec::new(alloc);
-    made.push(first)?;
-    made.push(second)?;
     put_copies(&mut made, alloc, rest)?;
     Ok(made)
 }

@@ -19,7 +19,7 @@ use crate::climbs::drop_idle;
 use crate::filters::{Condition, passed_by};
 use crate::groups::{Grouping, filter_nodes, pass_grouping};
 use crate::joins::{filter_related, pass_join, pass_outer_join};
-use crate::made::{before_copies, copies, count_before_copies, two_before_copies};
+use crate::made::{before_copies, copies, count_before_copies, filters_before_copies};
 use crate::walks::pass_traverse;
 use apply_ast::Step;
 use context_typing::{Customs, Shape, is_sure};
@@ -92,9 +92,7 @@ fn split_conjunction(
             if !is_sure(m, &shape, second) {
                 return Ok(None);
             }
-            let first = Step::Filter(first.copy(alloc)?);
-            let second = Step::Filter(second.copy(alloc)?);
-            Ok(Some(two_before_copies(alloc, first, second, rest)?))
+            Ok(Some(filters_before_copies(alloc, first, second, rest)?))
         }
         None => Ok(None),
     }

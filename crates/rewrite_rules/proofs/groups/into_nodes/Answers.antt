@@ -23,5 +23,5 @@ returns-in-Some-clause-value c =
     sym (ap (option_map (λ x. (x.0, expr_of x.1.now))) c.in-Some.is) ∙ c.in_ok-k.ensures.value
     ∙ ap (λ ps. nearest m S (λ b. is_nonempty (paths b) && over ps b && is_sure m S b && has_kind is_boolean_kind m N.0 (on_node N.1 b) && is_sure m N.0 (on_node N.1 b)) ss) (c.deref.ensures.value ∙ c.in_ok-paths.ensures.value) in
     ap Some (c.in_ok-entered-in-Some.ensures.value
-    ∙ ap (λ s. entered s ss c.in-Some.k) (c.in_ok-made-in-Some.ensures ∙ ap (λ b. Step.GroupBy (ended_keys (Step.Filter b) ks) T) c.in_ok-test-in-Some.ensures.value))
+    ∙ ap (λ s. entered s ss c.in-Some.k) c.in_ok-made-in-Some.ensures)
     ∙ nearest-entered m S (is_node_test m S c.args.path.now N) ss c.in-Some.k (expr_of c.in-Some.e.now) found (λ b. Step.GroupBy (ended_keys (Step.Filter (on_node N.1 b)) ks) T)
