@@ -3,50 +3,71 @@ use Rattle.std.proofs.Common.{◌≡◌, ℕ, zero, suc, ◌+◌, ◌<◌, lengt
 use Rattle.std.specs.Prelude.{slice_get, filter, if◌then◌else◌, ◌||◌}
 use Rattle.std.proofs.Math.Seq.{drop-cons}
 use Rattle.edm_values.specs.Values.{is_value, is_beyond}
-use Rattle.apply_meaning.specs.Meaning.{values}
+use Rattle.apply_meaning.specs.Meaning.{key_list, values}
 use Rattle.apply_meaning.specs.Instances.{Instance}
 use Rattle.std.specs.List.{All, list_all, list_any}
 use Rattle.std.proofs.lemmas.Bool.{and_parts}
-use Rattle.std.proofs.lemmas.List.{length-map, take_more, map-append, take-map, drop-map}
+use Rattle.std.proofs.lemmas.List.{length-map, map_more, take_more, map-append, take-map, drop-map}
 use Rattle.std.proofs.lemmas.List.Elements.{All-push, All-cons, All-nil, All-map, All-get_or, All-same, All-append, All-take, All-drop}
 use Rattle.edm_values.specs.Lists.{places}
+use Rattle.edm_values.specs.Names.{Path}
 use Rattle.edm_data.specs.Worlds.{World, entity_at}
 use Rattle.apply_ast.specs.Trees.{Expr}
-use Rattle.apply_meaning.specs.Instances.{entity_instance, val}
+use Rattle.apply_meaning.specs.Instances.{entity_instance, lookup, val}
 use Rattle.apply_meaning.specs.RowViews.{is_of}
 use Rattle.row_frames.specs.declared.tables.Table.{Table}
 use Rattle.row_frames.specs.declared.tables.Pick.{Pick}
+use Rattle.row_frames.specs.declared.keys.KeyReader.{KeyReader}
+use Rattle.row_frames.specs.declared.readers.Bound.{Bound}
 use Rattle.row_frames.specs.declared.readers.TableReader.{TableReader}
-use Rattle.row_frames.specs.Frames.{instance_at, picked, picked_in, first_pick, all_picked, IsTable, IsReader, IsReaderOf, bound_value}
-
-abbrev table_of : TableReader → Table
-table_of r = r.table.now
+use Rattle.row_frames.specs.Frames.{instance_at, picked, picked_in, first_pick, all_picked, IsTable, IsReader, IsReaderOf, AreBound, AreKeyReaders, IsKeyReaderOf, bound_value}
 
 -- one reader more
-pub more-readers : (w : World) (e : Expr) (ts : List Table) (rs rs' : List TableReader) (n : ℕ) (t : Table) (r : TableReader)
-    → (map (λ r. r.table.now) rs ≡ take n ts) × All (IsReaderOf w e) rs → n < length ts → t ≡ get_or ts n t → r.table.now ≡ t → IsReaderOf w e r → rs' ≡ rs ++ r ∷ []
-    → (map (λ r. r.table.now) rs' ≡ take (n + 1) ts) × All (IsReaderOf w e) rs'
-more-readers w e ts rs rs' n t r h l i s b m = (
+pub more-readers : {R : Type 0} (table_of : R → Table) (IsOf : R → Type 0) (ts : List Table) (rs rs' : List R) (n : ℕ) (t : Table) (r : R)
+    → (map table_of rs ≡ take n ts) × All IsOf rs → n < length ts → t ≡ get_or ts n t → table_of r ≡ t → IsOf r → rs' ≡ rs ++ r ∷ []
+    → (map table_of rs' ≡ take (n + 1) ts) × All IsOf rs'
+more-readers table_of IsOf ts rs rs' n t r h l i s b m = (
   ap (map table_of) m ∙ map-append table_of rs (r ∷ []) ∙ ap (λ x. x ++ table_of r ∷ []) h.0 ∙ ap (λ x. take n ts ++ x ∷ []) (s ∙ i) ∙ sym (take_more ts n t l),
-  All-same (IsReaderOf w e) rs' (rs ++ r ∷ []) m (All-push (IsReaderOf w e) rs r h.1 b),
+  All-same IsOf rs' (rs ++ r ∷ []) m (All-push IsOf rs r h.1 b),
 )
 
-reader-at : (rs : List TableReader) (i : ℕ) (r : TableReader) → i < length (map table_of rs) → r ≡ get_or rs i r → slice_get (map table_of rs) i ≡ Some (table_of r)
-reader-at [] i r h e = absurd (omega (arith, h))
-reader-at (x ∷ rs) zero r h e = ap (λ y. Some (table_of y)) (sym e)
-reader-at (x ∷ rs) (suc i) r h e = reader-at rs i r (omega (arith, h)) e
+reader-at : {R : Type 0} (table_of : R → Table) (rs : List R) (i : ℕ) (r : R) → i < length (map table_of rs) → r ≡ get_or rs i r → slice_get (map table_of rs) i ≡ Some (table_of r)
+reader-at table_of [] i r h e = absurd (omega (arith, h))
+reader-at table_of (x ∷ rs) zero r h e = ap (λ y. Some (table_of y)) (sym e)
+reader-at table_of (x ∷ rs) (suc i) r h e = reader-at table_of rs i r (omega (arith, h)) e
+
+-- the reader of a pick's table, and the instance that is picked
+own-reader : {R : Type 0} (table_of : R → Table) (IsOf : R → Type 0) (ts : List Table) (rs : List R) (x : Pick) (r : R) → map table_of rs ≡ ts → All IsOf rs → x.table < length ts → r ≡ get_or rs x.table r
+    → (picked ts x ≡ instance_at (table_of r) x.row) × IsOf r
+own-reader table_of IsOf ts rs x r same all l i =
+    let n : length (map table_of rs) ≡ length ts = ap length same in
+    let inside : x.table < length (map table_of rs) = omega (arith, n, l) in
+    let m = length-map rs table_of in (
+      ap (λ ts. picked_in (slice_get ts x.table) x.row) (sym same) ∙ ap (λ o. picked_in o x.row) (reader-at table_of rs x.table r inside i),
+      subst IsOf (sym i) (All-get_or IsOf rs x.table r (omega (arith, m, inside)) all),
+    )
 
 -- the reader of a pick's table has the values of the expression
 pub reader-value : (w : World) (e : Expr) (ts : List Table) (rs : List TableReader) (x : Pick) (r : TableReader) → IsReader w ts e rs → x.table < length ts → r ≡ get_or rs x.table r
     → val w (picked ts x) e ≡ bound_value w r.table.now x.row r.bound
 reader-value w e ts rs x r R l i =
-    let n : length (map table_of rs) ≡ length ts = ap length R.tables in
-    let inside : x.table < length (map table_of rs) = omega (arith, n, l) in
-    let m = length-map rs table_of in
-    let b : IsReaderOf w e r = subst (IsReaderOf w e) (sym i) (All-get_or (IsReaderOf w e) rs x.table r (omega (arith, m, inside)) R.bound) in
-    ap (λ ts. val w (picked_in (slice_get ts x.table) x.row) e) (sym R.tables)
-    ∙ ap (λ o. val w (picked_in o x.row) e) (reader-at rs x.table r inside i)
-    ∙ b.values x.row
+    let own = own-reader (λ (r : TableReader). r.table.now) (IsReaderOf w e) ts rs x r R.tables R.bound l i in
+    ap (λ i. val w i e) own.0 ∙ own.1.values x.row
+
+-- and that of its key paths their values
+pub key-reader-value : (w : World) (ps : List Path) (ts : List Table) (rs : List KeyReader) (x : Pick) (r : KeyReader) → AreKeyReaders w ts ps rs → x.table < length ts → r ≡ get_or rs x.table r
+    → key_list w ps (picked ts x) ≡ map (bound_value w r.table.now x.row) r.keys.items
+key-reader-value w ps ts rs x r R l i =
+    let own = own-reader (λ (r : KeyReader). r.table.now) (IsKeyReaderOf w ps) ts rs x r R.tables R.bound l i in
+    ap (key_list w ps) own.0 ∙ own.1.keys x.row
+
+-- one bound path more
+pub more-bound : (w : World) (t : Table) (ps : List Path) (n : ℕ) (p : Path) (b : Bound) (bs bs' : List Bound) → AreBound w t (take n ps) bs → n < length ps → p ≡ get_or ps n p
+    → ((k : ℕ) → lookup w (instance_at t k) p ≡ bound_value w t k b) → bs' ≡ bs ++ b ∷ [] → AreBound w t (take (n + 1) ps) bs'
+more-bound w t ps n p b bs bs' h l i s m = λ k.
+    map_more (lookup w (instance_at t k)) ps n p l
+    ∙ (λ j. h k j ++ (ap (lookup w (instance_at t k)) (sym i) ∙ s k) j ∷ [])
+    ∙ sym (ap (map (bound_value w t k)) m ∙ map-append (bound_value w t k) bs (b ∷ []))
 
 -- the picks of the first table are within one table
 pub first-within : (n m : ℕ) → 0 < m → All (λ x. x.table < m) (map first_pick (places n))

@@ -1,20 +1,21 @@
 -- Frames: lists of instances that are kept by columns.
-use Rattle.std.specs.Prelude.{◌≡◌, ℕ, List, Option, Some, None, map, slice_get, unwrap_or}
+use Rattle.std.specs.Prelude.{◌≡◌, ℕ, List, Option, Some, None, get_or, map, slice_get, unwrap_or}
 use Rattle.std.specs.declared.result.Result as result
+use Rattle.std.specs.Arc.{arc_value}
 use Rattle.std.specs.Global.{Vec}
 use Rattle.std.specs.List.{All}
 use Rattle.edm_values.specs.declared.Value.{Value}
 use Rattle.edm_values.specs.Values.{seen_value, negated, negation}
 use Rattle.edm_values.specs.Names.{Path}
 use Rattle.edm_data.specs.Worlds.{World, Entity, entity_at}
-use Rattle.edm_data.specs.References.{property}
 use Rattle.apply_ast.specs.declared.expressions.UnOp.TheVariants as UnOp
 use Rattle.apply_ast.specs.Trees.{Expr}
 use Rattle.apply_meaning.specs.Instances.{Instance, no_instance, lookup, val, binary, call1, call2}
-use Rattle.apply_meaning.specs.Meaning.{Outcome}
+use Rattle.apply_meaning.specs.Meaning.{Outcome, key_list}
 use Rattle.apply_meaning.specs.RowViews.{row_instance, IsRow}
 use Rattle.apply_meaning.specs.Running.{Returns}
 use Rattle.apply_meaning.specs.declared.refusals.RunRefused.{RunRefused}
+use Rattle.row_frames.specs.Hops.{property_in, reached}
 use Rattle.row_frames.specs.declared.tables.Roots.{Roots}
 use Rattle.row_frames.specs.declared.tables.Roots.TheVariants as roots
 use Rattle.row_frames.specs.declared.tables.Prefix.{Prefix}
@@ -24,19 +25,31 @@ use Rattle.row_frames.specs.declared.tables.Pick.{Pick}
 use Rattle.row_frames.specs.declared.readers.Bound as of_bound
 use Rattle.row_frames.specs.declared.readers.Bound.TheVariants as bound
 use Rattle.row_frames.specs.declared.readers.TableReader.{TableReader}
+use Rattle.row_frames.specs.declared.keys.KeyReader.{KeyReader}
+
+-- the place of a row's entity in its set
+abbrev pub place_in : Roots → ℕ → ℕ
+place_in roots.Without k = k
+place_in (roots.Whole s) k = k
+place_in (roots.Listed s places) k = get_or (arc_value places).items k 0
 
 -- the entity at the empty prefix of a row
 abbrev pub root_at : Roots → ℕ → Option Entity
 root_at roots.Without k = None
 root_at (roots.Whole s) k = Some (entity_at s k)
+root_at (roots.Listed s places) k = Some (entity_at s (get_or (arc_value places).items k 0))
 
 -- what stands at a prefix in a row
 abbrev pub prefix_at : ℕ → Prefix → Path × Option Entity
-prefix_at k p = (p.path, unwrap_or (slice_get p.bound.items k) None)
+prefix_at k p = (p.path, unwrap_or (slice_get (arc_value p.bound).items k) None)
 
 -- the value of a column in a row
 abbrev pub column_at : ℕ → Column → Path × Value
-column_at k c = (c.path, unwrap_or (slice_get c.values.items k) Value.Null)
+column_at k c = (c.path, unwrap_or (slice_get (arc_value c.values).items k) Value.Null)
+
+-- the path and the values of a column
+abbrev pub listed : Column → Path × List Value
+listed c = (c.path, (arc_value c.values).items)
 
 abbrev pub prefixes_at : Table → ℕ → List (Path × Option Entity)
 prefixes_at t k = map (prefix_at k) t.prefixes.items
@@ -79,16 +92,11 @@ abbrev pub cell_in : Option Column → ℕ → Value
 cell_in None k = Value.Null
 cell_in (Some c) k = (column_at k c).1
 
--- the value of a property of an entity that may be there
-abbrev pub property_in : World → Option Entity → ℕ → Value
-property_in w None p = Value.Null
-property_in w (Some e) p = property w e p
-
 -- the value of a bound expression in a row of a table
 abbrev pub bound_value : World → Table → ℕ → of_bound.Bound → Value
 bound_value w t k (bound.Literal v) = seen_value v
 bound_value w t k (bound.Column c) = cell_in (slice_get t.columns.items c) k
-bound_value w t k (bound.Property p) = property_in w (root_at t.roots k) p.at
+bound_value w t k (bound.Property hops p) = property_in w (reached w (root_at t.roots k) hops.items) p.at
 bound_value w t k (bound.Path p) = lookup w (instance_at t k) p.now
 bound_value w t k (bound.Unary' UnOp.Neg p a) = negated (bound_value w t k a)
 bound_value w t k (bound.Unary' UnOp.Not p a) = negation (bound_value w t k a)
@@ -108,6 +116,19 @@ pub record IsReaderOf (w : World) (e : Expr) (r : TableReader) : Type 0 where
 pub record IsReader (w : World) (ts : List Table) (e : Expr) (rs : List TableReader) : Type 0 where
   pub tables : map (λ r. r.table.now) rs ≡ ts
   pub bound : All (IsReaderOf w e) rs
+
+-- the bound paths have the values of the key paths in each row of the table
+abbrev pub AreBound : World → Table → List Path → List of_bound.Bound → Type 0
+AreBound w t ps bs = (k : ℕ) → key_list w ps (instance_at t k) ≡ map (bound_value w t k) bs
+
+-- the reader's paths are bound to its table
+pub record IsKeyReaderOf (w : World) (ps : List Path) (r : KeyReader) : Type 0 where
+  pub keys : AreBound w r.table.now ps r.keys.items
+
+-- key paths that are bound to each of the tables
+pub record AreKeyReaders (w : World) (ts : List Table) (ps : List Path) (rs : List KeyReader) : Type 0 where
+  pub tables : map (λ r. r.table.now) rs ≡ ts
+  pub bound : All (IsKeyReaderOf w ps) rs
 
 -- a row of the first table
 abbrev pub first_pick : ℕ → Pick

@@ -1,19 +1,25 @@
 //! Frames: lists of instances that are kept by columns.
-ghost use Rattle.std.specs.Prelude.{◌≡◌, ◌+◌, ◌≤◌, ◌<◌, ℕ, List, IsTrue, IfOk, true, filter, length, map, take, drop};
-ghost use Rattle.std.specs.List.{All};
+ghost use Rattle.std.specs.Prelude.{◌≡◌, ◌+◌, ◌≤◌, ◌<◌, ℕ, List, IsTrue, IfOk, true, filter, get_or, length, map, nat_lt, take, drop};
+ghost use Rattle.std.specs.List.{All, list_all};
+ghost use Rattle.edm_values.specs.Lists.{at_places};
 ghost use Rattle.edm_values.specs.Values.{is_value};
-ghost use Rattle.apply_ast.specs.Views.{expr_of};
+ghost use Rattle.apply_ast.specs.Views.{expr_of, named_of};
 ghost use Rattle.apply_meaning.specs.Instances as meaning;
-ghost use Rattle.apply_meaning.specs.Instances.{val};
-ghost use Rattle.apply_meaning.specs.Meaning.{values, refused_at_beyond};
-ghost use Rattle.apply_meaning.specs.Running.{all_of};
+ghost use Rattle.apply_meaning.specs.Instances.{extended, no_instance, root_of, val};
+ghost use Rattle.apply_meaning.specs.Meaning.{key_list, values, refused_at_beyond};
+ghost use Rattle.apply_meaning.specs.Running.{all_free, all_of, new_columns as columns_of};
 ghost use Rattle.row_frames.specs.Frames as spec;
 
-use crate::picks::{first_picks, kept_picks, later_picks, picked_rows, set_picks, values_of};
+use crate::chosen::picks_at;
+use crate::computed::{computed_tables, new_columns, rows_in_order};
+use crate::picks::{
+    first_picks, kept_picks, key_lists_of, later_picks, picked_rows, set_picks, values_of,
+};
+use crate::placed::{placed_keys, placed_root, placed_row, placed_rows, placed_values};
 use crate::tables::{Pick, Table, one_table, set_table};
-use apply_ast::Expr;
+use apply_ast::{Expr, Named, Path};
 use apply_meaning::{Row, RunRefused, Steps};
-use edm_data::Data;
+use edm_data::{Data, EntityRef};
 use edm_model::SetId;
 use edm_values::Value;
 use std::alloc::{AllocError, Global};
@@ -78,6 +84,92 @@ impl Frame {
         )
     }
 
+    /// The values of an expression on the instances at these places.
+    pub fn values_at(
+        &self,
+        alloc: Global,
+        store: &Data,
+        e: &Expr,
+        places: &[usize],
+    ) -> Result<Vec<Value>, AllocError>
+        requires of { IsTrue (all_of store.now (at_places self.now places.now)) }
+        requires within { IsTrue (list_all (λ k. nat_lt k (length self.now)) places.now) }
+        ensures value { IfOk result (λ vs. vs.items ≡ values store.now (expr_of e.now) (at_places self.now places.now)) }
+    {
+        let tables = self.tables.as_slice();
+        placed_values(alloc, store, tables, e, self.picks.as_slice(), places)
+    }
+
+    /// The key list of each instance by the paths.
+    pub fn key_lists(
+        &self,
+        alloc: Global,
+        store: &Data,
+        paths: &[Path],
+    ) -> Result<Vec<Vec<Value>>, AllocError>
+        requires of { IsTrue (all_of store.now self.now) }
+        ensures value { IfOk result (λ lists. map (λ k. k.items) lists.items ≡ map (key_list store.now paths.now) self.now) }
+    {
+        let tables = self.tables.as_slice();
+        key_lists_of(alloc, store, tables, paths, self.picks.as_slice())
+    }
+
+    /// The key lists of the instances at these places.
+    pub fn key_lists_at(
+        &self,
+        alloc: Global,
+        store: &Data,
+        paths: &[Path],
+        places: &[usize],
+    ) -> Result<Vec<Vec<Value>>, AllocError>
+        requires of { IsTrue (all_of store.now (at_places self.now places.now)) }
+        requires within { IsTrue (list_all (λ k. nat_lt k (length self.now)) places.now) }
+        ensures value { IfOk result (λ lists. map (λ k. k.items) lists.items ≡ map (key_list store.now paths.now) (at_places self.now places.now)) }
+    {
+        let tables = self.tables.as_slice();
+        placed_keys(alloc, store, tables, paths, self.picks.as_slice(), places)
+    }
+
+    /// The instances at these places as rows: one step each.
+    pub fn rows_at<L: Ledger>(
+        &self,
+        alloc: Global,
+        places: &[usize],
+        steps: &mut Steps<L>,
+    ) -> Result<Vec<Row>, AllocError>
+        requires within { IsTrue (list_all (λ k. nat_lt k (length self.now)) places.now) }
+        ensures rows { IfOk result (λ made. made.items ≡ at_places self.now places.now) }
+        ensures steps { steps.new ≤ steps.old + length (at_places self.now places.now) }
+        ensures grown { steps.old ≤ steps.new }
+    {
+        let tables = self.tables.as_slice();
+        placed_rows(alloc, tables, self.picks.as_slice(), places, steps)
+    }
+
+    /// Instance k as a row, counted from 0: one step.
+    pub fn row<L: Ledger>(
+        &self,
+        alloc: Global,
+        k: usize,
+        steps: &mut Steps<L>,
+    ) -> Result<Row, AllocError>
+        requires there { k < length self.now }
+        ensures row { IfOk result (λ r. r ≡ get_or self.now k no_instance) }
+        ensures steps { steps.new ≤ steps.old + 1 }
+        ensures grown { steps.old ≤ steps.new }
+    {
+        let tables = self.tables.as_slice();
+        placed_row(alloc, tables, self.picks.as_slice(), k, steps)
+    }
+
+    /// The entity at the empty prefix of instance k, counted from 0.
+    pub fn root(&self, k: usize) -> Option<EntityRef>
+        requires there { k < length self.now }
+        ensures value { result ≡ root_of (get_or self.now k no_instance) }
+    {
+        placed_root(self.tables.as_slice(), self.picks.as_slice(), k)
+    }
+
     /// The instances on which the expression is true. No row is made or moved.
     pub fn filter(self, alloc: Global, store: &Data, e: &Expr) -> Result<Frame, RunRefused>
         requires of { IsTrue (all_of store.now self) }
@@ -85,6 +177,20 @@ impl Frame {
     {
         let Frame { tables, picks } = self;
         let picks = kept_picks(alloc, store, tables.as_slice(), e, picks.as_slice())?;
+        Ok(Frame { tables, picks })
+    }
+
+    /// Each instance with the new columns of these items. A list of values that was there is not copied where all rows of a table are
+    /// picked in their order.
+    pub fn compute(self, alloc: Global, store: &Data, items: &[Named]) -> Result<Frame, AllocError>
+        requires of { IsTrue (all_of store.now self) }
+        requires free { IsTrue (all_free store.now (map named_of items.now) self) }
+        ensures value { let ns = map named_of items.now in IfOk result (λ f. f ≡ map (λ i. extended i (columns_of store.now ns i)) self) }
+    {
+        let Frame { tables, picks } = self;
+        let columns = new_columns(alloc, store, tables.as_slice(), items, picks.as_slice())?;
+        let (tables, picks) = rows_in_order(alloc, tables, picks)?;
+        let tables = computed_tables(alloc, tables, picks.as_slice(), columns.as_slice())?;
         Ok(Frame { tables, picks })
     }
 
@@ -104,6 +210,16 @@ impl Frame {
         let Frame { tables, picks } = self;
         let picks = later_picks(n, picks);
         Frame { tables, picks }
+    }
+
+    /// The instances at these places, in the order of the places. No row is made or moved.
+    pub fn at(self, alloc: Global, places: &[usize]) -> Result<Frame, AllocError>
+        requires within { IsTrue (list_all (λ k. nat_lt k (length self)) places.now) }
+        ensures value { IfOk result (λ f. f ≡ at_places self places.now) }
+    {
+        let Frame { tables, picks } = self;
+        let picks = picks_at(alloc, picks.as_slice(), places)?;
+        Ok(Frame { tables, picks })
     }
 
     /// How many instances there are.

@@ -4,17 +4,18 @@ ghost use Rattle.std.specs.List.{All};
 ghost use Rattle.edm_values.specs.Lists.{places as all_places};
 ghost use Rattle.edm_values.specs.Values as value;
 ghost use Rattle.apply_ast.specs.Views.{expr_of};
-ghost use Rattle.apply_meaning.specs.Instances.{val};
-ghost use Rattle.apply_meaning.specs.Meaning.{values, refused_at_beyond};
+ghost use Rattle.apply_meaning.specs.Instances.{root_of, val};
+ghost use Rattle.apply_meaning.specs.Meaning.{key_list, values, refused_at_beyond};
 ghost use Rattle.apply_meaning.specs.RowViews.{is_of};
 ghost use Rattle.apply_meaning.specs.Running.{all_of};
 ghost use Rattle.row_frames.specs.Frames as spec;
 
+use crate::keys::{key_list_of, key_readers_of};
 use crate::readers::{TableReader, readers_of, value_of};
-use crate::tables::{Pick, Table, row_of};
-use apply_ast::Expr;
+use crate::tables::{Pick, Table, root_in, row_of};
+use apply_ast::{Expr, Path};
 use apply_meaning::{Row, RunRefused, Steps};
-use edm_data::Data;
+use edm_data::{Data, EntityRef};
 use edm_values::{Seen, Value};
 use std::alloc::{AllocError, Global};
 use std::sync::ledger::Ledger;
@@ -28,6 +29,15 @@ pub(crate) fn set_picks(alloc: Global, n: u32) -> Result<Vec<Pick>, AllocError>
         picks.push(Pick { table: 0, row })?;
     }
     Ok(picks)
+}
+
+/// The entity at the empty prefix of the row that is picked.
+pub(crate) fn picked_root(tables: &[Table], pick: Pick) -> Option<EntityRef>
+    requires tables { All spec.IsTable tables.now }
+    requires within { pick.table < length tables.now }
+    ensures { result ≡ root_of (spec.picked tables.now pick) }
+{
+    root_in(&tables[pick.table as usize], pick.row)
 }
 
 /// The row that is picked: one step.
@@ -85,6 +95,27 @@ pub(crate) fn values_of<'a>(
         found.push(value_of(store, tables, e, readers.as_slice(), *pick).own(alloc)?)?;
     }
     Ok(found)
+}
+
+/// The key lists of the rows that are picked.
+pub(crate) fn key_lists_of<'a>(
+    alloc: Global,
+    store: &'a Data,
+    tables: &'a [Table],
+    paths: &'a [Path],
+    picks: &[Pick],
+) -> Result<Vec<Vec<Value>>, AllocError>
+    requires tables { All spec.IsTable tables.now }
+    requires within { All (λ x. x.table < length tables.now) picks.now }
+    requires of { IsTrue (all_of store.now (spec.all_picked tables.now picks.now)) }
+    ensures { IfOk result (λ lists. map (λ k. k.items) lists.items ≡ map (key_list store.now paths.now) (spec.all_picked tables.now picks.now)) }
+{
+    let readers = key_readers_of(alloc, store, tables, paths)?;
+    let mut lists = Vec::with_capacity(alloc, picks.len())?;
+    for pick in picks {
+        lists.push(key_list_of(alloc, store, tables, paths, readers.as_slice(), *pick)?)?;
+    }
+    Ok(lists)
 }
 
 /// Whether the expression is true in the row that is picked.

@@ -1,8 +1,8 @@
 //! Tables: rows that have the same prefixes and columns, kept by columns.
-ghost use Rattle.std.specs.Prelude.{◌≡◌, ◌+◌, ◌≤◌, ◌∷◌, [], ℕ, IfOk, map};
+ghost use Rattle.std.specs.Prelude.{◌≡◌, ◌+◌, ◌≤◌, ◌∷◌, [], ℕ, Some, None, IfOk, IfSome, get_or, map};
 ghost use Rattle.edm_values.specs.Values.{seen_value};
 ghost use Rattle.edm_data.specs.Worlds.{entity_at};
-ghost use Rattle.apply_meaning.specs.Instances.{entity_instance};
+ghost use Rattle.apply_meaning.specs.Instances.{entity_instance, root_of};
 ghost use Rattle.apply_meaning.specs.RowViews.{IsRow};
 ghost use Rattle.row_frames.specs.Frames as spec;
 
@@ -12,29 +12,32 @@ use edm_data::EntityRef;
 use edm_model::SetId;
 use edm_values::{Seen, Value};
 use std::alloc::{AllocError, Global};
+use std::sync::Arc;
 use std::sync::ledger::Ledger;
 
 /// The entities at the empty prefix.
-#[derive(Clone, Copy, Debug, Drop)]
+#[derive(Debug, Drop)]
 pub(crate) enum Roots {
     /// There are none.
     Without,
     /// A row's number is the place of its entity in the set.
     Whole(SetId),
+    /// Each row with the place of its entity in the set. Tables may share the list.
+    Listed(SetId, Arc<Vec<u32>>),
 }
 
-/// A prefix with what stands there in each row.
+/// A prefix with what stands there in each row. Tables may share the list.
 #[derive(Debug, Drop)]
 pub(crate) struct Prefix {
     pub(crate) path: Path,
-    pub(crate) bound: Vec<Option<EntityRef>>,
+    pub(crate) bound: Arc<Vec<Option<EntityRef>>>,
 }
 
-/// A column with its value in each row.
+/// A column with its value in each row. Tables may share the list.
 #[derive(Debug, Drop)]
 pub(crate) struct Column {
     pub(crate) path: Path,
-    pub(crate) values: Vec<Value>,
+    pub(crate) values: Arc<Vec<Value>>,
 }
 
 /// Rows of one layout.
@@ -52,14 +55,48 @@ pub(crate) struct Pick {
     pub(crate) row: u32,
 }
 
+/// The place of a row's entity in a list of these.
+pub(crate) fn place_at(places: &[u32], k: u32) -> u32
+    ensures { result ≡ get_or places.now k 0 }
+{
+    match places.get(k as usize) {
+        Some(at) => *at,
+        None => 0,
+    }
+}
+
 /// The entity at the empty prefix of a row.
-pub(crate) fn root_at(roots: Roots, k: u32) -> Option<EntityRef>
-    ensures { result ≡ spec.root_at roots k }
+pub(crate) fn root_at(roots: &Roots, k: u32) -> Option<EntityRef>
+    ensures { result ≡ spec.root_at roots.now k }
 {
     match roots {
         Roots::Without => None,
-        Roots::Whole(set) => Some(EntityRef { set, at: k }),
+        Roots::Whole(set) => Some(EntityRef { set: *set, at: k }),
+        Roots::Listed(set, places) => {
+            let at = place_at(places.as_slice(), k);
+            Some(EntityRef { set: *set, at })
+        }
     }
+}
+
+/// The set of the entities at the empty prefix.
+pub(crate) fn roots_set(roots: &Roots) -> Option<SetId>
+    ensures set { (k : ℕ) → IfSome result (λ set. spec.root_at roots.now k ≡ Some (entity_at set (spec.place_in roots.now k))) }
+    ensures none { (k : ℕ) → result ≡ None → spec.root_at roots.now k ≡ None }
+{
+    match roots {
+        Roots::Without => None,
+        Roots::Whole(set) => Some(*set),
+        Roots::Listed(set, _) => Some(*set),
+    }
+}
+
+/// The entity at the empty prefix of a row of a table.
+pub(crate) fn root_in(table: &Table, k: u32) -> Option<EntityRef>
+    requires { IsRow (spec.prefixes_at table.now k) (spec.columns_at table.now k) }
+    ensures { result ≡ root_of (spec.instance_at table.now k) }
+{
+    root_at(&table.roots, k)
 }
 
 /// What stands at a prefix in a row.
@@ -122,7 +159,7 @@ pub(crate) fn row_of<L: Ledger>(
 {
     let prefixes = prefixes_of(alloc, table.prefixes.as_slice(), k)?;
     let columns = columns_of(alloc, table.columns.as_slice(), k)?;
-    Row::make(alloc, prefixes, root_at(table.roots, k), columns, steps)
+    Row::make(alloc, prefixes, root_at(&table.roots, k), columns, steps)
 }
 
 /// A table of all entities of a set. No memory is taken.
