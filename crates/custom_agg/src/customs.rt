@@ -19,7 +19,7 @@ use edm_data::Data;
 use edm_model::CustomId;
 use edm_values::{Method, Value};
 use par_stages::Gate;
-use row_values::PlacedRows;
+use row_values::{PlacedRows, RowList};
 use std::alloc::{AllocError, Global};
 use std::thread::Threads;
 
@@ -118,6 +118,7 @@ pub fn custom<R: Threads + Sync, G: Gate>(
     requires fit { HaveRoot store.now id.of rows.now }
     ensures value { IfOk result (λ v. Some v ≡ value_by_id store.now c.now id rows.now) }
 {
-    let rows = PlacedRows::all(rows);
+    let list = RowList::of_rows(rows);
+    let rows = PlacedRows::all(&list);
     custom_at(rt, alloc, store, &rows, c, id, workers, gate)
 }

@@ -1,5 +1,6 @@
 pub mod ClimbLaws
 pub mod KeyLaws
+pub mod KeyNodes
 pub mod NodeLaws
 pub mod ShownLaws
 pub mod TraversalLaws

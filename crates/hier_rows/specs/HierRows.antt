@@ -22,6 +22,10 @@ use Rattle.apply_meaning.specs.declared.refusals.RunRefused.{RunRefused}
 abbrev pub node_in : World → ℕ → Path → Instance → Option ℕ
 node_in w s p i = option_map (λ e. e.at) (by_key w s (lookup w i p))
 
+-- the node that has a key
+abbrev pub node_by : World → ℕ → Value → Option ℕ
+node_by w s v = option_map (λ e. e.at) (by_key w s v)
+
 -- the values of a path on instances
 abbrev pub path_values : World → Path → List Instance → List Value
 path_values w p l = map (λ i. lookup w i p) l
@@ -51,6 +55,10 @@ GivesFor IsRight vs r = Returns (λ v. IsRight v × (list_any is_beyond vs ≡ f
 -- of one instance: its node, or a refusal where the value of the path is Beyond
 abbrev pub GivesNode : World → ℕ → Path → Instance → result.Result (Option ℕ) RunRefused → Type 0
 GivesNode w s p i r = Returns (λ (n : Option ℕ). (n ≡ node_in w s p i) × (is_beyond (lookup w i p) ≡ false)) (is_beyond (lookup w i p) ≡ true) r
+
+-- of one key: the node that has it, or a refusal where it is Beyond
+abbrev pub GivesNodeBy : World → ℕ → Value → result.Result (Option ℕ) RunRefused → Type 0
+GivesNodeBy w s v r = Returns (λ (n : Option ℕ). (n ≡ node_by w s v) × (is_beyond v ≡ false)) (is_beyond v ≡ true) r
 
 -- ---- places of rows
 

@@ -5,14 +5,15 @@ ghost use Rattle.edm_data.specs.Nodes as spec;
 ghost use Rattle.edm_data.specs.References.{count};
 ghost use Rattle.apply_meaning.specs.RowViews.{is_of};
 ghost use Rattle.apply_meaning.specs.Running.{all_of};
-ghost use Rattle.hier_rows.specs.HierRows.{AreOptionsBelow, GivesFor, GivesNode, node_in, path_values};
+ghost use Rattle.hier_rows.specs.HierRows.{AreOptionsBelow, GivesFor, GivesNode, GivesNodeBy, node_in, path_values};
 
-use crate::tried_nodes::{Tried, node_with, tried_for};
+use crate::tried_nodes::{Tried, node_with, tried_for, tried_in};
 use apply_ast::Path;
 use apply_meaning::{Row, RunRefused, lookup};
 use edm_data::{Data, EntityRef};
 use edm_model::SetId;
 use edm_values::{Seen, Value};
+use row_values::RowList;
 use std::alloc::{AllocError, Global};
 
 /// The node of a row.
@@ -29,7 +30,7 @@ fn node_of(
 {
     match lookup(store, row, path) {
         Seen::Beyond => Err(RunRefused::Range),
-        value => Ok(node_with(store, set, value, tried, row)),
+        value => Ok(node_with(store, set, value, tried, row.root())),
     }
 }
 
@@ -50,6 +51,46 @@ pub fn nodes_of(
     let mut nodes = Vec::with_capacity(alloc, rows.len())?;
     for row in rows {
         nodes.push(node_of(store, set, path, tried, row)?)?;
+    }
+    Ok(nodes)
+}
+
+/// The node that has this key, which is that of an instance at this entity.
+fn node_by(
+    store: &Data,
+    set: SetId,
+    key: &Value,
+    tried: Tried,
+    root: Option<EntityRef>,
+) -> Result<Option<u32>, RunRefused>
+    requires set { IsSet store.now.model set }
+    ensures { GivesNodeBy store.now set key.now result }
+{
+    match key.seen() {
+        Seen::Beyond => Err(RunRefused::Range),
+        value => Ok(node_with(store, set, value, tried, root)),
+    }
+}
+
+/// The node of each instance of a list, as `nodes_of` has those of rows, where the values of the path on them are known.
+pub fn nodes_by_keys(
+    alloc: Global,
+    store: &Data,
+    set: SetId,
+    path: &Path,
+    list: &RowList<'_>,
+    keys: &[Value],
+) -> Result<Vec<Option<u32>>, RunRefused>
+    requires set { IsSet store.now.model set }
+    requires of { IsTrue (all_of store.now list.now) }
+    requires keys { keys.now ≡ path_values store.now path.now list.now }
+    ensures nodes { GivesFor (λ v. v.items ≡ map (node_in store.now set path.now) list.now) (path_values store.now path.now list.now) result }
+    ensures within { IfOk result (λ v. AreOptionsBelow (count store.now set) v.items) }
+{
+    let tried = tried_in(store, set, path, list);
+    let mut nodes = Vec::with_capacity(alloc, keys.len())?;
+    for (k, key) in keys.iter().enumerate() {
+        nodes.push(node_by(store, set, key, tried, list.root(k))?)?;
     }
     Ok(nodes)
 }

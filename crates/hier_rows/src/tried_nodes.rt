@@ -2,7 +2,7 @@
 //!
 //! Where a path is the key of the nodes, a row's node is the row's own entity; where it is the property by which rows refer to
 //! nodes, it is what the row's entity refers to, which the data keeps. A node that is tried is taken only where it has the key.
-ghost use Rattle.std.specs.Prelude.{◌≡◌, Some, true, IsTrue, option_map};
+ghost use Rattle.std.specs.Prelude.{◌≡◌, Some, true, IfSome, IsTrue, option_map};
 ghost use Rattle.edm_model.specs.LookUps.{IsNavigation, IsSet};
 ghost use Rattle.edm_values.specs.Values.{seen_value};
 ghost use Rattle.edm_data.specs.References.{by_key};
@@ -14,6 +14,7 @@ use apply_meaning::Row;
 use edm_data::{Data, EntityRef};
 use edm_model::{Model, NavId, PropId, SetId};
 use edm_values::{Seen, order};
+use row_values::RowList;
 
 /// Which node is tried for each row.
 #[derive(Clone, Copy, Drop)]
@@ -67,20 +68,37 @@ fn tried_at(store: &Data, of: SetId, name: &Name, set: SetId) -> Tried
     }
 }
 
-/// Which node is tried for each of these rows, by the entity that the first of them stands at.
-pub(crate) fn tried_for(store: &Data, set: SetId, path: &Path, rows: &[Row]) -> Tried
-    requires { IsTrue (all_of store.now rows.now) }
+/// Which node is tried for each of some instances, the first of which stands at this entity.
+fn tried_from(store: &Data, set: SetId, path: &Path, root: Option<EntityRef>) -> Tried
+    requires { IfSome root (λ e. IsSet store.now.model e.set) }
 {
     let [name] = path.names() else {
         return Tried::Nothing;
     };
-    let Some(row) = rows.first() else {
-        return Tried::Nothing;
-    };
-    match row.root() {
+    match root {
         Some(e) => tried_at(store, e.set, name, set),
         None => Tried::Nothing,
     }
+}
+
+/// Which node is tried for each of these rows, by the entity that the first of them stands at.
+pub(crate) fn tried_for(store: &Data, set: SetId, path: &Path, rows: &[Row]) -> Tried
+    requires { IsTrue (all_of store.now rows.now) }
+{
+    match rows.first() {
+        Some(row) => tried_from(store, set, path, row.root()),
+        None => Tried::Nothing,
+    }
+}
+
+/// The same of the instances of a list.
+pub(crate) fn tried_in(store: &Data, set: SetId, path: &Path, list: &RowList<'_>) -> Tried
+    requires { IsTrue (all_of store.now list.now) }
+{
+    if list.len() == 0 {
+        return Tried::Nothing;
+    }
+    tried_from(store, set, path, list.root(0))
 }
 
 /// Whether this node is the one that has this key.
@@ -96,9 +114,9 @@ fn has_key(store: &Data, set: SetId, node: u32, key: Seen<'_>) -> bool
     order(key, store.property(EntityRef { set, at: node }, place)).is_eq()
 }
 
-/// The node that is tried for a row.
-fn node_tried(store: &Data, tried: Tried, row: &Row) -> Option<u32> {
-    let e = row.root()?;
+/// The node that is tried for an instance that stands at this entity.
+fn node_tried(store: &Data, tried: Tried, root: Option<EntityRef>) -> Option<u32> {
+    let e = root?;
     match tried {
         Tried::Nothing => None,
         Tried::Own => Some(e.at),
@@ -106,18 +124,18 @@ fn node_tried(store: &Data, tried: Tried, row: &Row) -> Option<u32> {
     }
 }
 
-/// The node that has this key.
+/// The node that has this key, which is that of an instance at this entity.
 pub(crate) fn node_with(
     store: &Data,
     set: SetId,
     key: Seen<'_>,
     tried: Tried,
-    row: &Row,
+    root: Option<EntityRef>,
 ) -> Option<u32>
     requires { IsSet store.now.model set }
     ensures { result ≡ option_map (λ e. e.at) (by_key store.now set (seen_value key.entry)) }
 {
-    if let Some(node) = node_tried(store, tried, row) {
+    if let Some(node) = node_tried(store, tried, root) {
         if has_key(store, set, node, key) {
             return Some(node);
         }

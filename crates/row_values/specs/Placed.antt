@@ -1,8 +1,15 @@
--- Instances that are told by their places in a list.
+-- Lists of instances that are read where they stand, and instances that are told by their places in a list.
 use Rattle.std.specs.Prelude.{ℕ, List, length, nat_lt, Option, Some, None, IsTrue}
 use Rattle.std.specs.List.{list_all}
 use Rattle.edm_values.specs.Lists.{at_places}
 use Rattle.apply_meaning.specs.Instances.{Instance}
+use Rattle.row_values.specs.declared.lists.Source.{Source}
+use Rattle.row_values.specs.declared.lists.Source.TheVariants as source
+
+-- the instances of rows, or of a frame
+abbrev pub listed : Source → List Instance
+listed (source.Rows rows) = rows.now
+listed (source.Frame frame) = frame.now
 
 -- all of the list, or those at the places
 abbrev pub placed_in : List Instance → Option (List ℕ) → List Instance

@@ -1,5 +1,5 @@
-//! Rows that are told by their places in a list, and the values of expressions and keys on them. No row is copied.
-ghost use Rattle.std.specs.Prelude.{◌≡◌, ◌<◌, Some, IfOk, IsTrue, length, map, nat_lt, slice_get};
+//! Instances that are told by their places in a list, and the values of expressions and keys on them. No row is copied or made.
+ghost use Rattle.std.specs.Prelude.{◌≡◌, ◌<◌, IfOk, IsTrue, length, map, nat_lt};
 ghost use Rattle.std.specs.List.{list_all};
 ghost use Rattle.edm_values.specs.Lists.{at_places};
 ghost use Rattle.apply_ast.specs.Views.{expr_of};
@@ -7,20 +7,18 @@ ghost use Rattle.apply_meaning.specs.Meaning as spec;
 ghost use Rattle.apply_meaning.specs.Meaning.{values};
 ghost use Rattle.apply_meaning.specs.Running.{all_of};
 
-use crate::keys::{key_list, key_lists};
-use crate::values::{value_on, values_of};
+use crate::lists::RowList;
 use apply_ast::{Expr, Path};
-use apply_meaning::Row;
 use edm_data::Data;
 use edm_values::Value;
 use std::alloc::{AllocError, Global};
 use std::marker::Model;
 use std::thread::Threads;
 
-/// Rows of a list: all of them, or those at some places, in the order of the places.
+/// Instances of a list: all of them, or those at some places, in the order of the places.
 #[derive(Drop)]
 pub struct PlacedRows<'a> {
-    rows: &'a [Row],
+    list: &'a RowList<'a>,
     places: Option<&'a [usize]>,
 }
 
@@ -31,52 +29,43 @@ impl<'a> Model for PlacedRows<'a> {
 
     ghost Value = { List Instance };
 
-    ghost view = { λ r. placed_in r.rows.now (option_map (λ p. p.now) r.places) };
+    ghost view = { λ r. placed_in r.list.now (option_map (λ p. p.now) r.places) };
 
-    ghost invariant = { λ r. are_within r.rows.now (option_map (λ p. p.now) r.places) };
+    ghost invariant = { λ r. are_within r.list.now (option_map (λ p. p.now) r.places) };
 }
 
 impl<'a> PlacedRows<'a> {
-    /// All rows of a list.
-    pub fn all(rows: &'a [Row]) -> PlacedRows<'a>
-        ensures value { result ≡ rows.now }
+    /// All instances of a list.
+    pub fn all(list: &'a RowList<'a>) -> PlacedRows<'a>
+        ensures value { result ≡ list.now }
     {
-        PlacedRows { rows, places: None }
+        PlacedRows { list, places: None }
     }
 
-    /// The rows at these places.
-    pub fn at(rows: &'a [Row], places: &'a [usize]) -> PlacedRows<'a>
-        requires { IsTrue (list_all (λ k. nat_lt k (length rows.now)) places.now) }
-        ensures value { result ≡ at_places rows.now places.now }
+    /// The instances at these places.
+    pub fn at(list: &'a RowList<'a>, places: &'a [usize]) -> PlacedRows<'a>
+        requires { IsTrue (list_all (λ k. nat_lt k (length list.now)) places.now) }
+        ensures value { result ≡ at_places list.now places.now }
     {
         PlacedRows {
-            rows,
+            list,
             places: Some(places),
         }
     }
 
-    /// How many rows there are.
+    /// How many instances there are.
     pub fn len(&self) -> usize
         ensures value { result ≡ length self.now }
     {
+        let list = self.list;
         match self.places {
-            None => self.rows.len(),
+            None => list.len(),
             Some(places) => places.len(),
         }
     }
 
-    /// Row k, counted from 0.
-    pub fn row(&self, k: usize) -> &Row
-        requires { k < length self.now }
-        ensures value { Some result.now ≡ slice_get self.now k }
-    {
-        match self.places {
-            None => &self.rows[k],
-            Some(places) => row_at(self.rows, places, k),
-        }
-    }
-
-    /// The values of an expression on the rows. All rows of a list may be cut into so many parts, each for a thread of its own.
+    /// The values of an expression on the instances. All those of a list may be cut into so many parts, each for a thread of its
+    /// own.
     pub fn values<R: Threads + Sync>(
         &self,
         rt: &R,
@@ -89,13 +78,14 @@ impl<'a> PlacedRows<'a> {
         requires of { IsTrue (all_of store.now self.now) }
         ensures value { IfOk result (λ vs. vs.items ≡ values store.now (expr_of e.now) self.now) }
     {
+        let list = self.list;
         match self.places {
-            None => values_of(rt, alloc, store, e, self.rows, workers),
-            Some(_) => values_in_turn(alloc, store, e, self),
+            None => list.values(rt, alloc, store, e, workers),
+            Some(places) => list.values_at(alloc, store, e, places),
         }
     }
 
-    /// The values of an expression on the rows at places among these rows.
+    /// The values of an expression on the instances at places among these.
     pub fn values_at(
         &self,
         alloc: Global,
@@ -107,14 +97,18 @@ impl<'a> PlacedRows<'a> {
         requires within { IsTrue (list_all (λ k. nat_lt k (length self.now)) places.now) }
         ensures value { IfOk result (λ vs. vs.items ≡ values store.now (expr_of e.now) (at_places self.now places.now)) }
     {
-        let mut found = Vec::with_capacity(alloc, places.len())?;
-        for at in places {
-            found.push(value_on(alloc, store, e, self.row(*at))?)?;
+        let list = self.list;
+        match self.places {
+            None => list.values_at(alloc, store, e, places),
+            Some(own) => {
+                let inner = places_of(alloc, own, places)?;
+                list.values_at(alloc, store, e, inner.as_slice())
+            }
         }
-        Ok(found)
     }
 
-    /// The key list of each row by the paths. All rows of a list may be cut into so many parts, each for a thread of its own.
+    /// The key list of each instance by the paths. All those of a list may be cut into so many parts, each for a thread of its
+    /// own.
     pub fn key_lists<R: Threads + Sync>(
         &self,
         rt: &R,
@@ -127,52 +121,22 @@ impl<'a> PlacedRows<'a> {
         requires of { IsTrue (all_of store.now self.now) }
         ensures value { IfOk result (λ lists. map (λ k. k.items) lists.items ≡ map (spec.key_list store.now paths.now) self.now) }
     {
+        let list = self.list;
         match self.places {
-            None => key_lists(rt, alloc, store, paths, self.rows, workers),
-            Some(_) => lists_in_turn(alloc, store, paths, self),
+            None => list.key_lists(rt, alloc, store, paths, workers),
+            Some(places) => list.key_lists_at(alloc, store, paths, places),
         }
     }
 }
 
-/// The row at place k of some.
-fn row_at<'a>(rows: &'a [Row], places: &[usize], k: usize) -> &'a Row
-    requires within { IsTrue (list_all (λ k. nat_lt k (length rows.now)) places.now) }
-    requires there { k < length places.now }
-    ensures { Some result.now ≡ slice_get (at_places rows.now places.now) k }
+/// The places that stand at these places of a list.
+fn places_of(alloc: Global, own: &[usize], places: &[usize]) -> Result<Vec<usize>, AllocError>
+    requires { IsTrue (list_all (λ k. nat_lt k (length own.now)) places.now) }
+    ensures { IfOk result (λ ks. ks.items ≡ at_places own.now places.now) }
 {
-    &rows[places[k]]
-}
-
-/// The values of an expression on the rows, one after the other.
-fn values_in_turn(
-    alloc: Global,
-    store: &Data,
-    e: &Expr,
-    rows: &PlacedRows<'_>,
-) -> Result<Vec<Value>, AllocError>
-    requires { IsTrue (all_of store.now rows.now) }
-    ensures { IfOk result (λ vs. vs.items ≡ values store.now (expr_of e.now) rows.now) }
-{
-    let mut found = Vec::with_capacity(alloc, rows.len())?;
-    for k in 0..rows.len() {
-        found.push(value_on(alloc, store, e, rows.row(k))?)?;
+    let mut found = Vec::with_capacity(alloc, places.len())?;
+    for at in places {
+        found.push(own[*at])?;
     }
     Ok(found)
-}
-
-/// The key list of each row by the paths, one after the other.
-fn lists_in_turn(
-    alloc: Global,
-    store: &Data,
-    paths: &[Path],
-    rows: &PlacedRows<'_>,
-) -> Result<Vec<Vec<Value>>, AllocError>
-    requires { IsTrue (all_of store.now rows.now) }
-    ensures { IfOk result (λ lists. map (λ k. k.items) lists.items ≡ map (spec.key_list store.now paths.now) rows.now) }
-{
-    let mut lists = Vec::with_capacity(alloc, rows.len())?;
-    for k in 0..rows.len() {
-        lists.push(key_list(alloc, store, paths, rows.row(k))?)?;
-    }
-    Ok(lists)
 }

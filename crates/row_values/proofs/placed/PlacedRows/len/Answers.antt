@@ -9,4 +9,4 @@ returns-in-Some c =
     let s = c.self.inside in
     let ks = c.in-Some.places.now in
     let e : option_map (λ p. p.now) s.places ≡ Some ks = ap (option_map (λ p. p.now)) c.in-Some.is in
-    record { value = sym (length-places s.rows.now ks (subst (are_within s.rows.now) e c.self.invariant)) ∙ ap length (sym (placed-some s.rows.now (option_map (λ p. p.now) s.places) ks e) ∙ c.self.view_is) }
+    record { value = sym (length-places s.list.now ks (subst (are_within s.list.now) e c.self.invariant)) ∙ ap length (sym (placed-some s.list.now (option_map (λ p. p.now) s.places) ks e) ∙ c.self.view_is) }

@@ -1,0 +1,242 @@
+//! Lists of instances that are read where they stand: rows, or a frame.
+ghost use Rattle.std.specs.Prelude.{◌≡◌, ◌+◌, ◌≤◌, ◌<◌, IfOk, IsTrue, get_or, length, map, nat_lt};
+ghost use Rattle.std.specs.List.{list_all};
+ghost use Rattle.edm_values.specs.Lists.{at_places};
+ghost use Rattle.apply_ast.specs.Views.{expr_of};
+ghost use Rattle.apply_meaning.specs.Instances.{no_instance, root_of};
+ghost use Rattle.apply_meaning.specs.Meaning as spec;
+ghost use Rattle.apply_meaning.specs.Meaning.{values};
+ghost use Rattle.apply_meaning.specs.Running.{all_of};
+
+use crate::keys::{key_list, key_lists};
+use crate::values::{value_on, values_of};
+use apply_ast::{Expr, Path};
+use apply_meaning::{Row, Steps};
+use edm_data::{Data, EntityRef};
+use edm_values::Value;
+use row_frames::Frame;
+use std::alloc::{AllocError, Global};
+use std::marker::Model;
+use std::sync::ledger::Ledger;
+use std::thread::Threads;
+
+/// Where the instances stand.
+#[derive(Clone, Copy, Drop)]
+pub(crate) enum Source<'a> {
+    Rows(&'a [Row]),
+    Frame(&'a Frame),
+}
+
+/// A list of instances: rows, or a frame. It is read where it stands: no row is copied or made, but those that are asked for.
+#[derive(Drop)]
+pub struct RowList<'a> {
+    source: Source<'a>,
+}
+
+impl<'a> Model for RowList<'a> {
+    ghost use Rattle.std.specs.Prelude.{List};
+    ghost use Rattle.apply_meaning.specs.Instances.{Instance};
+    ghost use Rattle.row_values.specs.Placed.{listed};
+
+    ghost Value = { List Instance };
+
+    ghost view = { λ r. listed r.source };
+}
+
+impl<'a> RowList<'a> {
+    /// The instances of rows.
+    pub fn of_rows(rows: &'a [Row]) -> RowList<'a>
+        ensures value { result ≡ rows.now }
+    {
+        RowList {
+            source: Source::Rows(rows),
+        }
+    }
+
+    /// The instances of a frame.
+    pub fn of_frame(frame: &'a Frame) -> RowList<'a>
+        ensures value { result ≡ frame.now }
+    {
+        RowList {
+            source: Source::Frame(frame),
+        }
+    }
+
+    /// How many instances there are.
+    pub fn len(&self) -> usize
+        ensures value { result ≡ length self.now }
+    {
+        match self.source {
+            Source::Rows(rows) => rows.len(),
+            Source::Frame(frame) => frame.len(),
+        }
+    }
+
+    /// The entity at the empty prefix of instance k, counted from 0.
+    pub fn root(&self, k: usize) -> Option<EntityRef>
+        requires there { k < length self.now }
+        ensures value { result ≡ root_of (get_or self.now k no_instance) }
+    {
+        match self.source {
+            Source::Rows(rows) => root_at(rows, k),
+            Source::Frame(frame) => frame.root(k),
+        }
+    }
+
+    /// The values of an expression on the instances. They may be cut into so many parts, each for a thread of its own.
+    pub fn values<R: Threads + Sync>(
+        &self,
+        rt: &R,
+        alloc: Global,
+        store: &Data,
+        e: &Expr,
+        workers: u32,
+    ) -> Result<Vec<Value>, AllocError>
+        requires some { 0 < workers }
+        requires of { IsTrue (all_of store.now self.now) }
+        ensures value { IfOk result (λ vs. vs.items ≡ values store.now (expr_of e.now) self.now) }
+    {
+        match self.source {
+            Source::Rows(rows) => values_of(rt, alloc, store, e, rows, workers),
+            Source::Frame(frame) => frame.values(alloc, store, e),
+        }
+    }
+
+    /// The values of an expression on the instances at these places.
+    pub fn values_at(
+        &self,
+        alloc: Global,
+        store: &Data,
+        e: &Expr,
+        places: &[usize],
+    ) -> Result<Vec<Value>, AllocError>
+        requires of { IsTrue (all_of store.now (at_places self.now places.now)) }
+        requires within { IsTrue (list_all (λ k. nat_lt k (length self.now)) places.now) }
+        ensures value { IfOk result (λ vs. vs.items ≡ values store.now (expr_of e.now) (at_places self.now places.now)) }
+    {
+        match self.source {
+            Source::Rows(rows) => row_values_at(alloc, store, e, rows, places),
+            Source::Frame(frame) => frame.values_at(alloc, store, e, places),
+        }
+    }
+
+    /// The key list of each instance by the paths. They may be cut into so many parts, each for a thread of its own.
+    pub fn key_lists<R: Threads + Sync>(
+        &self,
+        rt: &R,
+        alloc: Global,
+        store: &Data,
+        paths: &[Path],
+        workers: u32,
+    ) -> Result<Vec<Vec<Value>>, AllocError>
+        requires some { 0 < workers }
+        requires of { IsTrue (all_of store.now self.now) }
+        ensures value { IfOk result (λ lists. map (λ k. k.items) lists.items ≡ map (spec.key_list store.now paths.now) self.now) }
+    {
+        match self.source {
+            Source::Rows(rows) => key_lists(rt, alloc, store, paths, rows, workers),
+            Source::Frame(frame) => frame.key_lists(alloc, store, paths),
+        }
+    }
+
+    /// The key lists of the instances at these places.
+    pub fn key_lists_at(
+        &self,
+        alloc: Global,
+        store: &Data,
+        paths: &[Path],
+        places: &[usize],
+    ) -> Result<Vec<Vec<Value>>, AllocError>
+        requires of { IsTrue (all_of store.now (at_places self.now places.now)) }
+        requires within { IsTrue (list_all (λ k. nat_lt k (length self.now)) places.now) }
+        ensures value { IfOk result (λ lists. map (λ k. k.items) lists.items ≡ map (spec.key_list store.now paths.now) (at_places self.now places.now)) }
+    {
+        match self.source {
+            Source::Rows(rows) => row_keys_at(alloc, store, paths, rows, places),
+            Source::Frame(frame) => frame.key_lists_at(alloc, store, paths, places),
+        }
+    }
+
+    /// The instances at these places: copies of rows, or rows that are made of a frame, for one step each.
+    pub fn members<L: Ledger>(
+        &self,
+        alloc: Global,
+        places: &[usize],
+        steps: &mut Steps<L>,
+    ) -> Result<Vec<Row>, AllocError>
+        requires within { IsTrue (list_all (λ k. nat_lt k (length self.now)) places.now) }
+        ensures rows { IfOk result (λ made. made.items ≡ at_places self.now places.now) }
+        ensures steps { steps.new ≤ steps.old + length (at_places self.now places.now) }
+        ensures grown { steps.old ≤ steps.new }
+    {
+        match self.source {
+            Source::Rows(rows) => copies_at(alloc, rows, places, steps),
+            Source::Frame(frame) => frame.rows_at(alloc, places, steps),
+        }
+    }
+}
+
+/// The entity at the empty prefix of row k.
+fn root_at(rows: &[Row], k: usize) -> Option<EntityRef>
+    requires { k < length rows.now }
+    ensures { result ≡ root_of (get_or rows.now k no_instance) }
+{
+    rows[k].root()
+}
+
+/// The values of an expression on the rows at these places.
+fn row_values_at(
+    alloc: Global,
+    store: &Data,
+    e: &Expr,
+    rows: &[Row],
+    places: &[usize],
+) -> Result<Vec<Value>, AllocError>
+    requires of { IsTrue (all_of store.now (at_places rows.now places.now)) }
+    requires within { IsTrue (list_all (λ k. nat_lt k (length rows.now)) places.now) }
+    ensures { IfOk result (λ vs. vs.items ≡ values store.now (expr_of e.now) (at_places rows.now places.now)) }
+{
+    let mut found = Vec::with_capacity(alloc, places.len())?;
+    for at in places {
+        found.push(value_on(alloc, store, e, &rows[*at])?)?;
+    }
+    Ok(found)
+}
+
+/// The key lists of the rows at these places.
+fn row_keys_at(
+    alloc: Global,
+    store: &Data,
+    paths: &[Path],
+    rows: &[Row],
+    places: &[usize],
+) -> Result<Vec<Vec<Value>>, AllocError>
+    requires of { IsTrue (all_of store.now (at_places rows.now places.now)) }
+    requires within { IsTrue (list_all (λ k. nat_lt k (length rows.now)) places.now) }
+    ensures { IfOk result (λ lists. map (λ k. k.items) lists.items ≡ map (spec.key_list store.now paths.now) (at_places rows.now places.now)) }
+{
+    let mut lists = Vec::with_capacity(alloc, places.len())?;
+    for at in places {
+        lists.push(key_list(alloc, store, paths, &rows[*at])?)?;
+    }
+    Ok(lists)
+}
+
+/// Copies of the rows at these places: one step each.
+fn copies_at<L: Ledger>(
+    alloc: Global,
+    rows: &[Row],
+    places: &[usize],
+    steps: &mut Steps<L>,
+) -> Result<Vec<Row>, AllocError>
+    requires { IsTrue (list_all (λ k. nat_lt k (length rows.now)) places.now) }
+    ensures rows { IfOk result (λ copies. copies.items ≡ at_places rows.now places.now) }
+    ensures steps { steps.new ≤ steps.old + length (at_places rows.now places.now) }
+    ensures grown { steps.old ≤ steps.new }
+{
+    let mut copies = Vec::with_capacity(alloc, places.len())?;
+    for at in places {
+        copies.push(rows[*at].copy(alloc, steps)?)?;
+    }
+    Ok(copies)
+}
