@@ -16,6 +16,7 @@ use Rattle.std.proofs.lemmas.List.Folds.{list_any-append}
 use Rattle.std.proofs.lemmas.List.Sorted.{ranks_by}
 use denote.Param.Members.{Mut}
 use Rattle.edm_data.specs.Worlds.{World}
+use Rattle.edm_values.specs.declared.Value.{Value}
 use Rattle.edm_values.specs.Lists.{sorted}
 use Rattle.edm_values.specs.Values.{is_beyond}
 use Rattle.edm_values.proofs.EachLemmas.{Each, none_is_not_some}
@@ -279,8 +280,8 @@ behind-all w is k l rows b e =
     ∙ ap Some (sym (b.order ∙ ap (λ u. sorted (order_before w (map item_of u)) l) whole))
 
 -- what a stable sort by a closure gives, where each call answers the order of the values of one item
-pub sorted-by_item : {F : Type 0} {g : Mut F (Bor RankedRow × (Bor RankedRow × Unit {0})) Ordering} {f : F} (x : OrderItem) (rs ys : List RankedRow)
+pub sorted-by_item : {X F : Type 0} {g : Mut F (Bor (List Value × X) × (Bor (List Value × X) × Unit {0})) Ordering} {f : F} (x : OrderItem) (rs ys : List (List Value × X))
     → IsSortedByClosure g f ys → IsStableByClosure g f rs ys
-    → ((a : Bor RankedRow × (Bor RankedRow × Unit {0})) (r : Ordering) (f' : F) → Called g f a r f' → (r ≡ item_cmp x.desc (first_value (a.0.now).0) (first_value (a.1.0.now).0)) × (f' ≡ f))
+    → ((a : Bor (List Value × X) × (Bor (List Value × X) × Unit {0})) (r : Ordering) (f' : F) → Called g f a r f' → (r ≡ item_cmp x.desc (first_value (a.0.now).0) (first_value (a.1.0.now).0)) × (f' ≡ f))
     → IsSortedBy (before (x ∷ [])) ys × IsStableBy (before (x ∷ [])) rs ys
 sorted-by_item x rs ys up stable h = sorted-by_values (x ∷ []) rs ys up stable (λ a r f' k. ((h a r f' k).0 ∙ sym (then_equal (item_cmp x.desc (first_value (a.0.now).0) (first_value (a.1.0.now).0))), (h a r f' k).1))

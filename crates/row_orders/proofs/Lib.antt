@@ -1,3 +1,4 @@
 pub mod ItemSorts
 pub mod OrderLemmas
+pub mod PlaceSorts
 pub mod RankLemmas

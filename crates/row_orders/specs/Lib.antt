@@ -3,4 +3,5 @@ pub use Rattle.apply_ast.specs.Views
 pub use Rattle.apply_meaning.specs.Meaning
 pub use Rattle.apply_meaning.specs.Running
 pub mod Orders
+pub mod Places
 pub mod Ranks
