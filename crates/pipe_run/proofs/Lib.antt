@@ -8,6 +8,7 @@ pub mod CustomLemmas
 pub mod GroupLemmas
 pub mod GroupingLevels
 pub mod GroupingRun
+pub mod ItemLists
 pub mod JoinParts
 pub mod KeyParts
 pub mod KeysApart
@@ -22,6 +23,7 @@ pub mod RelatedLemmas
 pub mod RootLemmas
 pub mod RunLemmas
 pub mod RunLevels
+pub mod SelectedPlaces
 pub mod SelectionLemmas
 pub mod ShownRun
 pub mod TakenRows

@@ -1,5 +1,5 @@
 -- When a pipeline may be run, where the type at the empty prefix is known, and what runs of its parts need.
-use Rattle.std.specs.Prelude.{◌≡◌, ℕ, ◌≤◌, All, IsTrue, List, Option, Some, None, length, map, nat_lt, slice_get, is_some, option_and_then}
+use Rattle.std.specs.Prelude.{◌≡◌, ℕ, ◌≤◌, All, Bool, IsTrue, List, Option, Some, None, true, false, length, map, nat_lt, slice_get, is_some, option_and_then}
 use Rattle.std.specs.List.{list_all}
 use Rattle.std.specs.declared.result.Result as result
 use Rattle.std.specs.Global.{Vec}
@@ -44,6 +44,11 @@ ReadyFrom x root p l = (S : Shape) × (S' : Shape) × RunsFrom x root S S' p l
 -- the same of one transformation
 abbrev pub StepReadyFrom : Context → Option ℕ → Step → List Instance → Type 0
 StepReadyFrom x root s l = (S : Shape) × (S' : Shape) × StepRunsFrom x root S S' s l
+
+-- a grouping
+abbrev pub is_grouping : Step → Bool
+is_grouping (Step.GroupBy ks T) = true
+is_grouping _ = false
 
 -- ---- inner pipelines
 

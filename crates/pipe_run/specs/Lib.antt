@@ -17,6 +17,7 @@ pub mod Conditions
 pub mod Contexts
 pub mod Costs
 pub mod Hierarchies
+pub mod ItemLists
 pub mod Levels
 pub mod RecursiveKeys
 pub mod Roots

@@ -58,7 +58,7 @@ fn custom_value<R: Threads + Sync, G: Gate>(
 }
 
 /// The name and the value of an item.
-fn item_value<R: Threads + Sync, G: Gate>(
+pub(crate) fn item_value<R: Threads + Sync, G: Gate>(
     alloc: Global,
     context: &Context<'_, R, G>,
     root: &Option<TypeId>,

@@ -1,5 +1,7 @@
 //! What a run works with.
-ghost use Rattle.std.specs.Prelude.{◌≡◌, ◌++◌, ◌+◌, ◌<◌, ◌≤◌, All, Some, IfOk, IfSome, IsTrue, is_some, filter, length, map, true};
+ghost use Rattle.std.specs.Prelude.{◌≡◌, ◌++◌, ◌+◌, ◌<◌, ◌≤◌, All, Some, IfOk, IfSome, IsTrue, is_some, filter, length, map, nat_lt, true};
+ghost use Rattle.std.specs.List.{list_all};
+ghost use Rattle.edm_values.specs.Lists.{at_places};
 ghost use Rattle.edm_values.specs.Values.{is_value};
 ghost use Rattle.edm_model.specs.LookUps.{HierarchyPlace, IsCustom, IsSet};
 ghost use Rattle.edm_data.specs.Nodes.{parents_of};
@@ -14,6 +16,7 @@ ghost use Rattle.aggregate_ops.specs.KeyTables.{HasWidth};
 ghost use Rattle.aggregate_ops.specs.Partials.{AreFoldable};
 ghost use Rattle.custom_agg.specs.CustomValues.{value_by_id, HaveRoot};
 ghost use Rattle.group_rollup.specs.Groupings.{groups, level_groups};
+ghost use Rattle.hier_rows.specs.HierRows.{path_values};
 ghost use Rattle.hier_states.specs.States.{IsReadyAt};
 ghost use Rattle.rollup_rec.specs.Rollups.{rolled, width_of};
 ghost use Rattle.pipe_run.specs.Levels.{GivesFor};
@@ -26,12 +29,12 @@ use custom_agg::custom_at;
 use edm_data::Data;
 use edm_model::CustomId;
 use edm_values::{Method, Value};
-use group_rollup::{GroupRefused, group, key_lists, rollup};
+use group_rollup::{GroupRefused, group_list, list_keys, rollup_list};
 use hier_index::Index;
 use hier_states::{HierState, Nodes, nodes_at};
 use par_stages::{Gate, workers_for};
 use rollup_rec::roll;
-use row_values::{PlacedRows, compute_rows, filter_rows};
+use row_values::{PlacedRows, RowList, compute_rows, filter_rows};
 use std::alloc::{AllocError, Global};
 use std::marker::Model;
 use std::sync::ledger::Ledger;
@@ -158,6 +161,22 @@ impl<'a, R: Threads + Sync, G: Gate> Context<'a, R, G> {
         aggregate_values(self.rt, alloc, method, values, hands, self.gate)
     }
 
+    /// The aggregate by a method of those of the values that stand at these places.
+    pub(crate) fn aggregate_at(
+        &self,
+        alloc: Global,
+        method: Method,
+        values: &[Value],
+        places: &[usize],
+    ) -> Result<Value, AllocError>
+        requires within { IsTrue (list_all (λ k. nat_lt k (length values.now)) places.now) }
+        requires kind { AreFoldable method (at_places values.now places.now) }
+        ensures { IfOk result (λ v. v ≡ aggregates.aggregate method (at_places values.now places.now)) }
+    {
+        let own = copies_at(alloc, values, places)?;
+        self.aggregate(alloc, method, own.as_slice())
+    }
+
     /// The values of an expression on rows.
     pub(crate) fn values(
         &self,
@@ -169,6 +188,20 @@ impl<'a, R: Threads + Sync, G: Gate> Context<'a, R, G> {
         ensures { IfOk result (λ vs. vs.items ≡ values self.now.world (expr_of e.now) rows.now) }
     {
         rows.values(self.rt, alloc, self.store, e, self.workers)
+    }
+
+    /// The values of a path on a list.
+    pub(crate) fn path_values(
+        &self,
+        alloc: Global,
+        path: &Path,
+        rows: &RowList<'_>,
+    ) -> Result<Vec<Value>, AllocError>
+        requires { IsTrue (all_of self.now.world rows.now) }
+        ensures { IfOk result (λ vs. vs.items ≡ path_values self.now.world path.now rows.now) }
+    {
+        let e = Expr::Path(path.copy(alloc)?);
+        rows.values(self.rt, alloc, self.store, &e, self.workers)
     }
 
     /// Each row with its new columns: one step a row.
@@ -226,29 +259,29 @@ impl<'a, R: Threads + Sync, G: Gate> Context<'a, R, G> {
         )
     }
 
-    /// The groups of rows by key paths.
+    /// The groups of a list by key paths.
     pub(crate) fn group(
         &self,
         alloc: Global,
-        rows: &[Row],
+        rows: &RowList<'_>,
         keys: &[Path],
     ) -> Result<Groups, RunRefused>
         requires { IsTrue (all_of self.now.world rows.now) }
         ensures { GivesFor (λ found. found ≡ groups self.now.world keys.now rows.now) self.now.world keys.now rows.now result }
     {
         let hands = self.hands(rows.len());
-        match group(self.rt, alloc, self.store, rows, keys, hands, self.gate) {
+        match group_list(self.rt, alloc, self.store, rows, keys, hands, self.gate) {
             Ok(found) => Ok(found),
             Err(GroupRefused::Range) => Err(RunRefused::Range),
             Err(GroupRefused::Memory) => Err(RunRefused::Memory),
         }
     }
 
-    /// The groups of rows by each level of a rollup, the finest first.
+    /// The groups of a list by each level of a rollup, the finest first.
     pub(crate) fn rollup(
         &self,
         alloc: Global,
-        rows: &[Row],
+        rows: &RowList<'_>,
         keys: &[Path],
         levels: &[Path],
         with_all: bool,
@@ -257,7 +290,7 @@ impl<'a, R: Threads + Sync, G: Gate> Context<'a, R, G> {
         ensures { GivesFor (λ found. found.items ≡ level_groups self.now.world keys.now levels.now with_all rows.now) self.now.world (keys.now ++ levels.now) rows.now result }
     {
         let hands = self.hands(rows.len());
-        match rollup(
+        match rollup_list(
             self.rt, alloc, self.store, rows, keys, levels, with_all, hands, self.gate,
         ) {
             Ok(found) => Ok(found),
@@ -266,17 +299,17 @@ impl<'a, R: Threads + Sync, G: Gate> Context<'a, R, G> {
         }
     }
 
-    /// The key list of each row by the paths.
+    /// The key list of each instance of a list by the paths.
     pub(crate) fn key_lists(
         &self,
         alloc: Global,
         keys: &[Path],
-        rows: &[Row],
+        rows: &RowList<'_>,
     ) -> Result<Vec<Vec<Value>>, RunRefused>
         requires { IsTrue (all_of self.now.world rows.now) }
         ensures { GivesFor (λ lists. map (λ k. k.items) lists.items ≡ map (key_list self.now.world keys.now) rows.now) self.now.world keys.now rows.now result }
     {
-        match key_lists(self.rt, alloc, self.store, keys, rows, self.workers) {
+        match list_keys(self.rt, alloc, self.store, keys, rows, self.workers) {
             Ok(lists) => Ok(lists),
             Err(GroupRefused::Range) => Err(RunRefused::Range),
             Err(GroupRefused::Memory) => Err(RunRefused::Memory),
@@ -312,4 +345,16 @@ impl<'a, R: Threads + Sync, G: Gate> Context<'a, R, G> {
         let hands = self.hands(keys.len());
         roll(self.rt, alloc, index, nodes, shown, keys, hands, self.gate)
     }
+}
+
+/// Copies of the values at these places.
+fn copies_at(alloc: Global, values: &[Value], places: &[usize]) -> Result<Vec<Value>, AllocError>
+    requires { IsTrue (list_all (λ k. nat_lt k (length values.now)) places.now) }
+    ensures { IfOk result (λ copies. copies.items ≡ at_places values.now places.now) }
+{
+    let mut copies = Vec::with_capacity(alloc, places.len())?;
+    for at in places {
+        copies.push(values[*at].seen().own(alloc)?)?;
+    }
+    Ok(copies)
 }

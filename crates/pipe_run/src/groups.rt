@@ -11,6 +11,7 @@ use crate::levels::Level;
 use apply_ast::Path;
 use apply_meaning::{Row, Steps};
 use edm_values::Value;
+use row_values::RowList;
 use std::alloc::{AllocError, Global};
 use std::sync::ledger::Ledger;
 
@@ -26,11 +27,8 @@ pub(crate) fn members<L: Ledger>(
     ensures steps { steps.new ≤ steps.old + length (at_places rows.now places.now) }
     ensures grown { steps.old ≤ steps.new }
 {
-    let mut copies = Vec::with_capacity(alloc, places.len())?;
-    for at in places {
-        copies.push(rows[*at].copy(alloc, steps)?)?;
-    }
-    Ok(copies)
+    let list = RowList::of_rows(rows);
+    list.members(alloc, places, steps)
 }
 
 /// The columns of a key list.

@@ -11,9 +11,10 @@ ghost use Rattle.pipe_run.specs.Levels.{AreKeys, GivesFor, GivesFlatLevels, part
 use crate::contexts::Context;
 use aggregate_ops::{Groups, copies};
 use apply_ast::{KeyItem, KeyList, Path};
-use apply_meaning::{Row, RunRefused};
+use apply_meaning::RunRefused;
 use edm_values::Value;
 use par_stages::Gate;
+use row_values::RowList;
 use std::alloc::{AllocError, Global};
 use std::marker::Model;
 use std::thread::Threads;
@@ -90,12 +91,12 @@ fn alone(alloc: Global, groups: Groups) -> Result<Vec<Groups>, AllocError>
     Ok(all)
 }
 
-/// The groups of rows by each level of the keys, the finest first.
+/// The groups of a list by each level of the keys, the finest first.
 fn level_groups<R: Threads + Sync, G: Gate>(
     alloc: Global,
     context: &Context<'_, R, G>,
     keys: &LevelKeys<'_>,
-    rows: &[Row],
+    rows: &RowList<'_>,
 ) -> Result<Vec<Groups>, RunRefused>
     requires { IsTrue (all_of context.now.world rows.now) }
     ensures { let part = part_of keys.now.rollup in
@@ -220,12 +221,12 @@ fn with_paths(
     Ok(levels)
 }
 
-/// The levels of a grouping without a recursive rollup on rows, the finest first, each with its groups.
+/// The levels of a grouping without a recursive rollup on a list, the finest first, each with its groups.
 pub(crate) fn levels_of<R: Threads + Sync, G: Gate>(
     alloc: Global,
     context: &Context<'_, R, G>,
     keys: &KeyList,
-    rows: &[Row],
+    rows: &RowList<'_>,
 ) -> Result<Vec<Level>, RunRefused>
     requires flat { IsTrue (are_flat_keys (keys_of keys.now)) }
     requires of { IsTrue (all_of context.now.world rows.now) }

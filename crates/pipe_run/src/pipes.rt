@@ -21,15 +21,17 @@ ghost use Rattle.join_concat.specs.Joins.{has_root_of};
 ghost use Rattle.row_orders.specs.Ranks.{GivesNumbers};
 ghost use Rattle.hier_states.specs.NamedHierarchies.{branch_hierarchies, hierarchies, inner_hierarchies, keys_hierarchies, step_hierarchies};
 ghost use Rattle.hier_states.specs.States.{IsReadyAt};
-ghost use Rattle.pipe_run.specs.Conditions.{AreReady, BranchesReady, BranchesRun, GivesAll, GroupReady, GroupRuns, InnerReady, InnerRuns, KeysReady, LevelsReady, LevelsRun, LimitReady, ReadyFrom, RelatedReady, RelatedRun, RunsFrom, ShownReady, ShownRuns, StepReadyFrom, StepRunsFrom, charge_of};
+ghost use Rattle.pipe_run.specs.Conditions.{AreReady, BranchesReady, BranchesRun, GivesAll, GroupReady, GroupRuns, InnerReady, InnerRuns, KeysReady, LevelsReady, LevelsRun, LimitReady, ReadyFrom, RelatedReady, RelatedRun, RunsFrom, ShownReady, ShownRuns, StepReadyFrom, StepRunsFrom, charge_of, is_grouping};
 ghost use Rattle.pipe_run.specs.Costs.{application, applications, cost, given_applications, inner_cost, keys_cost, step_cost};
+ghost use Rattle.pipe_run.specs.ItemLists.{AreFirstLists};
 ghost use Rattle.pipe_run.specs.Levels.{GivesLevels, group_made, level_lists, level_made};
 
 use crate::aggregations::aggregated;
 use crate::contexts::Context;
 use crate::copies::copy_rows;
-use crate::groups::{key_rows, members, with_keys};
+use crate::groups::{key_rows, with_keys};
 use crate::hierarchies::{climb_rows, traverse_rows};
+use crate::item_lists::{ItemList, aggregated_at, first_lists};
 use crate::joins::{alias_ready, join_navigation};
 use crate::levels::{Level, levels_of};
 use crate::recursive::node_levels;
@@ -44,7 +46,7 @@ use hier_rows::{all_nodes, shown_nodes};
 use join_concat::{concat, join, outerjoin, related_rows};
 use par_stages::Gate;
 use row_orders::order_rows;
-use row_values::PlacedRows;
+use row_values::{PlacedRows, RowList};
 use std::alloc::Global;
 use std::sync::ledger::Ledger;
 use std::thread::Threads;
@@ -72,7 +74,7 @@ fn level_ready<R: Threads + Sync, G: Gate>(
     levels: &[Level],
     i: usize,
     level: &Level,
-    rows: &[Row],
+    rows: &RowList<'_>,
 )
     requires within { i < length levels.now }
     requires level { level.now ≡ get_or levels.now i level.now }
@@ -80,13 +82,13 @@ fn level_ready<R: Threads + Sync, G: Gate>(
     ensures { GroupReady context.now root.now level.now (pipe_of pipe.now) rows.now }
 {}
 
-/// The inner pipeline of a grouping may be run on some of the rows.
+/// The inner pipeline of a grouping may be run on some of the instances.
 fn group_ready<R: Threads + Sync, G: Gate>(
     context: &Context<'_, R, G>,
     root: &Option<TypeId>,
     pipe: &Pipe,
     level: &Level,
-    rows: &[Row],
+    rows: &RowList<'_>,
     places: &[usize],
 )
     requires ready { GroupReady context.now root.now level.now (pipe_of pipe.now) rows.now }
@@ -221,20 +223,22 @@ fn run_steps<R: Threads + Sync, G: Gate, L: Ledger>(
     Ok(rows)
 }
 
-/// The rows that the pipeline gives of the rows at these places. An aggregation that comes first reads them where they stand, and
-/// for any other transformation they are copied.
+/// The rows that the pipeline gives of the instances at these places of a list. An aggregation that comes first takes the values of
+/// its items that stand there, and for any other transformation rows are copied, or made of the instances.
 #[cycle(run)]
 fn run_at<R: Threads + Sync, G: Gate, L: Ledger>(
     alloc: Global,
     context: &Context<'_, R, G>,
     root: &Option<TypeId>,
     pipe: &Pipe,
-    rows: &[Row],
+    rows: &RowList<'_>,
     places: &[usize],
+    lists: &[ItemList],
     steps: &mut Steps<L>,
 ) -> Result<Vec<Row>, RunRefused>
     requires within { IsTrue (list_all (λ k. nat_lt k (length rows.now)) places.now) }
     requires ready { ReadyFrom context.now root.now (pipe_of pipe.now) (at_places rows.now places.now) }
+    requires lists { AreFirstLists context.now.world rows.now (pipe_of pipe.now) lists.now }
     requires named { AreReady context.now (hierarchies (pipe_of pipe.now)) }
     ensures mean { (S S' : Shape) → RunsFrom context.now root.now S S' (pipe_of pipe.now) (at_places rows.now places.now)
         → Gives result (mean context.now.world (readings context.now.customs) S (pipe_of pipe.now) (at_places rows.now places.now)) }
@@ -247,13 +251,12 @@ fn run_at<R: Threads + Sync, G: Gate, L: Ledger>(
     let first = &all[0];
     match first {
         Step::Aggregate(items) => {
-            let placed = PlacedRows::at(rows, places);
-            let made = aggregated(alloc, context, root, items, &placed, steps)?;
+            let made = aggregated_at(alloc, context, root, items, lists, rows, places, steps)?;
             let root = root_after(first, *root);
             run_steps(alloc, context, &root, &all[1..], made, steps)
         }
         _ => {
-            let copies = members(alloc, rows, places, steps)?;
+            let copies = rows.members(alloc, places, steps)?;
             run_steps(alloc, context, root, all, copies, steps)
         }
     }
@@ -302,15 +305,9 @@ pub fn run_step<R: Threads + Sync, G: Gate, L: Ledger>(
     let store = context.store();
     data_is_loaded(store);
     match step {
-        Step::GroupBy(keys, inner) => {
-            let list = rows.as_slice();
-            let levels = grouping_levels(alloc, context, keys, list, steps)?;
-            match inner {
-                Some(pipe) => {
-                    run_levels(alloc, context, root, pipe, levels.as_slice(), list, steps)
-                }
-                None => Ok(key_rows(alloc, levels.as_slice(), steps)?),
-            }
+        Step::GroupBy(..) => {
+            let list = RowList::of_rows(rows.as_slice());
+            run_grouping(alloc, context, root, step, &list, steps)
         }
         Step::Concat(branches) => {
             run_concat(alloc, context, root, branches, rows.as_slice(), steps)
@@ -329,19 +326,58 @@ pub fn run_step<R: Threads + Sync, G: Gate, L: Ledger>(
         Step::Skip(n) => Ok(skip_rows(*n, rows)),
         Step::Top(n) => Ok(top_rows(*n, rows)),
         Step::Aggregate(items) => {
-            let all = PlacedRows::all(rows.as_slice());
+            let list = RowList::of_rows(rows.as_slice());
+            let all = PlacedRows::all(&list);
             Ok(aggregated(alloc, context, root, items, &all, steps)?)
         }
     }
 }
 
-/// The levels of a grouping on rows, each with its groups.
+/// What a grouping gives on a list: what the inner pipeline makes of each group of each level, or a row for each group where there
+/// is none. No row is made of an instance that an aggregation at the front of the inner pipeline reads.
+#[cycle(run)]
+pub fn run_grouping<R: Threads + Sync, G: Gate, L: Ledger>(
+    alloc: Global,
+    context: &Context<'_, R, G>,
+    root: &Option<TypeId>,
+    step: &Step,
+    rows: &RowList<'_>,
+    steps: &mut Steps<L>,
+) -> Result<Vec<Row>, RunRefused>
+    requires grouping { IsTrue (is_grouping (step_of step.now)) }
+    requires ready { StepReadyFrom context.now root.now (step_of step.now) rows.now }
+    requires named { AreReady context.now (step_hierarchies (step_of step.now)) }
+    ensures mean { (S S' : Shape) → StepRunsFrom context.now root.now S S' (step_of step.now) rows.now
+        → Gives result (step_mean context.now.world (readings context.now.customs) S (step_of step.now) rows.now) }
+    ensures steps { (S S' : Shape) → StepRunsFrom context.now root.now S S' (step_of step.now) rows.now
+        → steps.new ≤ steps.old + step_cost context.now.world (readings context.now.customs) S (step_of step.now) rows.now }
+    ensures grown { steps.old ≤ steps.new }
+{
+    data_is_loaded(context.store());
+    match step {
+        Step::GroupBy(keys, inner) => {
+            let levels = grouping_levels(alloc, context, keys, rows, steps)?;
+            match inner {
+                Some(pipe) => {
+                    let lists = first_lists(alloc, context, pipe, rows)?;
+                    let lists = lists.as_slice();
+                    let levels = levels.as_slice();
+                    run_levels(alloc, context, root, pipe, levels, rows, lists, steps)
+                }
+                None => Ok(key_rows(alloc, levels.as_slice(), steps)?),
+            }
+        }
+        _ => unreachable!(),
+    }
+}
+
+/// The levels of a grouping on a list, each with its groups.
 #[cycle(run)]
 fn grouping_levels<R: Threads + Sync, G: Gate, L: Ledger>(
     alloc: Global,
     context: &Context<'_, R, G>,
     keys: &KeyList,
-    rows: &[Row],
+    rows: &RowList<'_>,
     steps: &mut Steps<L>,
 ) -> Result<Vec<Level>, RunRefused>
     requires of { IsTrue (all_of context.now.world rows.now) }
@@ -409,10 +445,12 @@ fn run_levels<R: Threads + Sync, G: Gate, L: Ledger>(
     root: &Option<TypeId>,
     pipe: &Pipe,
     levels: &[Level],
-    rows: &[Row],
+    rows: &RowList<'_>,
+    lists: &[ItemList],
     steps: &mut Steps<L>,
 ) -> Result<Vec<Row>, RunRefused>
     requires ready { LevelsReady context.now root.now levels.now (pipe_of pipe.now) rows.now }
+    requires lists { AreFirstLists context.now.world rows.now (pipe_of pipe.now) lists.now }
     requires named { AreReady context.now (hierarchies (pipe_of pipe.now)) }
     ensures mean { (S G' : Shape) → LevelsRun context.now root.now S G' levels.now (pipe_of pipe.now) rows.now
         → Gives result (joined (map (level_made (mean context.now.world (readings context.now.customs) S (pipe_of pipe.now)) rows.now) levels.now)) }
@@ -423,7 +461,7 @@ fn run_levels<R: Threads + Sync, G: Gate, L: Ledger>(
     let mut all = Vec::new(alloc);
     for (i, level) in levels.iter().enumerate() {
         level_ready(context, root, pipe, levels, i, level, rows);
-        let mut made = run_groups(alloc, context, root, pipe, level, rows, steps)?;
+        let mut made = run_groups(alloc, context, root, pipe, level, rows, lists, steps)?;
         all.append(&mut made)?;
     }
     Ok(all)
@@ -437,10 +475,12 @@ fn run_groups<R: Threads + Sync, G: Gate, L: Ledger>(
     root: &Option<TypeId>,
     pipe: &Pipe,
     level: &Level,
-    rows: &[Row],
+    rows: &RowList<'_>,
+    lists: &[ItemList],
     steps: &mut Steps<L>,
 ) -> Result<Vec<Row>, RunRefused>
     requires ready { GroupReady context.now root.now level.now (pipe_of pipe.now) rows.now }
+    requires lists { AreFirstLists context.now.world rows.now (pipe_of pipe.now) lists.now }
     requires named { AreReady context.now (hierarchies (pipe_of pipe.now)) }
     ensures mean { (S G' : Shape) → GroupRuns context.now root.now S G' level.now (pipe_of pipe.now) rows.now
         → Gives result (level_made (mean context.now.world (readings context.now.customs) S (pipe_of pipe.now)) rows.now level.now) }
@@ -450,7 +490,7 @@ fn run_groups<R: Threads + Sync, G: Gate, L: Ledger>(
 {
     let mut all = Vec::new(alloc);
     for k in 0..level.len() {
-        let mut made = run_group(alloc, context, root, pipe, level, k, rows, steps)?;
+        let mut made = run_group(alloc, context, root, pipe, level, k, rows, lists, steps)?;
         all.append(&mut made)?;
     }
     Ok(all)
@@ -465,11 +505,13 @@ fn run_group<R: Threads + Sync, G: Gate, L: Ledger>(
     pipe: &Pipe,
     level: &Level,
     k: usize,
-    rows: &[Row],
+    rows: &RowList<'_>,
+    lists: &[ItemList],
     steps: &mut Steps<L>,
 ) -> Result<Vec<Row>, RunRefused>
     requires within { k < length level.now.1 }
     requires ready { GroupReady context.now root.now level.now (pipe_of pipe.now) rows.now }
+    requires lists { AreFirstLists context.now.world rows.now (pipe_of pipe.now) lists.now }
     requires named { AreReady context.now (hierarchies (pipe_of pipe.now)) }
     ensures mean { (S G' : Shape) (g : List Value' × List ℕ) → GroupRuns context.now root.now S G' level.now (pipe_of pipe.now) rows.now
         → slice_get level.now.1 k ≡ Some g
@@ -482,7 +524,7 @@ fn run_group<R: Threads + Sync, G: Gate, L: Ledger>(
     let places = level.places(k);
     group_ready(context, root, pipe, level, rows, places);
     let inner = context.alone();
-    let results = run_at(alloc, &inner, root, pipe, rows, places, steps)?;
+    let results = run_at(alloc, &inner, root, pipe, rows, places, lists, steps)?;
     let key = level.key(alloc, k)?;
     Ok(with_keys(alloc, level.paths(), key.as_slice(), results, steps)?)
 }

@@ -13,11 +13,12 @@ use crate::contexts::Context;
 use crate::levels::{Level, plain_keys};
 use aggregate_ops::Groups;
 use apply_ast::{HierName, KeyList, Path};
-use apply_meaning::{Row, RunRefused};
+use apply_meaning::RunRefused;
 use edm_data::Data;
 use edm_model::SetId;
-use hier_rows::{identifier, nodes_of};
+use hier_rows::{identifier, nodes_by_keys};
 use par_stages::Gate;
+use row_values::RowList;
 use std::alloc::{AllocError, Global};
 use std::thread::Threads;
 
@@ -62,7 +63,7 @@ pub(crate) fn node_levels<R: Threads + Sync, G: Gate>(
     hier: &HierName,
     path: &Path,
     shown: &[u32],
-    rows: &[Row],
+    rows: &RowList<'_>,
 ) -> Result<Vec<Level>, RunRefused>
     requires of { IsTrue (all_of context.now.world rows.now) }
     requires there { IsTrue (is_some (hierarchy_at context.now.world.model (hier_of hier.now))) }
@@ -75,7 +76,9 @@ pub(crate) fn node_levels<R: Threads + Sync, G: Gate>(
     let plain = plain.as_slice();
     let found = context.nodes(hier);
     let store = context.store();
-    let nodes = nodes_of(alloc, store, found.set, path, rows)?;
+    let own = context.path_values(alloc, path, rows)?;
+    let own = own.as_slice();
+    let nodes = nodes_by_keys(alloc, store, found.set, path, rows, own)?;
     let lists = context.key_lists(alloc, plain, rows)?;
     let rolled = context.roll(
         alloc,

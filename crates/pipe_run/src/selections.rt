@@ -1,5 +1,6 @@
 //! Selections from the top and the bottom: rows taken by the values of an expression. No row is made.
-ghost use Rattle.std.specs.Prelude.{◌≡◌, ℕ, Bool, List, Option, Some, IfOk, IsTrue, filter, length, map};
+ghost use Rattle.std.specs.Prelude.{◌≡◌, ℕ, Bool, List, Option, Some, IfOk, IsTrue, filter, length, map, nat_lt};
+ghost use Rattle.std.specs.List.{list_all};
 ghost use Rattle.edm_values.specs.Lists.{at_places, places as all_places};
 ghost use Rattle.edm_values.specs.Values.{number_part, seen_value, top_places};
 ghost use Rattle.apply_ast.specs.Views.{limit_of, number_literal_of, top_of};
@@ -15,7 +16,7 @@ use apply_ast::{Limit, Number, TopStep};
 use apply_meaning::{Row, RunRefused, seen_values};
 use edm_values::{Seen, Value};
 use par_stages::Gate;
-use row_values::PlacedRows;
+use row_values::{PlacedRows, RowList};
 use std::alloc::{AllocError, Global};
 use std::thread::Threads;
 use top_family::{
@@ -93,6 +94,20 @@ fn seen_all(alloc: Global, values: &[Value]) -> Result<Vec<Seen<'_>>, AllocError
     Ok(seen)
 }
 
+/// The places of the values that a selection takes, in ascending order.
+pub fn selected_places(
+    alloc: Global,
+    top: &TopStep,
+    values: &[Value],
+) -> Result<Vec<usize>, RunRefused>
+    requires limit { LimitReady (top_of top.now).limit values.now }
+    ensures value { let t = top_of top.now in GivesNumbers result (top_places (reaches t.limit values.now) t.bottom values.now) }
+    ensures within { IfOk result (λ places. IsTrue (list_all (λ k. nat_lt k (length values.now)) places.items)) }
+{
+    let seen = seen_all(alloc, values)?;
+    taken_places(alloc, &top.limit, top.bottom, seen.as_slice())
+}
+
 /// The places of the rows that a selection takes, in ascending order. Where there are several workers, they work out the values.
 fn places_of<R: Threads + Sync, G: Gate>(
     alloc: Global,
@@ -108,10 +123,10 @@ fn places_of<R: Threads + Sync, G: Gate>(
         let seen = seen_values(alloc, context.store(), &top.expr, rows)?;
         return taken_places(alloc, &top.limit, top.bottom, seen.as_slice());
     }
-    let all = PlacedRows::all(rows);
+    let list = RowList::of_rows(rows);
+    let all = PlacedRows::all(&list);
     let values = context.values(alloc, &top.expr, &all)?;
-    let seen = seen_all(alloc, values.as_slice())?;
-    taken_places(alloc, &top.limit, top.bottom, seen.as_slice())
+    selected_places(alloc, top, values.as_slice())
 }
 
 /// The rows that a selection takes, in their order.

@@ -24,6 +24,7 @@ use Rattle.pipe_run.proofs.AggregateFirst.{begun, begun-by, behind-first}
 use Rattle.pipe_run.proofs.GroupingRun.{grouping-run, levels-found, step-cost-on, step-mean-on, step-runs-on}
 use Rattle.pipe_run.proofs.ReadyParts.{ready-back, ready-branch, ready-front, ready-here, ready-next, ready-first, ready-key, ready-others}
 use Rattle.pipe_run.proofs.RunLemmas.{turn-cost, turn-least, compute-cost, aggregate-cost, cost-same, gives-same, ready-same, runs-same}
+use Rattle.pipe_run.specs.ItemLists.{AreFirstLists}
 use Rattle.pipe_run.specs.Levels.{Level, group_made, level_made}
 use Rattle.pipe_run.specs.Roots.{LeadsTo}
 use Rattle.pipe_run.proofs.GroupLemmas.{next-sum}
@@ -164,15 +165,22 @@ run_steps-returns-clause-grown g t c = omega (arith, c.loop-i.invariant.2)
 
 -- ---- a pipeline on the rows at places
 
-pub run_at-aggregated-requires-clause-ready : goal.run_at-aggregated-requires-clause-ready
-run_at-aggregated-requires-clause-ready g t c κs within =
+pub run_at-aggregated_at-requires-clause-lists : goal.run_at-aggregated_at-requires-clause-lists
+run_at-aggregated_at-requires-clause-lists g t c κs within =
+    let x = c.args.context.now in
+    let is = ap step_of c.in-Aggregate.is ∙ step_of-Aggregate c.in-Aggregate.items in
+    let whole = begun-by (pipe_of c.args.pipe.now) c.steps-all.result.now c.index-all-0.result (map agg_of c.in-Aggregate.items) c.steps-all.ensures.tree c.steps-all.ensures.some c.index-all-0.is is in
+    c.requires.lists (map agg_of c.in-Aggregate.items) _ whole
+
+pub run_at-aggregated_at-requires-clause-ready : goal.run_at-aggregated_at-requires-clause-ready
+run_at-aggregated_at-requires-clause-ready g t c κs within =
     let x = c.args.context.now in
     let s = tree.Step.Aggregate (map agg_of c.in-Aggregate.items) in
     let is = ap step_of c.in-Aggregate.is ∙ step_of-Aggregate c.in-Aggregate.items in
     let whole = begun-by (pipe_of c.args.pipe.now) c.steps-all.result.now c.index-all-0.result (map agg_of c.in-Aggregate.items) c.steps-all.ensures.tree c.steps-all.ensures.some c.index-all-0.is is in
     let r = c.requires.ready in
     let b = begun whole r.2 in
-    subst (StepReadyFrom x c.args.root.now s) (sym c.at-placed.ensures.value) (r.0, b.between, b.first)
+    (r.0, b.between, b.first)
 
 pub run_at-run_steps-requires-clause-ready : goal.run_at-run_steps-requires-clause-ready
 run_at-run_steps-requires-clause-ready g t c κs within =
@@ -183,7 +191,7 @@ run_at-run_steps-requires-clause-ready g t c κs within =
     let S = c.requires.ready.0 in
     let R = c.requires.ready.2 in
     let b = begun whole R in
-    let m = ap (step_mean x.world (readings x.customs) S s) (sym c.at-placed.ensures.value) ∙ c.in_ok-made-in-Aggregate.ensures.mean S R.root_is in
+    let m = c.in_ok-made-in-Aggregate.ensures.mean S R.root_is in
     let after = subst (λ s. LeadsTo s c.args.root.now c.root_after-root.result) is c.root_after-root.ensures.value in
     let run = b.next c.in_ok-made-in-Aggregate.made.items c.root_after-root.result (subst IsLoaded c.store.ensures.value c.data_is_loaded.ensures.value) m after in
     (b.between, c.requires.ready.1, run)
@@ -201,11 +209,11 @@ run_at-returns-in_err-made-in-Aggregate-clause-steps g t c = λ S S' R.
     let whole = begun-by (pipe_of c.args.pipe.now) c.steps-all.result.now c.index-all-0.result (map agg_of c.in-Aggregate.items) c.steps-all.ensures.tree c.steps-all.ensures.some c.index-all-0.is is in
     let b = begun whole R in
     let least = b.least in
-    let spent = c.aggregated.ensures.steps in
+    let spent = c.aggregated_at.ensures.steps in
     omega (arith, least, spent)
 
 pub run_at-returns-in_err-made-in-Aggregate-clause-grown : goal.run_at-returns-in_err-made-in-Aggregate-clause-grown
-run_at-returns-in_err-made-in-Aggregate-clause-grown g t c = omega (arith, c.aggregated.ensures.grown)
+run_at-returns-in_err-made-in-Aggregate-clause-grown g t c = omega (arith, c.aggregated_at.ensures.grown)
 
 pub run_at-returns-in_ok-made-in-Aggregate-clause-mean : goal.run_at-returns-in_ok-made-in-Aggregate-clause-mean
 run_at-returns-in_ok-made-in-Aggregate-clause-mean g t c = λ S S' R.
@@ -214,7 +222,7 @@ run_at-returns-in_ok-made-in-Aggregate-clause-mean g t c = λ S S' R.
     let is = ap step_of c.in-Aggregate.is ∙ step_of-Aggregate c.in-Aggregate.items in
     let whole = begun-by (pipe_of c.args.pipe.now) c.steps-all.result.now c.index-all-0.result (map agg_of c.in-Aggregate.items) c.steps-all.ensures.tree c.steps-all.ensures.some c.index-all-0.is is in
     let b = begun whole R in
-    let m = ap (step_mean x.world (readings x.customs) S s) (sym c.at-placed.ensures.value) ∙ c.in_ok-made-in-Aggregate.ensures.mean S R.root_is in
+    let m = c.in_ok-made-in-Aggregate.ensures.mean S R.root_is in
     let after = subst (λ s. LeadsTo s c.args.root.now c.root_after-root.result) is c.root_after-root.ensures.value in
     let run = b.next c.in_ok-made-in-Aggregate.made.items c.root_after-root.result (subst IsLoaded c.store.ensures.value c.data_is_loaded.ensures.value) m after in
     subst (Gives c.run_steps.result) (sym (b.means c.in_ok-made-in-Aggregate.made.items m)) (c.run_steps.ensures.mean b.between S' run)
@@ -226,16 +234,16 @@ run_at-returns-in_ok-made-in-Aggregate-clause-steps g t c = λ S S' R.
     let is = ap step_of c.in-Aggregate.is ∙ step_of-Aggregate c.in-Aggregate.items in
     let whole = begun-by (pipe_of c.args.pipe.now) c.steps-all.result.now c.index-all-0.result (map agg_of c.in-Aggregate.items) c.steps-all.ensures.tree c.steps-all.ensures.some c.index-all-0.is is in
     let b = begun whole R in
-    let m = ap (step_mean x.world (readings x.customs) S s) (sym c.at-placed.ensures.value) ∙ c.in_ok-made-in-Aggregate.ensures.mean S R.root_is in
+    let m = c.in_ok-made-in-Aggregate.ensures.mean S R.root_is in
     let after = subst (λ s. LeadsTo s c.args.root.now c.root_after-root.result) is c.root_after-root.ensures.value in
     let run = b.next c.in_ok-made-in-Aggregate.made.items c.root_after-root.result (subst IsLoaded c.store.ensures.value c.data_is_loaded.ensures.value) m after in
-    let spent = c.aggregated.ensures.steps in
+    let spent = c.aggregated_at.ensures.steps in
     let ran = c.run_steps.ensures.steps b.between S' run in
     let costs = b.costs c.in_ok-made-in-Aggregate.made.items m in
     omega (arith, spent, ran, costs)
 
 pub run_at-returns-in_ok-made-in-Aggregate-clause-grown : goal.run_at-returns-in_ok-made-in-Aggregate-clause-grown
-run_at-returns-in_ok-made-in-Aggregate-clause-grown g t c = omega (arith, c.aggregated.ensures.grown, c.run_steps.ensures.grown)
+run_at-returns-in_ok-made-in-Aggregate-clause-grown g t c = omega (arith, c.aggregated_at.ensures.grown, c.run_steps.ensures.grown)
 
 pub run_at-returns-in_err-copies-in_default-clause-steps : goal.run_at-returns-in_err-copies-in_default-clause-steps
 run_at-returns-in_err-copies-in_default-clause-steps g t c = λ S S' R. omega (arith, c.members.ensures.steps)
@@ -348,26 +356,26 @@ run_step-returns-in_err-compute-in-Compute-clause-steps g t c = λ S S' R.
 pub run_step-returns-in_err-compute-in-Compute-clause-grown : goal.run_step-returns-in_err-compute-in-Compute-clause-grown
 run_step-returns-in_err-compute-in-Compute-clause-grown g t c = omega (arith, c.compute.ensures.grown)
 
-pub run_step-returns-in-Compute-clause-mean :
-    goal.run_step-returns-in-Compute-clause-mean
-run_step-returns-in-Compute-clause-mean g t c = λ S S' R.
+pub run_step-returns-in_ok-compute-in-Compute-clause-mean :
+    goal.run_step-returns-in_ok-compute-in-Compute-clause-mean
+run_step-returns-in_ok-compute-in-Compute-clause-mean g t c = λ S S' R.
     let x = c.args.context.now in
     let l = c.args.rows.items in
     ap (λ s. step_mean x.world (readings x.customs) S s l) (ap step_of c.in-Compute.is ∙ step_of-Compute c.in-Compute.items) ∙ step_mean-Compute x.world (readings x.customs) S (map named_of c.in-Compute.items) l
     ∙ ap (λ xs. Some (map (λ i. extended i (new_columns x.world (map named_of xs) i)) l)) (sym c.as_slice-in-Compute.ensures.value)
     ∙ ap Some (sym c.in_ok-compute-in-Compute.ensures.rows)
 
-pub run_step-returns-in-Compute-clause-steps :
-    goal.run_step-returns-in-Compute-clause-steps
-run_step-returns-in-Compute-clause-steps g t c = λ S S' R.
+pub run_step-returns-in_ok-compute-in-Compute-clause-steps :
+    goal.run_step-returns-in_ok-compute-in-Compute-clause-steps
+run_step-returns-in_ok-compute-in-Compute-clause-steps g t c = λ S S' R.
     let x = c.args.context.now in
     let e = ap step_of c.in-Compute.is ∙ step_of-Compute c.in-Compute.items in
     let spent = c.compute.ensures.steps in
     let whole = ap (λ s. step_cost x.world (readings x.customs) S s c.args.rows.items) e ∙ compute-cost x.world (readings x.customs) S (map named_of c.in-Compute.items) c.args.rows.items in
     omega (arith, spent, whole)
 
-pub run_step-returns-in-Compute-clause-grown : goal.run_step-returns-in-Compute-clause-grown
-run_step-returns-in-Compute-clause-grown g t c = omega (arith, c.compute.ensures.grown)
+pub run_step-returns-in_ok-compute-in-Compute-clause-grown : goal.run_step-returns-in_ok-compute-in-Compute-clause-grown
+run_step-returns-in_ok-compute-in-Compute-clause-grown g t c = omega (arith, c.compute.ensures.grown)
 
 pub run_step-returns-in-OrderBy-clause-mean : goal.run_step-returns-in-OrderBy-clause-mean
 run_step-returns-in-OrderBy-clause-mean g t c = λ S S' R.
@@ -391,16 +399,16 @@ pub run_step-aggregated-requires-clause-ready : goal.run_step-aggregated-require
 run_step-aggregated-requires-clause-ready g t c κs within =
     let x = c.args.context.now in
     let e = ap step_of c.in-Aggregate.is ∙ step_of-Aggregate c.in-Aggregate.items in
-    subst (λ l. StepReadyFrom x c.args.root.now (tree.Step.Aggregate (map agg_of c.in-Aggregate.items)) l) (sym (c.all-all.ensures.value ∙ c.as_slice-in-Aggregate.ensures.value))
+    subst (λ l. StepReadyFrom x c.args.root.now (tree.Step.Aggregate (map agg_of c.in-Aggregate.items)) l) (sym (c.all-all.ensures.value ∙ c.of_rows-list-in-Aggregate.ensures.value ∙ c.as_slice-in-Aggregate.ensures.value))
     (subst (λ s. StepReadyFrom x c.args.root.now s c.args.rows.items) e c.requires.ready)
 
-pub run_step-returns-clause-mean :
-    goal.run_step-returns-clause-mean
-run_step-returns-clause-mean g t c = λ S S' R.
+pub run_step-returns-in_ok-aggregated-in-Aggregate-clause-mean :
+    goal.run_step-returns-in_ok-aggregated-in-Aggregate-clause-mean
+run_step-returns-in_ok-aggregated-in-Aggregate-clause-mean g t c = λ S S' R.
     let x = c.args.context.now in
     let s = tree.Step.Aggregate (map agg_of c.in-Aggregate.items) in
     ap (λ s. step_mean x.world (readings x.customs) S s c.args.rows.items) (ap step_of c.in-Aggregate.is ∙ step_of-Aggregate c.in-Aggregate.items)
-    ∙ ap (step_mean x.world (readings x.customs) S s) (sym (c.all-all.ensures.value ∙ c.as_slice-in-Aggregate.ensures.value))
+    ∙ ap (step_mean x.world (readings x.customs) S s) (sym (c.all-all.ensures.value ∙ c.of_rows-list-in-Aggregate.ensures.value ∙ c.as_slice-in-Aggregate.ensures.value))
     ∙ c.in_ok-aggregated-in-Aggregate.ensures.mean S R.root_is
 
 pub run_step-returns-in_err-aggregated-in-Aggregate-clause-steps :
@@ -415,17 +423,17 @@ run_step-returns-in_err-aggregated-in-Aggregate-clause-steps g t c = λ S S' R.
 pub run_step-returns-in_err-aggregated-in-Aggregate-clause-grown : goal.run_step-returns-in_err-aggregated-in-Aggregate-clause-grown
 run_step-returns-in_err-aggregated-in-Aggregate-clause-grown g t c = omega (arith, c.aggregated.ensures.grown)
 
-pub run_step-returns-clause-steps :
-    goal.run_step-returns-clause-steps
-run_step-returns-clause-steps g t c = λ S S' R.
+pub run_step-returns-in_ok-aggregated-in-Aggregate-clause-steps :
+    goal.run_step-returns-in_ok-aggregated-in-Aggregate-clause-steps
+run_step-returns-in_ok-aggregated-in-Aggregate-clause-steps g t c = λ S S' R.
     let x = c.args.context.now in
     let e = ap step_of c.in-Aggregate.is ∙ step_of-Aggregate c.in-Aggregate.items in
     let spent = c.aggregated.ensures.steps in
     let whole = ap (λ s. step_cost x.world (readings x.customs) S s c.args.rows.items) e ∙ aggregate-cost x.world (readings x.customs) S (map agg_of c.in-Aggregate.items) c.args.rows.items in
     omega (arith, spent, whole)
 
-pub run_step-returns-clause-grown : goal.run_step-returns-clause-grown
-run_step-returns-clause-grown g t c = omega (arith, c.aggregated.ensures.grown)
+pub run_step-returns-in_ok-aggregated-in-Aggregate-clause-grown : goal.run_step-returns-in_ok-aggregated-in-Aggregate-clause-grown
+run_step-returns-in_ok-aggregated-in-Aggregate-clause-grown g t c = omega (arith, c.aggregated.ensures.grown)
 
 -- ---- one group
 
@@ -437,6 +445,9 @@ run_group-run_at-requires-clause-within g t c κs within =
     let at = slice_get-get_or level.1 c.args.k ([], []) c.requires.within in
     let places = read-places level.1 c.args.k d c.places-places.result.now at c.places-places.ensures in
     subst (λ ns. IsTrue (list_all (λ k. nat_lt k (length l)) ns)) (sym places) ((c.requires.ready.2).within c.args.k d at)
+
+pub run_group-run_at-requires-clause-lists : goal.run_group-run_at-requires-clause-lists
+run_group-run_at-requires-clause-lists g t c κs within = subst (λ x. AreFirstLists x.world c.args.rows.now (pipe_of c.args.pipe.now) c.args.lists.now) (sym c.alone-inner.ensures) c.requires.lists
 
 pub run_group-run_at-requires-clause-ready : goal.run_group-run_at-requires-clause-ready
 run_group-run_at-requires-clause-ready g t c κs within = subst (λ x. ReadyFrom x c.args.root.now (pipe_of c.args.pipe.now) (at_places c.args.rows.now c.places-places.result.now)) (sym c.alone-inner.ensures) c.group_ready.ensures
@@ -729,141 +740,176 @@ run_levels-returns-clause-grown g t c = omega (arith, c.loop-i.invariant.0)
 
 -- ---- a grouping
 
-pub run_step-grouping_levels-requires-clause-of : goal.run_step-grouping_levels-requires-clause-of
-run_step-grouping_levels-requires-clause-of g t c κs within =
-    let r = c.requires.ready in
-    subst (λ l. IsTrue (all_of c.args.context.now.world l)) (sym c.as_slice-list.ensures.value) (all-fit-of c.args.context.now.world r.0 c.args.rows.items (r.2).runs.fit)
+pub run_step-run_grouping-requires-clause-ready : goal.run_step-run_grouping-requires-clause-ready
+run_step-run_grouping-requires-clause-ready g t c κs within =
+    ready-same c.args.context.now c.args.root.now _ _ _ _ refl (sym (c.of_rows-list.ensures.value ∙ c.as_slice.ensures.value)) c.requires.ready
 
-pub run_step-grouping_levels-requires-clause-ready : goal.run_step-grouping_levels-requires-clause-ready
-run_step-grouping_levels-requires-clause-ready g t c κs within =
-    let r = c.requires.ready in
-    let e = ap step_of c.in-GroupBy.is ∙ step_of-GroupBy c.in-GroupBy.keys c.in-GroupBy.inner in
-    keys-ready c.args.context.now c.args.root.now r.0 r.1 (keys_of c.in-GroupBy.keys) (inner_of (option_map pipe_of c.in-GroupBy.inner)) c.args.rows.items
-    (subst (λ s. StepRunsFrom c.args.context.now c.args.root.now r.0 r.1 s c.args.rows.items) e r.2)
+pub run_step-run_grouping-requires-clause-named : goal.run_step-run_grouping-requires-clause-named
+run_step-run_grouping-requires-clause-named g t c κs within = c.requires.named
 
-pub run_step-grouping_levels-requires-clause-named : goal.run_step-grouping_levels-requires-clause-named
-run_step-grouping_levels-requires-clause-named g t c κs within =
+pub run_step-returns-in-GroupBy-clause-mean : goal.run_step-returns-in-GroupBy-clause-mean
+run_step-returns-in-GroupBy-clause-mean g t c = λ S S' R.
+    gives-same c.run_grouping.result refl (sym (c.of_rows-list.ensures.value ∙ c.as_slice.ensures.value)) R (c.run_grouping.ensures.mean S S')
+
+pub run_step-returns-in-GroupBy-clause-steps : goal.run_step-returns-in-GroupBy-clause-steps
+run_step-returns-in-GroupBy-clause-steps g t c = λ S S' R.
     let x = c.args.context.now in
-    let e = ap step_of c.in-GroupBy.is ∙ step_of-GroupBy c.in-GroupBy.keys c.in-GroupBy.inner in
-    ready-front x (keys_hierarchies (keys_of c.in-GroupBy.keys)) (inner_hierarchies (inner_of (option_map pipe_of c.in-GroupBy.inner))) (subst (λ s. AreReady x (step_hierarchies s)) e c.requires.named)
+    let rows : c.args.rows.items ≡ c.of_rows-list.result = sym (c.of_rows-list.ensures.value ∙ c.as_slice.ensures.value) in
+    let s = step_of c.args.step.now in
+    let spent = c.run_grouping.ensures.steps S S' (runs-same x c.args.root.now S S' s s c.args.rows.items c.of_rows-list.result refl rows R) in
+    let whole = cost-same x S s s c.args.rows.items c.of_rows-list.result refl rows in
+    omega (arith, spent, whole)
 
-pub run_step-returns-in_err-levels-in-GroupBy-clause-mean : goal.run_step-returns-in_err-levels-in-GroupBy-clause-mean
-run_step-returns-in_err-levels-in-GroupBy-clause-mean g t c = λ S S' R.
+pub run_step-returns-in-GroupBy-clause-grown : goal.run_step-returns-in-GroupBy-clause-grown
+run_step-returns-in-GroupBy-clause-grown g t c = omega (arith, c.run_grouping.ensures.grown)
+
+pub run_grouping-grouping_levels-requires-clause-of : goal.run_grouping-grouping_levels-requires-clause-of
+run_grouping-grouping_levels-requires-clause-of g t c κs within =
+    let r = c.requires.ready in
+    all-fit-of c.args.context.now.world r.0 c.args.rows.now (r.2).runs.fit
+
+pub run_grouping-grouping_levels-requires-clause-ready : goal.run_grouping-grouping_levels-requires-clause-ready
+run_grouping-grouping_levels-requires-clause-ready g t c κs within =
+    let r = c.requires.ready in
+    keys-ready c.args.context.now c.args.root.now r.0 r.1 (keys_of c.in-GroupBy.keys) (inner_of (option_map pipe_of c.in-GroupBy.inner)) c.args.rows.now
+    (subst (λ s. StepRunsFrom c.args.context.now c.args.root.now r.0 r.1 s c.args.rows.now) (ap step_of c.in-GroupBy.is ∙ step_of-GroupBy c.in-GroupBy.keys c.in-GroupBy.inner) r.2)
+
+pub run_grouping-grouping_levels-requires-clause-named : goal.run_grouping-grouping_levels-requires-clause-named
+run_grouping-grouping_levels-requires-clause-named g t c κs within =
     let x = c.args.context.now in
-    let l = c.as_slice-list.result.now in
+    ready-front x (keys_hierarchies (keys_of c.in-GroupBy.keys)) (inner_hierarchies (inner_of (option_map pipe_of c.in-GroupBy.inner))) (subst (λ s. AreReady x (step_hierarchies s)) (ap step_of c.in-GroupBy.is ∙ step_of-GroupBy c.in-GroupBy.keys c.in-GroupBy.inner) c.requires.named)
+
+pub run_grouping-returns-in_err-levels-in-GroupBy-clause-mean : goal.run_grouping-returns-in_err-levels-in-GroupBy-clause-mean
+run_grouping-returns-in_err-levels-in-GroupBy-clause-mean g t c = λ S S' R.
+    let x = c.args.context.now in
+    let l = c.args.rows.now in
     let ks = keys_of c.in-GroupBy.keys in
     let T = inner_of (option_map pipe_of c.in-GroupBy.inner) in
-    let e = ap step_of c.in-GroupBy.is ∙ step_of-GroupBy c.in-GroupBy.keys c.in-GroupBy.inner in
     let p = err_from_is_err_and c.from_residual.result c.from_residual.ensures.1 in
-    let whole = step-mean-on x S e c.as_slice-list.ensures.value in
+    let whole = step-mean-on x S (ap step_of c.in-GroupBy.is ∙ step_of-GroupBy c.in-GroupBy.keys c.in-GroupBy.inner) refl in
     rw (p.1, p.2) (subst (Gives (Err c.in_err-levels-in-GroupBy.field-0.0)) (sym whole) (levels-err x.world (readings x.customs) S ks T l c.in_err-levels-in-GroupBy.field-0.0 c.in_err-levels-in-GroupBy.ensures.levels))
 
-pub run_step-returns-in_err-levels-in-GroupBy-clause-steps : goal.run_step-returns-in_err-levels-in-GroupBy-clause-steps
-run_step-returns-in_err-levels-in-GroupBy-clause-steps g t c = λ S S' R.
+pub run_grouping-returns-in_err-levels-in-GroupBy-clause-steps : goal.run_grouping-returns-in_err-levels-in-GroupBy-clause-steps
+run_grouping-returns-in_err-levels-in-GroupBy-clause-steps g t c = λ S S' R.
     let x = c.args.context.now in
-    let l = c.as_slice-list.result.now in
+    let l = c.args.rows.now in
     let ks = keys_of c.in-GroupBy.keys in
     let T = inner_of (option_map pipe_of c.in-GroupBy.inner) in
-    let e = ap step_of c.in-GroupBy.is ∙ step_of-GroupBy c.in-GroupBy.keys c.in-GroupBy.inner in
     let spent = c.grouping_levels.ensures.steps in
     let least = keys-least x.world (readings x.customs) S ks T l in
-    let whole = step-cost-on x S e c.as_slice-list.ensures.value in
+    let whole = step-cost-on x S {l = l} (ap step_of c.in-GroupBy.is ∙ step_of-GroupBy c.in-GroupBy.keys c.in-GroupBy.inner) refl in
     omega (arith, spent, least, whole)
 
-pub run_step-returns-in_err-levels-in-GroupBy-clause-grown : goal.run_step-returns-in_err-levels-in-GroupBy-clause-grown
-run_step-returns-in_err-levels-in-GroupBy-clause-grown g t c = omega (arith, c.grouping_levels.ensures.grown)
+pub run_grouping-returns-in_err-levels-in-GroupBy-clause-grown : goal.run_grouping-returns-in_err-levels-in-GroupBy-clause-grown
+run_grouping-returns-in_err-levels-in-GroupBy-clause-grown g t c = omega (arith, c.grouping_levels.ensures.grown)
 
-pub run_step-run_levels-requires-clause-ready : goal.run_step-run_levels-requires-clause-ready
-run_step-run_levels-requires-clause-ready g t c κs within =
+pub run_grouping-first_lists-requires-after_bounds : goal.run_grouping-first_lists-requires-after_bounds
+run_grouping-first_lists-requires-after_bounds g t c κs within =
+    let r = c.requires.ready in
+    all-fit-of c.args.context.now.world r.0 c.args.rows.now (r.2).runs.fit
+
+pub run_grouping-returns-in_err-lists-in-Some-clause-steps : goal.run_grouping-returns-in_err-lists-in-Some-clause-steps
+run_grouping-returns-in_err-lists-in-Some-clause-steps g t c = λ S S' R.
+    let x = c.args.context.now in
+    let spent = c.grouping_levels.ensures.steps in
+    let least = keys-least x.world (readings x.customs) S (keys_of c.in-GroupBy.keys) (inner_of (option_map pipe_of c.in-GroupBy.inner)) c.args.rows.now in
+    let whole = step-cost-on x S {l = c.args.rows.now} (ap step_of c.in-GroupBy.is ∙ step_of-GroupBy c.in-GroupBy.keys c.in-GroupBy.inner) refl in
+    omega (arith, spent, least, whole)
+
+pub run_grouping-run_levels-requires-clause-lists : goal.run_grouping-run_levels-requires-clause-lists
+run_grouping-run_levels-requires-clause-lists g t c κs within =
+    subst (AreFirstLists c.args.context.now.world c.args.rows.now (pipe_of c.in-Some.pipe)) (sym c.as_slice-lists.ensures.value) c.in_ok-lists-in-Some.ensures
+
+pub run_grouping-run_levels-requires-clause-ready : goal.run_grouping-run_levels-requires-clause-ready
+run_grouping-run_levels-requires-clause-ready g t c κs within =
     let r = c.requires.ready in
     let x = c.args.context.now in
-    let l = c.as_slice-list.result.now in
+    let l = c.args.rows.now in
     let ks = keys_of c.in-GroupBy.keys in
     let e = ap step_of c.in-GroupBy.is ∙ step_of-GroupBy c.in-GroupBy.keys c.in-GroupBy.inner ∙ ap (λ o. tree.Step.GroupBy ks (inner_of (option_map pipe_of o))) c.in-Some.is in
-    let u = grouping-run c.in_ok-levels-in-GroupBy.levels (subst IsLoaded c.store-store.ensures.value c.data_is_loaded.ensures.value) c.in_ok-levels-in-GroupBy.ensures.levels c.as_slice.ensures.value (step-runs-on e c.as_slice-list.ensures.value r.2) in
+    let u = grouping-run c.in_ok-levels-in-GroupBy.levels (subst IsLoaded c.store.ensures.value c.data_is_loaded.ensures.value) c.in_ok-levels-in-GroupBy.ensures.levels c.as_slice-levels.ensures.value (step-runs-on e refl r.2) in
     (r.0, u.shape, u.runs)
 
-pub run_step-run_levels-requires-clause-named : goal.run_step-run_levels-requires-clause-named
-run_step-run_levels-requires-clause-named g t c κs within =
+pub run_grouping-run_levels-requires-clause-named : goal.run_grouping-run_levels-requires-clause-named
+run_grouping-run_levels-requires-clause-named g t c κs within =
     let x = c.args.context.now in
     let ks = keys_of c.in-GroupBy.keys in
     let e = ap step_of c.in-GroupBy.is ∙ step_of-GroupBy c.in-GroupBy.keys c.in-GroupBy.inner ∙ ap (λ o. tree.Step.GroupBy ks (inner_of (option_map pipe_of o))) c.in-Some.is in
     ready-back x (keys_hierarchies ks) (inner_hierarchies (tree.OptPipe.SomePipe (pipe_of c.in-Some.pipe))) (subst (λ s. AreReady x (step_hierarchies s)) e c.requires.named)
 
-pub run_step-key_rows-requires : goal.run_step-key_rows-requires
-run_step-key_rows-requires g t c =
+pub run_grouping-key_rows-requires : goal.run_grouping-key_rows-requires
+run_grouping-key_rows-requires g t c =
     let r = c.requires.ready in
     let x = c.args.context.now in
-    let l = c.as_slice-list.result.now in
+    let l = c.args.rows.now in
     let ks = keys_of c.in-GroupBy.keys in
-    let e = ap step_of c.in-GroupBy.is ∙ step_of-GroupBy c.in-GroupBy.keys c.in-GroupBy.inner in
-    record { differ = (levels-found c.in_ok-levels-in-GroupBy.levels (step-runs-on e c.as_slice-list.ensures.value r.2) c.in_ok-levels-in-GroupBy.ensures.levels c.as_slice-in-None.ensures.value).differ }
+    record { differ = (levels-found c.in_ok-levels-in-GroupBy.levels (step-runs-on (ap step_of c.in-GroupBy.is ∙ step_of-GroupBy c.in-GroupBy.keys c.in-GroupBy.inner) refl r.2) c.in_ok-levels-in-GroupBy.ensures.levels c.as_slice.ensures.value).differ }
 
-pub run_step-returns-in-Some-clause-mean : goal.run_step-returns-in-Some-clause-mean
-run_step-returns-in-Some-clause-mean g t c = λ S S' R.
+pub run_grouping-returns-in-Some-clause-mean : goal.run_grouping-returns-in-Some-clause-mean
+run_grouping-returns-in-Some-clause-mean g t c = λ S S' R.
     let x = c.args.context.now in
-    let l = c.as_slice-list.result.now in
+    let l = c.args.rows.now in
     let ks = keys_of c.in-GroupBy.keys in
     let e = ap step_of c.in-GroupBy.is ∙ step_of-GroupBy c.in-GroupBy.keys c.in-GroupBy.inner ∙ ap (λ o. tree.Step.GroupBy ks (inner_of (option_map pipe_of o))) c.in-Some.is in
-    let u = grouping-run c.in_ok-levels-in-GroupBy.levels (subst IsLoaded c.store-store.ensures.value c.data_is_loaded.ensures.value) c.in_ok-levels-in-GroupBy.ensures.levels c.as_slice.ensures.value (step-runs-on e c.as_slice-list.ensures.value R) in
-    subst (Gives c.run_levels.result) (sym u.means ∙ sym (step-mean-on x S e c.as_slice-list.ensures.value)) (c.run_levels.ensures.mean S u.shape u.runs)
+    let u = grouping-run c.in_ok-levels-in-GroupBy.levels (subst IsLoaded c.store.ensures.value c.data_is_loaded.ensures.value) c.in_ok-levels-in-GroupBy.ensures.levels c.as_slice-levels.ensures.value (step-runs-on e refl R) in
+    subst (Gives c.run_levels.result) (sym u.means ∙ sym (step-mean-on x S e refl)) (c.run_levels.ensures.mean S u.shape u.runs)
 
-pub run_step-returns-in-Some-clause-steps : goal.run_step-returns-in-Some-clause-steps
-run_step-returns-in-Some-clause-steps g t c = λ S S' R.
+pub run_grouping-returns-in-Some-clause-steps : goal.run_grouping-returns-in-Some-clause-steps
+run_grouping-returns-in-Some-clause-steps g t c = λ S S' R.
     let x = c.args.context.now in
-    let l = c.as_slice-list.result.now in
+    let l = c.args.rows.now in
     let ks = keys_of c.in-GroupBy.keys in
     let e = ap step_of c.in-GroupBy.is ∙ step_of-GroupBy c.in-GroupBy.keys c.in-GroupBy.inner ∙ ap (λ o. tree.Step.GroupBy ks (inner_of (option_map pipe_of o))) c.in-Some.is in
-    let u = grouping-run c.in_ok-levels-in-GroupBy.levels (subst IsLoaded c.store-store.ensures.value c.data_is_loaded.ensures.value) c.in_ok-levels-in-GroupBy.ensures.levels c.as_slice.ensures.value (step-runs-on e c.as_slice-list.ensures.value R) in
+    let u = grouping-run c.in_ok-levels-in-GroupBy.levels (subst IsLoaded c.store.ensures.value c.data_is_loaded.ensures.value) c.in_ok-levels-in-GroupBy.ensures.levels c.as_slice-levels.ensures.value (step-runs-on e refl R) in
     let found = c.grouping_levels.ensures.steps in
     let spent = c.run_levels.ensures.steps S u.shape u.runs in
     let least = u.costs in
-    let whole = step-cost-on x S e c.as_slice-list.ensures.value in
+    let whole = step-cost-on x S {l = l} e refl in
     omega (arith, found, spent, least, whole)
 
-pub run_step-returns-in-Some-clause-grown : goal.run_step-returns-in-Some-clause-grown
-run_step-returns-in-Some-clause-grown g t c = omega (arith, c.grouping_levels.ensures.grown, c.run_levels.ensures.grown)
+pub run_grouping-returns-in-Some-clause-grown : goal.run_grouping-returns-in-Some-clause-grown
+run_grouping-returns-in-Some-clause-grown g t c = omega (arith, c.grouping_levels.ensures.grown, c.run_levels.ensures.grown)
 
-pub run_step-returns-in-GroupBy-clause-mean : goal.run_step-returns-in-GroupBy-clause-mean
-run_step-returns-in-GroupBy-clause-mean g t c = λ S S' R.
+pub run_grouping-returns-in-GroupBy-clause-mean : goal.run_grouping-returns-in-GroupBy-clause-mean
+run_grouping-returns-in-GroupBy-clause-mean g t c = λ S S' R.
     let x = c.args.context.now in
-    let l = c.as_slice-list.result.now in
+    let l = c.args.rows.now in
     let ks = keys_of c.in-GroupBy.keys in
     let e = ap step_of c.in-GroupBy.is ∙ step_of-GroupBy c.in-GroupBy.keys c.in-GroupBy.inner ∙ ap (λ o. tree.Step.GroupBy ks (inner_of (option_map pipe_of o))) c.in-None.is in
-    let u = levels-found c.in_ok-levels-in-GroupBy.levels (step-runs-on e c.as_slice-list.ensures.value R) c.in_ok-levels-in-GroupBy.ensures.levels c.as_slice-in-None.ensures.value in
-    step-mean-on x S e c.as_slice-list.ensures.value ∙ u.rows ∙ ap Some (sym c.in_ok-key_rows-in-None.ensures.rows)
+    let u = levels-found c.in_ok-levels-in-GroupBy.levels (step-runs-on e refl R) c.in_ok-levels-in-GroupBy.ensures.levels c.as_slice.ensures.value in
+    step-mean-on x S e refl ∙ u.rows ∙ ap Some (sym c.in_ok-key_rows-in-None.ensures.rows)
 
-pub run_step-returns-in_err-key_rows-in-None-clause-steps : goal.run_step-returns-in_err-key_rows-in-None-clause-steps
-run_step-returns-in_err-key_rows-in-None-clause-steps g t c = λ S S' R.
+pub run_grouping-returns-in_err-key_rows-in-None-clause-steps : goal.run_grouping-returns-in_err-key_rows-in-None-clause-steps
+run_grouping-returns-in_err-key_rows-in-None-clause-steps g t c = λ S S' R.
     let x = c.args.context.now in
-    let l = c.as_slice-list.result.now in
+    let l = c.args.rows.now in
     let ks = keys_of c.in-GroupBy.keys in
     let e = ap step_of c.in-GroupBy.is ∙ step_of-GroupBy c.in-GroupBy.keys c.in-GroupBy.inner ∙ ap (λ o. tree.Step.GroupBy ks (inner_of (option_map pipe_of o))) c.in-None.is in
-    let u = levels-found c.in_ok-levels-in-GroupBy.levels (step-runs-on e c.as_slice-list.ensures.value R) c.in_ok-levels-in-GroupBy.ensures.levels c.as_slice-in-None.ensures.value in
+    let u = levels-found c.in_ok-levels-in-GroupBy.levels (step-runs-on e refl R) c.in_ok-levels-in-GroupBy.ensures.levels c.as_slice.ensures.value in
     let found = c.grouping_levels.ensures.steps in
     let spent = c.key_rows.ensures.steps in
     let least = u.costs in
-    let whole = step-cost-on x S e c.as_slice-list.ensures.value in
+    let whole = step-cost-on x S {l = l} e refl in
     omega (arith, found, spent, least, whole)
 
-pub run_step-returns-in_err-key_rows-in-None-clause-grown : goal.run_step-returns-in_err-key_rows-in-None-clause-grown
-run_step-returns-in_err-key_rows-in-None-clause-grown g t c = omega (arith, c.grouping_levels.ensures.grown, c.key_rows.ensures.grown)
+pub run_grouping-returns-in_err-key_rows-in-None-clause-grown : goal.run_grouping-returns-in_err-key_rows-in-None-clause-grown
+run_grouping-returns-in_err-key_rows-in-None-clause-grown g t c = omega (arith, c.grouping_levels.ensures.grown, c.key_rows.ensures.grown)
 
-pub run_step-returns-in-GroupBy-clause-steps : goal.run_step-returns-in-GroupBy-clause-steps
-run_step-returns-in-GroupBy-clause-steps g t c = λ S S' R.
+pub run_grouping-returns-in-GroupBy-clause-steps : goal.run_grouping-returns-in-GroupBy-clause-steps
+run_grouping-returns-in-GroupBy-clause-steps g t c = λ S S' R.
     let x = c.args.context.now in
-    let l = c.as_slice-list.result.now in
+    let l = c.args.rows.now in
     let ks = keys_of c.in-GroupBy.keys in
     let e = ap step_of c.in-GroupBy.is ∙ step_of-GroupBy c.in-GroupBy.keys c.in-GroupBy.inner ∙ ap (λ o. tree.Step.GroupBy ks (inner_of (option_map pipe_of o))) c.in-None.is in
-    let u = levels-found c.in_ok-levels-in-GroupBy.levels (step-runs-on e c.as_slice-list.ensures.value R) c.in_ok-levels-in-GroupBy.ensures.levels c.as_slice-in-None.ensures.value in
+    let u = levels-found c.in_ok-levels-in-GroupBy.levels (step-runs-on e refl R) c.in_ok-levels-in-GroupBy.ensures.levels c.as_slice.ensures.value in
     let found = c.grouping_levels.ensures.steps in
     let spent = c.key_rows.ensures.steps in
     let least = u.costs in
-    let whole = step-cost-on x S e c.as_slice-list.ensures.value in
+    let whole = step-cost-on x S {l = l} e refl in
     omega (arith, found, spent, least, whole)
 
-pub run_step-returns-in-GroupBy-clause-grown : goal.run_step-returns-in-GroupBy-clause-grown
-run_step-returns-in-GroupBy-clause-grown g t c = omega (arith, c.grouping_levels.ensures.grown, c.key_rows.ensures.grown)
+pub run_grouping-returns-in-GroupBy-clause-grown : goal.run_grouping-returns-in-GroupBy-clause-grown
+run_grouping-returns-in-GroupBy-clause-grown g t c = omega (arith, c.grouping_levels.ensures.grown, c.key_rows.ensures.grown)
 
 -- ---- a selection
 

@@ -34,6 +34,10 @@ returns-in_err-nodes g c = λ f at.
     let q = err_from_is_err_and c.from_residual-in_err-nodes.result c.from_residual-in_err-nodes.ensures.1 in
     rw (q.1, q.2) (path-err (λ (v : Vec (Option ℕ)). v.items ≡ map (node_in w s p) l) w f (plain_paths (keys_of c.args.keys.now)) p c.args.shown.now l e given)
 
+pub nodes_by_keys-requires-clause-keys : goal.nodes_by_keys-requires-clause-keys
+nodes_by_keys-requires-clause-keys g c =
+    c.as_slice-own.ensures.value ∙ c.in_ok-own.ensures ∙ ap (λ (w : World). path_values w c.args.path.now c.args.rows.now) (sym c.store-store.ensures.value)
+
 pub returns-in_err-lists : goal.returns-in_err-lists
 returns-in_err-lists g c = λ f at.
     let w = c.args.context.now.world in
