@@ -15,12 +15,14 @@ ghost use Rattle.pipe_run.specs.Costs.{cost, step_cost};
 ghost use Rattle.frame_run.specs.HeldRows as spec;
 
 use crate::frame_aggregates::frame_aggregated;
+use crate::frame_steps::{frame_computed, frame_ordered, frame_selected};
 use apply_ast::{Expr, Pipe, Step};
 use apply_meaning::{Row, RunRefused, Steps, data_is_loaded, is_plain_step};
 use edm_model::TypeId;
 use par_stages::{Gate, workers_for};
-use pipe_run::{Context, root_after, run_step};
+use pipe_run::{Context, root_after, run_grouping, run_step};
 use row_frames::Frame;
+use row_values::RowList;
 use std::alloc::{AllocError, Global};
 use std::sync::ledger::Ledger;
 use std::thread::Threads;
@@ -152,12 +154,22 @@ fn run_on_frame<R: Threads + Sync, G: Gate, L: Ledger>(
             }
             as_frame(frame_filter(alloc, context, e, frame))
         }
+        Step::TopBy(top) => as_frame(frame_selected(alloc, context, root, top, frame)),
+        Step::Compute(items) => {
+            let frame = frame_computed(alloc, context, root, items, frame)?;
+            Ok(Held::Frame(frame))
+        }
+        Step::OrderBy(items) => as_frame(frame_ordered(alloc, context.store(), items, frame)),
         Step::Aggregate(items) => {
             if !is_plain_step(step) {
                 return run_on_rows(alloc, context, root, step, frame, steps);
             }
             let made = frame_aggregated(alloc, context, root, items, &frame, steps)?;
             Ok(Held::Rows(made))
+        }
+        Step::GroupBy(..) => {
+            let list = RowList::of_frame(&frame);
+            as_held(run_grouping(alloc, context, root, step, &list, steps))
         }
         _ => run_on_rows(alloc, context, root, step, frame, steps),
     }

@@ -1,17 +1,20 @@
-use Rattle.std.proofs.Common.{◌∙◌, ap, sym, subst, map, Some, arith}
+use Rattle.std.proofs.Common.{◌≡◌, ◌∙◌, ap, refl, sym, subst, map, IsTrue, Some, arith}
 use Rattle.std.proofs.lemmas.Result.{err_from_is_err_and}
-use Rattle.apply_ast.specs.Views.{agg_of, expr_of, step_of}
-use Rattle.apply_ast.proofs.ViewEquations.{step_of-Aggregate, step_of-Filter, step_of-Identity, step_of-Skip, step_of-Top}
+use Rattle.apply_ast.specs.Views.{agg_of, expr_of, item_of, named_of, step_of, top_of}
+use Rattle.apply_ast.proofs.ViewEquations.{step_of-Aggregate, step_of-Compute, step_of-Filter, step_of-Identity, step_of-OrderBy, step_of-Skip, step_of-Top, step_of-TopBy}
 use Rattle.context_typing.specs.Readings.{readings}
-use Rattle.apply_meaning.specs.Meaning.{step_mean}
-use Rattle.apply_meaning.specs.Running.{is_plain_step}
-use Rattle.apply_meaning.proofs.MeaningEquations.{step_mean-Filter, step_mean-Identity, step_mean-Skip, step_mean-Top}
+use Rattle.edm_values.specs.Lists.{sorted}
+use Rattle.edm_data.specs.Worlds.{World}
+use Rattle.apply_meaning.specs.Meaning.{order_before, order_values, refused_at_beyond, step_mean}
+use Rattle.apply_meaning.specs.Running.{all_of, is_plain_step}
+use Rattle.apply_meaning.proofs.MeaningEquations.{step_mean-Compute, step_mean-Filter, step_mean-Identity, step_mean-OrderBy, step_mean-Skip, step_mean-Top, step_mean-TopBy}
 use Rattle.apply_meaning.proofs.RunLemmas.{all-fit-of}
 use Rattle.row_frames.specs.Frames.{GivesFrame}
-use Rattle.pipe_run.specs.Conditions.{StepReadyFrom}
+use Rattle.hier_states.specs.NamedHierarchies.{step_hierarchies}
+use Rattle.pipe_run.specs.Conditions.{AreReady, StepReadyFrom}
 use Rattle.pipe_run.specs.Costs.{step_cost}
 use Rattle.frame_run.proofs.HeldLemmas.{made-least, owed-least}
-use Rattle.pipe_run.proofs.RunLemmas.{aggregate-cost}
+use Rattle.pipe_run.proofs.RunLemmas.{aggregate-cost, cost-same, gives-same, ready-same, runs-same}
 use Rattle.frame_run.proofs.held.run_on_frame.Goals as goal
 
 pub frame_filter-requires-after_bounds : goal.frame_filter-requires-after_bounds
@@ -83,7 +86,7 @@ returns-in_err-made-in-Aggregate-clause-steps g c = λ S S' R.
     let e = ap step_of c.in-Aggregate.is ∙ step_of-Aggregate c.in-Aggregate.items in
     let spent = c.frame_aggregated.ensures.steps in
     let whole = ap (λ s. step_cost x.world (readings x.customs) S s c.args.frame) e ∙ aggregate-cost x.world (readings x.customs) S (map agg_of c.in-Aggregate.items) c.args.frame in
-    let p = err_from_is_err_and c.from_residual.result c.from_residual.ensures.1 in
+    let p = err_from_is_err_and c.from_residual-in_err-made-in-Aggregate.result c.from_residual-in_err-made-in-Aggregate.ensures.1 in
     rw p.1 (omega (arith, spent, whole))
 
 pub returns-in_ok-made-in-Aggregate-clause-steps : goal.returns-in_ok-made-in-Aggregate-clause-steps
@@ -93,3 +96,93 @@ returns-in_ok-made-in-Aggregate-clause-steps g c = λ S S' R.
     let spent = c.frame_aggregated.ensures.steps in
     let whole = ap (λ s. step_cost x.world (readings x.customs) S s c.args.frame) e ∙ aggregate-cost x.world (readings x.customs) S (map agg_of c.in-Aggregate.items) c.args.frame in
     omega (arith, spent, whole)
+
+-- ---- a grouping
+
+pub run_grouping-requires-clause-ready : goal.run_grouping-requires-clause-ready
+run_grouping-requires-clause-ready g c κs within =
+    let s = step_of c.args.step.now in
+    ready-same c.args.context.now c.args.root.now s s c.args.frame c.of_frame-list.result refl (sym c.of_frame-list.ensures.value) c.requires.ready
+
+pub run_grouping-requires-clause-named : goal.run_grouping-requires-clause-named
+run_grouping-requires-clause-named g c κs within = c.requires.named
+
+pub returns-in-GroupBy-clause-mean : goal.returns-in-GroupBy-clause-mean
+returns-in-GroupBy-clause-mean g c = λ S S' R.
+    let x = c.args.context.now in
+    c.as_held.ensures.gives (step_mean x.world (readings x.customs) S (step_of c.args.step.now) c.args.frame)
+    (gives-same c.run_grouping.result refl (sym c.of_frame-list.ensures.value) R (c.run_grouping.ensures.mean S S'))
+
+pub returns-in-GroupBy-clause-steps : goal.returns-in-GroupBy-clause-steps
+returns-in-GroupBy-clause-steps g c = λ S S' R.
+    let x = c.args.context.now in
+    let s = step_of c.args.step.now in
+    let rows : c.args.frame ≡ c.of_frame-list.result = sym c.of_frame-list.ensures.value in
+    let spent = c.run_grouping.ensures.steps S S' (runs-same x c.args.root.now S S' s s c.args.frame c.of_frame-list.result refl rows R) in
+    let whole = cost-same x S s s c.args.frame c.of_frame-list.result refl rows in
+    omega (arith, spent, whole, c.as_held.ensures.owed)
+
+pub frame_selected-requires-after_bounds : goal.frame_selected-requires-after_bounds
+frame_selected-requires-after_bounds g c κs within =
+    let x = c.args.context.now in
+    subst (λ s. StepReadyFrom x c.args.root.now s c.args.frame) (ap step_of c.in-TopBy.is ∙ step_of-TopBy c.in-TopBy.top) c.requires.ready
+
+pub returns-in-TopBy-clause-mean : goal.returns-in-TopBy-clause-mean
+returns-in-TopBy-clause-mean g c = λ S S' R.
+    let x = c.args.context.now in
+    let l = c.args.frame in
+    let t = top_of c.in-TopBy.top in
+    let m = ap (λ s. step_mean x.world (readings x.customs) S s l) (ap step_of c.in-TopBy.is ∙ step_of-TopBy c.in-TopBy.top) ∙ step_mean-TopBy x.world (readings x.customs) S t l in
+    c.as_frame-in-TopBy.ensures (step_mean x.world (readings x.customs) S (step_of c.args.step.now) l) (subst (GivesFrame c.frame_selected.result) (sym m) c.frame_selected.ensures)
+
+pub returns-in-TopBy-clause-steps : goal.returns-in-TopBy-clause-steps
+returns-in-TopBy-clause-steps g c = λ S S' R.
+    let x = c.args.context.now in
+    let l = c.args.frame in
+    let t = top_of c.in-TopBy.top in
+    let m = ap (λ s. step_mean x.world (readings x.customs) S s l) (ap step_of c.in-TopBy.is ∙ step_of-TopBy c.in-TopBy.top) ∙ step_mean-TopBy x.world (readings x.customs) S t l in
+    let given = c.as_frame-in-TopBy.ensures (step_mean x.world (readings x.customs) S (step_of c.args.step.now) l) (subst (GivesFrame c.frame_selected.result) (sym m) c.frame_selected.ensures) in
+    let least = owed-least x.world (readings x.customs) S (step_of c.args.step.now) l c.as_frame-in-TopBy.result given in
+    omega (arith, least)
+
+pub frame_ordered-requires : goal.frame_ordered-requires
+frame_ordered-requires g c =
+    let r = c.requires.ready in
+    subst (λ (w : World). IsTrue (all_of w c.args.frame)) (sym c.store.ensures.value) (all-fit-of c.args.context.now.world r.0 c.args.frame (r.2).runs.fit)
+
+pub returns-in-OrderBy-clause-mean : goal.returns-in-OrderBy-clause-mean
+returns-in-OrderBy-clause-mean g c = λ S S' R.
+    let x = c.args.context.now in
+    let l = c.args.frame in
+    let xs = map item_of c.in-OrderBy.items in
+    let m = ap (λ s. step_mean x.world (readings x.customs) S s l) (ap step_of c.in-OrderBy.is ∙ step_of-OrderBy c.in-OrderBy.items) ∙ step_mean-OrderBy x.world (readings x.customs) S xs l ∙ ap (λ (w : World). refused_at_beyond (order_values w xs l) (sorted (order_before w xs) l)) (sym c.store.ensures.value) in
+    c.as_frame-in-OrderBy.ensures (step_mean x.world (readings x.customs) S (step_of c.args.step.now) l) (subst (GivesFrame c.frame_ordered.result) (sym m) c.frame_ordered.ensures)
+
+pub returns-in-OrderBy-clause-steps : goal.returns-in-OrderBy-clause-steps
+returns-in-OrderBy-clause-steps g c = λ S S' R.
+    let x = c.args.context.now in
+    let l = c.args.frame in
+    let xs = map item_of c.in-OrderBy.items in
+    let m = ap (λ s. step_mean x.world (readings x.customs) S s l) (ap step_of c.in-OrderBy.is ∙ step_of-OrderBy c.in-OrderBy.items) ∙ step_mean-OrderBy x.world (readings x.customs) S xs l ∙ ap (λ (w : World). refused_at_beyond (order_values w xs l) (sorted (order_before w xs) l)) (sym c.store.ensures.value) in
+    let given = c.as_frame-in-OrderBy.ensures (step_mean x.world (readings x.customs) S (step_of c.args.step.now) l) (subst (GivesFrame c.frame_ordered.result) (sym m) c.frame_ordered.ensures) in
+    let least = owed-least x.world (readings x.customs) S (step_of c.args.step.now) l c.as_frame-in-OrderBy.result given in
+    omega (arith, least)
+
+pub frame_computed-requires-after_bounds : goal.frame_computed-requires-after_bounds
+frame_computed-requires-after_bounds g c κs within =
+    let x = c.args.context.now in
+    subst (λ s. StepReadyFrom x c.args.root.now s c.args.frame) (ap step_of c.in-Compute.is ∙ step_of-Compute c.in-Compute.items) c.requires.ready
+
+pub returns-in_ok-frame-in-Compute-clause-mean : goal.returns-in_ok-frame-in-Compute-clause-mean
+returns-in_ok-frame-in-Compute-clause-mean g c = λ S S' R.
+    let x = c.args.context.now in
+    ap (λ s. step_mean x.world (readings x.customs) S s c.args.frame) (ap step_of c.in-Compute.is ∙ step_of-Compute c.in-Compute.items)
+    ∙ step_mean-Compute x.world (readings x.customs) S (map named_of c.in-Compute.items) c.args.frame ∙ ap Some (sym c.in_ok-frame-in-Compute.ensures)
+
+pub returns-in_ok-frame-in-Compute-clause-steps : goal.returns-in_ok-frame-in-Compute-clause-steps
+returns-in_ok-frame-in-Compute-clause-steps g c = λ S S' R.
+    let x = c.args.context.now in
+    let m = ap (λ s. step_mean x.world (readings x.customs) S s c.args.frame) (ap step_of c.in-Compute.is ∙ step_of-Compute c.in-Compute.items)
+    ∙ step_mean-Compute x.world (readings x.customs) S (map named_of c.in-Compute.items) c.args.frame ∙ ap Some (sym c.in_ok-frame-in-Compute.ensures) in
+    let least = made-least x.world (readings x.customs) S (step_of c.args.step.now) c.args.frame c.in_ok-frame-in-Compute.frame m in
+    omega (arith, least)
