@@ -83,7 +83,8 @@ impl<'a> RowList<'a> {
         }
     }
 
-    /// The values of an expression on the instances. They may be cut into so many parts, each for a thread of its own.
+    /// The values of an expression on the instances. Rows may be cut into so many parts, each for a thread of its own; a frame is
+    /// read by the thread that calls.
     pub fn values<R: Threads + Sync>(
         &self,
         rt: &R,
@@ -120,7 +121,8 @@ impl<'a> RowList<'a> {
         }
     }
 
-    /// The key list of each instance by the paths. They may be cut into so many parts, each for a thread of its own.
+    /// The key list of each instance by the paths. Rows may be cut into so many parts, each for a thread of its own; a frame is read
+    /// by the thread that calls.
     pub fn key_lists<R: Threads + Sync>(
         &self,
         rt: &R,
