@@ -7,7 +7,7 @@ use crate::bytes::same;
 use apply_ast::{BinOp, Fun1, Fun2, Method};
 
 /// What a selection reaches for.
-#[derive(Clone, Copy, Debug, PartialEq, Eq, Drop)]
+#[derive(Clone, Copy, Drop)]
 pub enum LimitKind {
     Count,
     Sum,
@@ -16,7 +16,7 @@ pub enum LimitKind {
 
 /// The form of a step that has parentheses. A join is outer where the flag is true, a climb goes up, and a selection
 /// is from the bottom.
-#[derive(Clone, Copy, Debug, PartialEq, Eq, Drop)]
+#[derive(Clone, Copy, Drop)]
 pub enum StepWord {
     Filter,
     Compute,

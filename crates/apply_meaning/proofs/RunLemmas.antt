@@ -3,6 +3,8 @@ use Rattle.std.proofs.Common.{◌≡◌, ℕ, suc, ◌+◌, ◌<◌, refl, sym, 
 use Rattle.std.specs.Prelude.{option_and_then, unwrap_or, is_some}
 use Rattle.std.proofs.lemmas.Bool.{and_parts}
 use Rattle.std.specs.List.{list_all}
+use Rattle.edm_values.specs.declared.refusals.Refused.{Refused}
+use Rattle.edm_values.specs.declared.refusals.Refused.TheVariants.{Range, Memory}
 use Rattle.edm_values.specs.Names.{Path}
 use Rattle.edm_values.proofs.OptionFacts.{chained, some_and-there}
 use Rattle.apply_meaning.proofs.FitLemmas.{fit-parts}
@@ -29,8 +31,6 @@ use Rattle.context_typing.specs.declared.typed.Typed.{Typed}
 use Rattle.edm_model.specs.LookUps.{IsSet, set_type}
 use Rattle.std.proofs.Common.{IsTrue, subst}
 use Rattle.apply_meaning.specs.Running.{Runs, StepRuns, all_steps, all_of, all_free, new_columns, Gives}
-use Rattle.apply_meaning.specs.declared.refusals.RunRefused.{RunRefused}
-use Rattle.apply_meaning.specs.declared.refusals.RunRefused.TheVariants.{Range, Memory}
 use Rattle.std.proofs.Common.{Err}
 
 -- ---- what fits is of the world
@@ -90,7 +90,7 @@ turn w c S S' P s p l e R =
     }
 
 -- a refusal of a part is one of the whole
-pub gives-err : (e : RunRefused) (m m' : Outcome) → Gives (Err e) m → (m ≡ None → m' ≡ None) → Gives (Err e) m'
+pub gives-err : (e : Refused) (m m' : Outcome) → Gives (Err e) m → (m ≡ None → m' ≡ None) → Gives (Err e) m'
 gives-err Range m m' h k = k h
 gives-err Memory m m' h k = tt
 

@@ -1,6 +1,7 @@
 pub use Rattle.edm_values.specs.Lists
 pub use Rattle.edm_values.specs.Literals
 pub use Rattle.edm_values.specs.Names
+pub use Rattle.edm_values.specs.Refusals
 pub use Rattle.edm_values.specs.Values
 pub use Rattle.edm_model.specs.LookUps
 pub use Rattle.edm_model.specs.Models

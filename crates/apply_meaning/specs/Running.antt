@@ -1,14 +1,15 @@
 -- What a run returns, when a pipeline may be run, and which pipelines are plain.
 use Rattle.std.specs.Prelude.{◌≡◌, ◌&&◌, Bool, true, false, IsTrue, List, [], ◌∷◌, Some, None, map}
 use Rattle.std.specs.declared.result.Result as result
-use Rattle.std.specs.declared.result.Result.TheVariants.{Ok, Err}
 use Rattle.std.specs.Global.{Vec}
 use Rattle.std.specs.List.{list_all}
 use Rattle.edm_data.specs.Worlds.{World}
 use Rattle.edm_values.specs.declared.Method.{Method}
 use Rattle.edm_values.specs.declared.Value.{Value}
+use Rattle.edm_values.specs.declared.refusals.Refused.{Refused}
 use Rattle.edm_values.specs.Literals.{AreNumbers}
 use Rattle.edm_values.specs.Names.{Path}
+use Rattle.edm_values.specs.Refusals.{Returns}
 use Rattle.apply_ast.specs.Trees.{AggItem, Named, Pipe, Step}
 use Rattle.context_typing.specs.Shapes.{Shape}
 use Rattle.context_typing.specs.Typing.{Customs, steps_shape, step_shape, customs_typed, is_lawful}
@@ -16,17 +17,9 @@ use Rattle.apply_meaning.specs.Instances.{Instance, val, extended}
 use Rattle.apply_meaning.specs.Meaning.{Outcome, column, item_value, values}
 use Rattle.apply_meaning.specs.MeaningLaws.{AllFit}
 use Rattle.apply_meaning.specs.RowViews.{is_of, columns_differ}
-use Rattle.apply_meaning.specs.declared.refusals.RunRefused.{RunRefused}
-use Rattle.apply_meaning.specs.declared.refusals.RunRefused.TheVariants.{Range, Memory}
-
--- what was returned is right, or it is refused for its range, where this says so: `Memory` says nothing
-abbrev pub Returns : {T : Type 0} → (T → Type 0) → Type 0 → result.Result T RunRefused → Type 0
-Returns IsRight IsRefused (Ok x) = IsRight x
-Returns IsRight IsRefused (Err Range) = IsRefused
-Returns IsRight IsRefused (Err Memory) = Unit {0}
 
 -- what a run returned, where the meaning is known: `Memory` says nothing
-abbrev pub Gives : result.Result (Vec Instance) RunRefused → Outcome → Type 0
+abbrev pub Gives : result.Result (Vec Instance) Refused → Outcome → Type 0
 Gives r m = Returns (λ (v : Vec Instance). m ≡ Some v.items) (m ≡ None) r
 
 -- ---- lists of rows

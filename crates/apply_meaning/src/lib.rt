@@ -32,7 +32,6 @@ mod laws;
 mod lookups;
 mod operators;
 mod plain;
-mod refusals;
 mod rows;
 mod sets;
 mod steps;
@@ -41,6 +40,7 @@ mod sums;
 pub use aggregates::{aggregate, count};
 pub use aggregations::{path_of, seen_values, values_of};
 pub use computes::compute_rows;
+pub use edm_values::Refused as RunRefused;
 pub use evaluation::eval;
 pub use filters::{filter_rows, skip_rows, top_rows};
 pub use laws::{
@@ -50,7 +50,6 @@ pub use laws::{
 pub use lookups::{lookup, value_behind};
 pub use operators::{binary, call1, call2, negation};
 pub use plain::{aggregation_rows, is_plain, is_plain_step, run_plain};
-pub use refusals::RunRefused;
 pub use rows::{Row, copy_columns, copy_prefixes};
 pub use sets::set_rows;
 pub use steps::Steps;

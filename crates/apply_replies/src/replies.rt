@@ -36,7 +36,7 @@ use apply_store::{Store, identifier};
 use context_typing::{TypeRefused, Typed, type_pipe};
 use edm_data::EntityRef;
 use hier_states::first_cycle;
-use json_render::{RenderRefused, render};
+use json_render::render;
 use line_stream::Output;
 use optimiser::{Plan, optimise};
 use par_stages::Gate;
@@ -124,17 +124,13 @@ fn body_of<R: Threads + Sync, G: Gate, L: Ledger>(
     )?;
     rows_fit(store, plan, &rows);
     let typed = plan.typed();
-    match render(
+    render(
         alloc,
         store.data(),
         typed.set,
         &typed.shape,
         rows.as_slice(),
-    ) {
-        Ok(body) => Ok(body),
-        Err(RenderRefused::Range) => Err(RunRefused::Range),
-        Err(RenderRefused::Memory) => Err(RunRefused::Memory),
-    }
+    )
 }
 
 /// The response to a request that names a cyclic hierarchy with this node.

@@ -6,4 +6,5 @@ pub mod Numerals
 pub mod OrderLaws
 pub mod PartLaws
 pub mod Parts
+pub mod Refusals
 pub mod Values

@@ -4,7 +4,7 @@
 //! the mark of a number past its range. The types stand here, and what is done with them in the modules:
 //! decimals, days and texts are made in `decimals`, `days` and `texts`; `ordering` has the total order and `keys`
 //! equality and hashing; `arithmetic` and `comparison` have the operators; `literals` reads texts and `printing` writes them;
-//! `names` knows simple identifiers.
+//! `names` knows simple identifiers, and `refusals` has why a call over values gives nothing.
 //!
 //! The crate stands on `jiff` for the calendar. Each contract is the definition of its operation in `specs/`,
 //! over whole numbers without limit.
@@ -27,6 +27,7 @@ mod names;
 mod numbers;
 mod ordering;
 mod printing;
+mod refusals;
 mod texts;
 mod views;
 
@@ -37,6 +38,7 @@ pub use literals::{printed_value_reads, read_value};
 pub use names::is_name;
 pub use ordering::order;
 pub use printing::print_value;
+pub use refusals::Refused;
 
 /// A type of the entity data model, as this profile has them.
 #[derive(Clone, Copy, Debug, PartialEq, Eq, Drop)]

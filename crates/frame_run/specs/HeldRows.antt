@@ -2,10 +2,10 @@
 use Rattle.std.specs.Prelude.{◌≡◌, ℕ, List, Some, None, length}
 use Rattle.std.specs.declared.result.Result as result
 use Rattle.std.specs.declared.result.Result.TheVariants.{Ok, Err}
+use Rattle.edm_values.specs.declared.refusals.Refused.{Refused}
+use Rattle.edm_values.specs.Refusals.{Returns}
 use Rattle.apply_meaning.specs.Instances.{Instance}
 use Rattle.apply_meaning.specs.Meaning.{Outcome}
-use Rattle.apply_meaning.specs.Running.{Returns}
-use Rattle.apply_meaning.specs.declared.refusals.RunRefused.{RunRefused}
 use Rattle.frame_run.specs.declared.held.Held.{Held}
 use Rattle.frame_run.specs.declared.held.Held.TheVariants as held
 
@@ -20,10 +20,10 @@ owed (held.Frame f) = length f
 owed (held.Rows v) = 0
 
 -- the same of what a run returned, nothing where it is refused
-abbrev pub owed_by : result.Result Held RunRefused → ℕ
+abbrev pub owed_by : result.Result Held Refused → ℕ
 owed_by (Ok h) = owed h
 owed_by (Err e) = 0
 
 -- what a run returned, where the meaning is known: `Memory` says nothing
-abbrev pub GivesHeld : result.Result Held RunRefused → Outcome → Type 0
+abbrev pub GivesHeld : result.Result Held Refused → Outcome → Type 0
 GivesHeld r m = Returns (λ (h : Held). m ≡ Some (rows_of h)) (m ≡ None) r

@@ -1,3 +1,4 @@
+pub use Rattle.edm_values.specs.Refusals
 pub use Rattle.apply_ast.specs.Views
 pub use Rattle.context_typing.specs.Readings
 pub use Rattle.context_typing.specs.Shapes

@@ -9,6 +9,8 @@ use Rattle.edm_values.proofs.ListFacts.{all-any, all-filter, all-flat_map, none-
 use Rattle.edm_values.proofs.OptionFacts.{none_or, then_some-parts}
 use Rattle.edm_values.proofs.PlaceFacts.{places-within}
 use Rattle.edm_values.specs.declared.Value.{Value}
+use Rattle.edm_values.specs.declared.refusals.Refused.{Refused}
+use Rattle.edm_values.specs.declared.refusals.Refused.TheVariants.{Range, Memory}
 use Rattle.edm_values.specs.Lists.{at_places, places}
 use Rattle.edm_values.specs.Values.{is_beyond}
 use Rattle.edm_model.specs.LookUps.{HierarchyPlace}
@@ -20,8 +22,6 @@ use Rattle.apply_ast.specs.Views.{item_of}
 use Rattle.apply_ast.specs.declared.items.OrderItem as of_item
 use Rattle.apply_meaning.specs.Instances.{Instance, lookup, rows}
 use Rattle.apply_meaning.specs.Meaning.{node, node_ranks, order_values, refused_at_beyond, traversed}
-use Rattle.apply_meaning.specs.declared.refusals.RunRefused.{RunRefused}
-use Rattle.apply_meaning.specs.declared.refusals.RunRefused.TheVariants.{Range, Memory}
 use Rattle.row_orders.specs.Ranks.{GivesNumbers, ranks}
 use Rattle.hier_rows.specs.HierRows.{IsNodesOf, node_in, path_values, traverse_outcome, traversed_places}
 use Rattle.hier_rows.proofs.ClimbLaws.{refused-mapped}
@@ -85,7 +85,7 @@ module _ (w : World) (f : HierarchyPlace) (t : TraverseStep) (l : List Instance)
       ∙ sym (ap (λ z. Some z) (k ∙ (λ i. traversed_rows t.post (N.1 i) (rank-is i) (own-is i))))
 
   -- where the ranks of the nodes are refused, so is the traversal
-  pub traverse-refused : (e : RunRefused) (s : ℕ) (parents : List (Option ℕ)) (rank : List ℕ) → IsNodesOf w f s parents → GivesNumbers (Err e) (refused_at_beyond (order_values w t.items (rows w s)) rank) → GivesNumbers (Err e) (traverse_outcome w f t l)
+  pub traverse-refused : (e : Refused) (s : ℕ) (parents : List (Option ℕ)) (rank : List ℕ) → IsNodesOf w f s parents → GivesNumbers (Err e) (refused_at_beyond (order_values w t.items (rows w s)) rank) → GivesNumbers (Err e) (traverse_outcome w f t l)
   traverse-refused Range s parents rank N h =
       let item : list_any is_beyond (order_values w t.items (rows w f.set)) ≡ true = ap (λ s. list_any is_beyond (order_values w t.items (rows w s))) (sym N.0) ∙ refused-beyond _ rank h in
       ap (λ beyond. then_some (not beyond) (traversed_places w f t l)) (list_any-append is_beyond (path_values w t.path l) (order_values w t.items (rows w f.set)) ∙ or_right _ _ item)

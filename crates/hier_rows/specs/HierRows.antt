@@ -3,8 +3,10 @@ use Rattle.std.specs.Prelude.{ℕ, ◌≡◌, ◌<◌, ◌++◌, true, false, Bo
 use Rattle.std.specs.declared.result.Result as result
 use Rattle.std.specs.List.{All, list_any}
 use Rattle.edm_values.specs.declared.Value.{Value}
+use Rattle.edm_values.specs.declared.refusals.Refused.{Refused}
 use Rattle.edm_values.specs.Names.{Path}
 use Rattle.edm_values.specs.Values.{is_beyond}
+use Rattle.edm_values.specs.Refusals.{Returns}
 use Rattle.edm_model.specs.LookUps.{HierarchyPlace}
 use Rattle.edm_data.specs.Hierarchies.{ancestor_rows, descendant_rows, traversed_rows}
 use Rattle.edm_data.specs.Nodes.{parents_of}
@@ -13,8 +15,6 @@ use Rattle.edm_data.specs.Worlds.{World}
 use Rattle.apply_ast.specs.Trees.{TraverseStep}
 use Rattle.apply_meaning.specs.Instances.{Instance, lookup, root_of, rows}
 use Rattle.apply_meaning.specs.Meaning.{node, node_ranks, order_values, refused_at_beyond}
-use Rattle.apply_meaning.specs.Running.{Returns}
-use Rattle.apply_meaning.specs.declared.refusals.RunRefused.{RunRefused}
 
 -- ---- nodes
 
@@ -49,15 +49,15 @@ AreRootsBelow count l = All (λ i. IfSome (root_of i) (λ e. e.at < count)) l
 -- ---- what was returned; `Memory` says nothing
 
 -- of instances whose values at a path are these: something, or a refusal where one is Beyond
-abbrev pub GivesFor : {T : Type 0} → (T → Type 0) → List Value → result.Result T RunRefused → Type 0
+abbrev pub GivesFor : {T : Type 0} → (T → Type 0) → List Value → result.Result T Refused → Type 0
 GivesFor IsRight vs r = Returns (λ v. IsRight v × (list_any is_beyond vs ≡ false)) (list_any is_beyond vs ≡ true) r
 
 -- of one instance: its node, or a refusal where the value of the path is Beyond
-abbrev pub GivesNode : World → ℕ → Path → Instance → result.Result (Option ℕ) RunRefused → Type 0
+abbrev pub GivesNode : World → ℕ → Path → Instance → result.Result (Option ℕ) Refused → Type 0
 GivesNode w s p i r = Returns (λ (n : Option ℕ). (n ≡ node_in w s p i) × (is_beyond (lookup w i p) ≡ false)) (is_beyond (lookup w i p) ≡ true) r
 
 -- of one key: the node that has it, or a refusal where it is Beyond
-abbrev pub GivesNodeBy : World → ℕ → Value → result.Result (Option ℕ) RunRefused → Type 0
+abbrev pub GivesNodeBy : World → ℕ → Value → result.Result (Option ℕ) Refused → Type 0
 GivesNodeBy w s v r = Returns (λ (n : Option ℕ). (n ≡ node_by w s v) × (is_beyond v ≡ false)) (is_beyond v ≡ true) r
 
 -- ---- places of rows

@@ -1,4 +1,5 @@
 pub use Rattle.edm_values.specs.Lists
+pub use Rattle.edm_values.specs.Refusals
 pub use Rattle.edm_values.specs.Values
 pub use Rattle.edm_model.specs.LookUps
 pub use Rattle.edm_data.specs.Hierarchies

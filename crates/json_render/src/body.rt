@@ -10,8 +10,9 @@ ghost use Rattle.apply_meaning.specs.MeaningLaws.{AllFit};
 ghost use Rattle.json_render.specs.Bodies as spec;
 ghost use Rattle.json_render.specs.RowRuns.{IsKnown, Serves, row_text, rows_run};
 ghost use Rattle.json_render.specs.RowTexts.{template_text};
-ghost use Rattle.json_render.specs.declared.body.RenderRefused.TheVariants as RenderRefused;
+ghost use Rattle.edm_values.specs.declared.refusals.Refused.TheVariants as RenderRefused;
 
+use crate::RenderRefused;
 use crate::context::context;
 use crate::members::row_template;
 use crate::patterns::same_pattern;
@@ -22,47 +23,13 @@ use context_typing::Shape;
 use edm_data::Data;
 use edm_model::SetId;
 use edm_values::Value;
-use std::alloc::{AllocError, AllocFailed, Global};
-use thiserror::Error;
+use std::alloc::{AllocError, Global};
 
 /// How many templates are kept at a time.
 const TEMPLATES_MAX: usize = 64;
 
-/// Why rows have no body.
-#[derive(Clone, Copy, Debug, PartialEq, Eq, Error)]
-pub enum RenderRefused {
-    /// A value to be printed is past its range.
-    #[error("a number is past its range")]
-    Range,
-    /// The body does not fit in memory.
-    #[error("there is not enough memory")]
-    Memory,
-}
-
-impl<T: Drop> From<AllocFailed<T>> for RenderRefused {
-    ghost use Rattle.std.specs.Prelude.{◌≡◌};
-    ghost use Rattle.json_render.specs.declared.body.RenderRefused.TheVariants.{Memory};
-
-    ghost from_gives = { λ _ e. e ≡ Memory };
-
-    fn from(_: AllocFailed<T>) -> RenderRefused {
-        RenderRefused::Memory
-    }
-}
-
-impl From<AllocError> for RenderRefused {
-    ghost use Rattle.std.specs.Prelude.{◌≡◌};
-    ghost use Rattle.json_render.specs.declared.body.RenderRefused.TheVariants.{Memory};
-
-    ghost from_gives = { λ _ e. e ≡ Memory };
-
-    fn from(_: AllocError) -> RenderRefused {
-        RenderRefused::Memory
-    }
-}
-
 /// The template of the rows that have the pattern of the row at this place.
-#[derive(Debug, Drop)]
+#[derive(Drop)]
 pub(crate) struct Known {
     pub row: usize,
     pub template: Template,

@@ -14,7 +14,7 @@ use context_typing::{ColumnShape, PrefixShape, Shape};
 use std::alloc::{AllocError, Global};
 
 /// An item of a context that is still to be written.
-#[derive(Debug, Drop)]
+#[derive(Drop)]
 pub(crate) enum Item<'a> {
     /// The name of a column.
     Column(&'a str),
@@ -25,7 +25,7 @@ pub(crate) enum Item<'a> {
 }
 
 /// The text of a context while it is written, and whether an item stands before.
-#[derive(Debug, Drop)]
+#[derive(Drop)]
 pub(crate) struct Text {
     pub bytes: String,
     pub after_item: bool,

@@ -6,7 +6,7 @@ use apply_ast::Name;
 use std::alloc::{AllocError, Global};
 
 /// The name of a type that is written beside a member (JSON Format 4.01, "Control Information: type").
-#[derive(Clone, Copy, Debug, PartialEq, Eq, Drop)]
+#[derive(Clone, Copy, PartialEq, Eq, Drop)]
 pub(crate) enum TypeName {
     Int64,
     Decimal,
@@ -14,7 +14,7 @@ pub(crate) enum TypeName {
 }
 
 /// What stands at a path.
-#[derive(Clone, Copy, Debug, Drop)]
+#[derive(Clone, Copy, Drop)]
 pub(crate) enum Part {
     /// The prefix at this place of the list.
     Prefix(usize),
@@ -25,7 +25,7 @@ pub(crate) enum Part {
 }
 
 /// A part, seen from a place: the next name of its path, the names behind that one, and the part.
-#[derive(Clone, Copy, Debug, Drop)]
+#[derive(Clone, Copy, Drop)]
 pub(crate) struct Entry<'a> {
     pub name: &'a str,
     pub rest: &'a [Name],

@@ -22,4 +22,5 @@ mod patterns;
 mod templates;
 mod texts;
 
-pub use body::{RenderRefused, render};
+pub use body::render;
+pub use edm_values::Refused as RenderRefused;

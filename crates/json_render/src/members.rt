@@ -29,14 +29,14 @@ use edm_values::{EdmType, Value};
 use std::alloc::{AllocError, Global};
 
 /// A value as it is shown: where it stands, and the name of its type, if that is shown.
-#[derive(Clone, Copy, Debug, Drop)]
+#[derive(Clone, Copy, Drop)]
 pub(crate) struct Leaf {
     pub kind: Option<TypeName>,
     pub slot: Slot,
 }
 
 /// A member that is still to be written.
-#[derive(Debug, Drop)]
+#[derive(Drop)]
 pub(crate) enum Unwritten<'a> {
     /// A value, and the name of its type, if that is shown.
     Value(&'a str, Option<TypeName>, Slot),

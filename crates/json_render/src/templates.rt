@@ -24,7 +24,7 @@ use edm_values::{Seen, Value};
 use std::alloc::{AllocError, Global};
 
 /// Where a value of a row stands.
-#[derive(Clone, Copy, Debug, Drop)]
+#[derive(Clone, Copy, Drop)]
 pub(crate) enum Slot {
     /// In the column at this place.
     Column(usize),
@@ -44,14 +44,14 @@ fn type_word(name: TypeName) -> &'static str
 }
 
 /// A text, and the value that follows it.
-#[derive(Debug, Drop)]
+#[derive(Drop)]
 struct Piece {
     text: Vec<u8>,
     slot: Slot,
 }
 
 /// The text of a row with a gap for each value.
-#[derive(Debug, Drop)]
+#[derive(Drop)]
 pub(crate) struct Template {
     pieces: Vec<Piece>,
     /// What stands behind the last value.

@@ -1,6 +1,8 @@
 -- What a climb and a traversal give is the instances at places.
 use Rattle.std.proofs.Common.{◌≡◌, ℕ, refl, ◌∙◌, ap, Bool, true, Err, List, ◌++◌, Option, Some, None, map}
 use Rattle.std.specs.Prelude.{is_some, option_map, if◌then◌else◌}
+use Rattle.edm_values.specs.declared.refusals.Refused.{Refused}
+use Rattle.edm_values.specs.declared.refusals.Refused.TheVariants.{Range, Memory}
 use Rattle.edm_values.specs.Lists.{at_places, is_nonempty}
 use Rattle.edm_values.specs.Names.{Path}
 use Rattle.edm_model.specs.LookUps.{HierarchyPlace}
@@ -11,8 +13,6 @@ use Rattle.context_typing.specs.Typing.{hierarchy_at}
 use Rattle.apply_meaning.specs.Instances.{Instance, lookup, rows}
 use Rattle.apply_meaning.specs.Meaning.{climbed, order_values, refused_at_beyond, traversed}
 use Rattle.apply_meaning.specs.Running.{Gives}
-use Rattle.apply_meaning.specs.declared.refusals.RunRefused.{RunRefused}
-use Rattle.apply_meaning.specs.declared.refusals.RunRefused.TheVariants.{Range, Memory}
 use Rattle.hier_rows.proofs.ClimbLaws.{climb-mean}
 use Rattle.hier_rows.proofs.TraversalLaws.{traverse-mean}
 use Rattle.hier_rows.specs.HierRows.{climb_outcome, traverse_outcome}
@@ -35,7 +35,7 @@ traverse-out w t l f at =
     ap (λ o. elim o [ None ↦ None | Some f ↦ refused_at_beyond (map (λ i. lookup w i t.path) l ++ order_values w t.items (rows w f.set)) (traversed w f t l) ]) at ∙ traverse-mean w f t l
 
 -- places that are refused
-pub numbers-err : (e : RunRefused) (m : Option (List ℕ)) (l : List Instance) → GivesNumbers (Err e) m → Gives (Err e) (option_map (at_places l) m)
+pub numbers-err : (e : Refused) (m : Option (List ℕ)) (l : List Instance) → GivesNumbers (Err e) m → Gives (Err e) (option_map (at_places l) m)
 numbers-err Range m l h = ap (option_map (at_places l)) h
 numbers-err Memory m l h = tt
 

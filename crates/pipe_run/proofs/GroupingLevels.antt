@@ -4,6 +4,8 @@ use Rattle.std.proofs.Math.ListN.{drop_of_length-le}
 use Rattle.std.specs.Prelude.{option_map, ◌&&◌}
 use Rattle.std.specs.declared.result.Result as result
 use Rattle.std.specs.Global.{Vec}
+use Rattle.edm_values.specs.declared.refusals.Refused.{Refused}
+use Rattle.edm_values.specs.declared.refusals.Refused.TheVariants.{Range, Memory}
 use Rattle.edm_values.specs.Names.{Path}
 use Rattle.edm_model.specs.LookUps.{HierarchyPlace}
 use Rattle.edm_data.specs.Worlds.{World}
@@ -14,8 +16,6 @@ use Rattle.context_typing.specs.Typing.{Customs, RollupPart, group_keys, hierarc
 use Rattle.apply_meaning.proofs.MeaningEquations.{key_shown-Recursive}
 use Rattle.apply_meaning.specs.Instances.{Instance, rows}
 use Rattle.apply_meaning.specs.Meaning.{Outcome, inner_mean, keys_shown, level_paths, shown_of}
-use Rattle.apply_meaning.specs.declared.refusals.RunRefused.{RunRefused}
-use Rattle.apply_meaning.specs.declared.refusals.RunRefused.TheVariants.{Range, Memory}
 use Rattle.group_rollup.specs.Groupings.{has_beyond_key}
 use Rattle.apply_ast.proofs.ViewEquations.{keys_of-is}
 use Rattle.apply_ast.specs.Views.{key_of, keys_from, keys_in, keys_of}
@@ -44,7 +44,7 @@ flat-by w RollupPart.NoRollup plain l h = refl
 flat-by w (RollupPart.Levels all ps) plain l h = refl
 flat-by w (RollupPart.Nodes x p) plain l h = cc
 
-pub flat-gives : (r : result.Result (Vec Level) RunRefused) (w : World) (c : Customs) (ks : Keys) (l : List Instance) → are_flat_keys ks ≡ true → GivesFlatLevels r w ks l → GivesLevels r w c ks l
+pub flat-gives : (r : result.Result (Vec Level) Refused) (w : World) (c : Customs) (ks : Keys) (l : List Instance) → are_flat_keys ks ≡ true → GivesFlatLevels r w ks l → GivesLevels r w c ks l
 flat-gives (Ok v) w c ks l flat h = ([], all-shown w c ks flat, h.0 ∙ sym (flat-by w (rollup_part (group_keys ks)) (plain_paths ks) l (flat-part ks flat)), h.1)
 flat-gives (Err Range) w c ks l flat h = inr h
 flat-gives (Err Memory) w c ks l flat h = tt
@@ -74,12 +74,12 @@ module _ (x : Context) (h : HierName) (p : Path) (T : OptPipe) (ks : Keys) (has 
   beyond-is l = ap (λ part. has_beyond_key x.world (plain_paths ks ++ rollup_paths part) l) part-is
 
   -- the nodes that are shown are refused
-  pub shown-gives : (e : RunRefused) (l : List Instance) → GivesNumbers (Err e) (option_map shown_of nodes) → GivesLevels (Err e) x.world (readings x.customs) ks l
+  pub shown-gives : (e : Refused) (l : List Instance) → GivesNumbers (Err e) (option_map shown_of nodes) → GivesLevels (Err e) x.world (readings x.customs) ks l
   shown-gives Range l none = inl (shown-is ∙ none)
   shown-gives Memory l none = tt
 
   -- the levels of the nodes that are shown are those of the grouping
-  pub node-gives : (r : result.Result (Vec Level) RunRefused) (shown : List ℕ) (l : List Instance) → option_map shown_of nodes ≡ Some shown → GivesNodeLevels r x.world f (plain_paths ks) p shown l → GivesLevels r x.world (readings x.customs) ks l
+  pub node-gives : (r : result.Result (Vec Level) Refused) (shown : List ℕ) (l : List Instance) → option_map shown_of nodes ≡ Some shown → GivesNodeLevels r x.world f (plain_paths ks) p shown l → GivesLevels r x.world (readings x.customs) ks l
   node-gives (Ok v) shown l are given = (shown, shown-is ∙ are, given.0 ∙ sym (levels-are shown l), beyond-is l ∙ given.1)
   node-gives (Err Range) shown l are given = inr (beyond-is l ∙ given)
   node-gives (Err Memory) shown l are given = tt

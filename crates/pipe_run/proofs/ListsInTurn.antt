@@ -4,13 +4,14 @@ use Rattle.std.specs.Prelude.{option_map}
 use Rattle.std.specs.Global.{Vec}
 use Rattle.std.proofs.Math.ListN.{drop_of_length-le}
 use Rattle.std.proofs.lemmas.List.{append-nil, append_assoc, length-map}
+use Rattle.edm_values.specs.declared.refusals.Refused.{Refused}
+use Rattle.edm_values.specs.declared.refusals.Refused.TheVariants.{Range, Memory}
 use Rattle.edm_values.specs.Lists.{all_some}
 use Rattle.edm_values.proofs.SearchFacts.{all_some-map}
+use Rattle.edm_values.specs.Refusals.{Returns}
 use Rattle.apply_meaning.specs.Instances.{Instance}
 use Rattle.apply_meaning.specs.Meaning.{Outcome}
-use Rattle.apply_meaning.specs.Running.{Gives, Returns}
-use Rattle.apply_meaning.specs.declared.refusals.RunRefused.{RunRefused}
-use Rattle.apply_meaning.specs.declared.refusals.RunRefused.TheVariants.{Range, Memory}
+use Rattle.apply_meaning.specs.Running.{Gives}
 use Rattle.pipe_run.proofs.GroupLemmas.{next-map}
 
 -- several lists, refused where one of them is
@@ -46,16 +47,16 @@ last-list f xs i a o h total = total ∙ ap (λ ys. option_map (λ rest. a ++ re
 -- ---- what several runs returned
 
 -- several runs are refused so, where it is known what all of them give
-abbrev pub AreRefused : RunRefused → Lists → Type 0
+abbrev pub AreRefused : Refused → Lists → Type 0
 AreRefused e all = Returns (λ (v : Vec (Vec Instance)). all ≡ Some (map (λ l. l.items) v.items)) (all ≡ None) (Err e)
 
 -- a refusal of one run is one of all
-pub gives-all_err : (e : RunRefused) (m : Outcome) (all : Lists) → Gives (Err e) m → (m ≡ None → all ≡ None) → AreRefused e all
+pub gives-all_err : (e : Refused) (m : Outcome) (all : Lists) → Gives (Err e) m → (m ≡ None → all ≡ None) → AreRefused e all
 gives-all_err Range m all h k = k h
 gives-all_err Memory m all h k = tt
 
 -- and of the lists one after the other
-pub joined-err : (e : RunRefused) (all : Option (List (List Instance))) (f : List (List Instance) → List Instance) (m : Outcome) → m ≡ option_map f all → AreRefused e all → Gives (Err e) m
+pub joined-err : (e : Refused) (all : Option (List (List Instance))) (f : List (List Instance) → List Instance) (m : Outcome) → m ≡ option_map f all → AreRefused e all → Gives (Err e) m
 joined-err Range all f m j h = j ∙ ap (option_map f) h
 joined-err Memory all f m j h = tt
 

@@ -8,20 +8,20 @@ use Rattle.std.proofs.lemmas.List.{map-append}
 use Rattle.std.proofs.lemmas.List.Elements.{All-head, All-nil}
 use Rattle.std.proofs.lemmas.List.Folds.{list_any-append}
 use Rattle.edm_values.specs.declared.Value.{Value}
+use Rattle.edm_values.specs.declared.refusals.Refused.{Refused}
+use Rattle.edm_values.specs.declared.refusals.Refused.TheVariants.{Range, Memory}
 use Rattle.edm_values.specs.Names.{Path}
 use Rattle.edm_values.specs.Values.{is_beyond}
 use Rattle.edm_model.specs.LookUps.{HierarchyPlace}
 use Rattle.edm_data.specs.Worlds.{World}
 use Rattle.apply_meaning.specs.Instances.{Instance, lookup}
 use Rattle.apply_meaning.specs.Meaning.{key_list}
-use Rattle.apply_meaning.specs.declared.refusals.RunRefused.{RunRefused}
-use Rattle.apply_meaning.specs.declared.refusals.RunRefused.TheVariants.{Range, Memory}
 use Rattle.aggregate_ops.specs.KeyTables.{HasWidth}
-use Rattle.group_rollup.specs.Groupings.{has_beyond_key}
+use Rattle.group_rollup.specs.Groupings.{has_beyond_key, GivesFor}
 use Rattle.hier_rows.specs.HierRows as rows
 use Rattle.hier_rows.specs.HierRows.{path_values}
 use Rattle.rollup_rec.specs.Rollups.{width_of}
-use Rattle.pipe_run.specs.Levels.{GivesFor, GivesNodeLevels}
+use Rattle.pipe_run.specs.Levels.{GivesNodeLevels}
 
 -- key lists of one width have that of the first
 pub wide-first : (n : ℕ) (lists : List (Vec Value)) → All (HasWidth n) lists → All (HasWidth (width_of lists)) lists
@@ -48,10 +48,10 @@ beyond-more w ks p (i ∷ l) =
 pub none-beyond : (w : World) (ks : List Path) (p : Path) (l : List Instance) → has_beyond_key w ks l ≡ false → list_any is_beyond (path_values w p l) ≡ false → has_beyond_key w (ks ++ p ∷ []) l ≡ false
 none-beyond w ks p l a b = beyond-more w ks p l ∙ (λ i. a i || b i)
 
-pub keys-err : {T : Type 0} (P : T → Type 0) (w : World) (f : HierarchyPlace) (ks : List Path) (p : Path) (shown : List ℕ) (l : List Instance) (e : RunRefused) → GivesFor P w ks l (Err e) → GivesNodeLevels (Err e) w f ks p shown l
+pub keys-err : {T : Type 0} (P : T → Type 0) (w : World) (f : HierarchyPlace) (ks : List Path) (p : Path) (shown : List ℕ) (l : List Instance) (e : Refused) → GivesFor P w ks l (Err e) → GivesNodeLevels (Err e) w f ks p shown l
 keys-err P w f ks p shown l Range h = beyond-more w ks p l ∙ or_left _ _ h
 keys-err P w f ks p shown l Memory h = tt
 
-pub path-err : {T : Type 0} (P : T → Type 0) (w : World) (f : HierarchyPlace) (ks : List Path) (p : Path) (shown : List ℕ) (l : List Instance) (e : RunRefused) → rows.GivesFor P (path_values w p l) (Err e) → GivesNodeLevels (Err e) w f ks p shown l
+pub path-err : {T : Type 0} (P : T → Type 0) (w : World) (f : HierarchyPlace) (ks : List Path) (p : Path) (shown : List ℕ) (l : List Instance) (e : Refused) → rows.GivesFor P (path_values w p l) (Err e) → GivesNodeLevels (Err e) w f ks p shown l
 path-err P w f ks p shown l Range h = beyond-more w ks p l ∙ or_right _ _ h
 path-err P w f ks p shown l Memory h = tt

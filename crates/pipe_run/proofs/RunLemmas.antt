@@ -8,9 +8,9 @@ use Rattle.context_typing.specs.Typing.{Customs, after}
 use Rattle.apply_meaning.specs.Instances.{Instance, extended}
 use Rattle.apply_meaning.specs.Meaning.{step_mean}
 use Rattle.apply_meaning.specs.Running.{Gives, new_columns}
-use Rattle.apply_meaning.specs.declared.refusals.RunRefused.{RunRefused}
 use Rattle.std.specs.declared.result.Result as result
 use Rattle.std.specs.Global.{Vec}
+use Rattle.edm_values.specs.declared.refusals.Refused.{Refused}
 use Rattle.apply_meaning.proofs.MeaningEquations.{step_mean-Aggregate, step_mean-Compute}
 use Rattle.apply_meaning.proofs.RunLemmas.{Turn}
 use Rattle.context_typing.specs.Readings.{readings}
@@ -64,6 +64,6 @@ pub cost-same : (x : Context) (S : Shape) (s s' : Step) (l l' : List Instance) �
 cost-same x S s s' l l' e h = λ i. step_cost x.world (readings x.customs) S (e i) (h i)
 
 -- what a run of it gives
-pub gives-same : {x : Context} {root : Option ℕ} {S S' : Shape} {s s' : Step} {l l' : List Instance} (r : result.Result (Vec Instance) RunRefused) → s ≡ s' → l ≡ l' → StepRunsFrom x root S S' s l
+pub gives-same : {x : Context} {root : Option ℕ} {S S' : Shape} {s s' : Step} {l l' : List Instance} (r : result.Result (Vec Instance) Refused) → s ≡ s' → l ≡ l' → StepRunsFrom x root S S' s l
     → (StepRunsFrom x root S S' s' l' → Gives r (step_mean x.world (readings x.customs) S s' l')) → Gives r (step_mean x.world (readings x.customs) S s l)
 gives-same {x = x} {root = root} {S = S} {S' = S'} {s = s} {s' = s'} {l = l} {l' = l'} r e h R given = subst (Gives r) (sym (step-same x S s s' l l' e h)) (given (runs-same x root S S' s s' l l' e h R))

@@ -7,6 +7,8 @@ use Rattle.std.proofs.lemmas.Option.{get_or_from_slice_get, slice_get-get_or}
 use Rattle.std.proofs.lemmas.Simd.{map-map}
 use Rattle.edm_values.proofs.OptionFacts.{some_value}
 use Rattle.edm_values.specs.declared.Value.{Value}
+use Rattle.edm_values.specs.declared.refusals.Refused.{Refused}
+use Rattle.edm_values.specs.declared.refusals.Refused.TheVariants.{Range, Memory}
 use Rattle.edm_values.specs.Lists.{at_places}
 use Rattle.edm_data.specs.Worlds.{World}
 use Rattle.apply_ast.specs.Trees.{Keys, OptPipe, Pipe, Step}
@@ -17,8 +19,6 @@ use Rattle.apply_meaning.proofs.MeanLemmas.{fit-at_places}
 use Rattle.apply_meaning.specs.Instances.{Instance}
 use Rattle.apply_meaning.specs.Meaning.{Outcome, joined, mean, step_mean}
 use Rattle.apply_meaning.specs.Running.{Gives}
-use Rattle.apply_meaning.specs.declared.refusals.RunRefused.{RunRefused}
-use Rattle.apply_meaning.specs.declared.refusals.RunRefused.TheVariants.{Range, Memory}
 use Rattle.pipe_run.specs.Conditions.{GroupRuns, LevelsRun, RunsFrom, charge_of}
 use Rattle.pipe_run.specs.Contexts.{Context}
 use Rattle.pipe_run.specs.Costs.{application, cost}
@@ -125,7 +125,7 @@ level-costs x S p l levels i d h e = next-total (application (cost x.world (read
 
 -- ---- a grouping that is refused
 
-pub levels-err : (w : World) (c : Customs) (S : Shape) (ks : Keys) (T : OptPipe) (l : List Instance) (e : RunRefused) → GivesLevels (Err e) w c ks l → Gives (Err e) (step_mean w c S (Step.GroupBy ks T) l)
+pub levels-err : (w : World) (c : Customs) (S : Shape) (ks : Keys) (T : OptPipe) (l : List Instance) (e : Refused) → GivesLevels (Err e) w c ks l → Gives (Err e) (step_mean w c S (Step.GroupBy ks T) l)
 levels-err w c S ks T l Range (inl none) = shown-refused w c S ks T l none
 levels-err w c S ks T l Range (inr beyond) = levels-refused w c S ks T l beyond
 levels-err w c S ks T l Memory h = tt

@@ -9,12 +9,12 @@ use Rattle.edm_values.proofs.ListFacts.{all-filter}
 use Rattle.edm_values.proofs.OptionFacts.{if_some, some_value}
 use Rattle.edm_values.proofs.PlaceFacts.{places-within}
 use Rattle.edm_values.specs.declared.Value.{Value}
+use Rattle.edm_values.specs.declared.refusals.Refused.{Refused}
 use Rattle.edm_values.specs.Lists.{places}
 use Rattle.edm_values.specs.Values.{is_beyond, taken, top_places}
-use Rattle.apply_meaning.specs.declared.refusals.RunRefused.{RunRefused}
 use Rattle.row_orders.specs.Ranks.{GivesNumbers}
 
-pub selected-within : (reaches : List Value → Bool) (bottom : Bool) (vs : List Value) (r : result.Result (Vec ℕ) RunRefused) → GivesNumbers r (top_places reaches bottom vs)
+pub selected-within : (reaches : List Value → Bool) (bottom : Bool) (vs : List Value) (r : result.Result (Vec ℕ) Refused) → GivesNumbers r (top_places reaches bottom vs)
     → IfOk r (λ ks. IsTrue (list_all (λ k. nat_lt k (length vs)) ks.items))
 selected-within reaches bottom vs (Ok ks) g =
     let q : ℕ → Bool = λ i. list_any (nat_eq i) (taken reaches bottom vs) in

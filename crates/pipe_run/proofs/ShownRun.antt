@@ -1,6 +1,8 @@
 -- The nodes that a recursive rollup shows, by a pipeline from all nodes on.
 use Rattle.std.proofs.Common.{◌≡◌, ℕ, ◌+◌, ◌≤◌, sym, ◌∙◌, ap, subst, List, [], ◌∷◌, length, Err, Some, arith}
 use Rattle.std.specs.Prelude.{option_map, unwrap_or}
+use Rattle.edm_values.specs.declared.refusals.Refused.{Refused}
+use Rattle.edm_values.specs.declared.refusals.Refused.TheVariants.{Range, Memory}
 use Rattle.edm_values.proofs.OptionFacts.{if_else-parts}
 use Rattle.edm_model.specs.LookUps.{HierarchyPlace, set_type}
 use Rattle.edm_model.specs.Models.{Model}
@@ -17,8 +19,6 @@ use Rattle.apply_meaning.proofs.SetLemmas.{rows-length as rows-count}
 use Rattle.apply_meaning.specs.Instances.{Instance, rows}
 use Rattle.apply_meaning.specs.Meaning.{Outcome, inner_mean, mean, shown_of}
 use Rattle.apply_meaning.specs.Running.{Gives}
-use Rattle.apply_meaning.specs.declared.refusals.RunRefused.{RunRefused}
-use Rattle.apply_meaning.specs.declared.refusals.RunRefused.TheVariants.{Range, Memory}
 use Rattle.row_orders.specs.Ranks.{GivesNumbers}
 use Rattle.apply_meaning.specs.MeaningLaws.{IsLoaded}
 use Rattle.hier_rows.proofs.ShownLaws.{roots-below}
@@ -73,6 +73,6 @@ shown-rows x f T s same =
     omega (arith, whole, long)
 
 -- nodes that are refused
-pub shown-err : (e : RunRefused) (m m' : Outcome) → m ≡ m' → Gives (Err e) m' → GivesNumbers (Err e) (option_map shown_of m)
+pub shown-err : (e : Refused) (m m' : Outcome) → m ≡ m' → Gives (Err e) m' → GivesNumbers (Err e) (option_map shown_of m)
 shown-err Range m m' same none = ap (option_map shown_of) (same ∙ none)
 shown-err Memory m m' same h = tt

@@ -10,13 +10,13 @@ use Rattle.std.proofs.lemmas.Option.{get_or_from_slice_get, slice_get_within}
 use Rattle.edm_values.proofs.ListFacts.{all-filter}
 use Rattle.edm_values.proofs.TopPlaces.{places-first}
 use Rattle.edm_values.specs.declared.Value.{Value}
+use Rattle.edm_values.specs.declared.refusals.Refused.{Refused}
 use Rattle.edm_values.specs.Lists.{at_places, places}
 use Rattle.edm_values.specs.Values.{reaches_sum, top_places}
 use Rattle.apply_ast.specs.Trees.{Limit, NumberLiteral}
 use Rattle.apply_ast.specs.Views.{limit_of}
 use Rattle.apply_ast.specs.declared.items.Limit as of_limit
 use Rattle.apply_meaning.specs.Meaning.{reaches}
-use Rattle.apply_meaning.specs.declared.refusals.RunRefused.{RunRefused}
 use Rattle.pipe_run.specs.Selections.{literal_number}
 use Rattle.row_orders.specs.Ranks.{GivesNumbers}
 
@@ -120,7 +120,7 @@ sum-reaches (NumberLiteral.Int n) vs = refl
 sum-reaches (NumberLiteral.Dec m s) vs = refl
 
 -- the places of a selection in the program
-pub limit-is : (limit x : of_limit.Limit) (bottom b : Bool) (vs : List Value) (r : result.Result (Vec ℕ) RunRefused) → limit ≡ x → bottom ≡ b → GivesNumbers r (top_places (reaches (limit_of x) vs) b vs)
+pub limit-is : (limit x : of_limit.Limit) (bottom b : Bool) (vs : List Value) (r : result.Result (Vec ℕ) Refused) → limit ≡ x → bottom ≡ b → GivesNumbers r (top_places (reaches (limit_of x) vs) b vs)
     → GivesNumbers r (top_places (reaches (limit_of limit) vs) bottom vs)
 limit-is limit x bottom b vs r e f h =
     subst (λ x. GivesNumbers r (top_places (reaches (limit_of x) vs) bottom vs)) (sym e) (subst (λ d. GivesNumbers r (top_places (reaches (limit_of x) vs) d vs)) (sym f) h)

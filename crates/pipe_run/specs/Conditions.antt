@@ -4,9 +4,11 @@ use Rattle.std.specs.List.{list_all}
 use Rattle.std.specs.declared.result.Result as result
 use Rattle.std.specs.Global.{Vec}
 use Rattle.edm_values.specs.declared.Value.{Value}
+use Rattle.edm_values.specs.declared.refusals.Refused.{Refused}
 use Rattle.edm_values.specs.Lists.{all_some, at_places}
 use Rattle.edm_values.specs.Literals.{AreNumbers}
 use Rattle.edm_values.specs.Names.{Name}
+use Rattle.edm_values.specs.Refusals.{Returns}
 use Rattle.edm_model.specs.LookUps.{HierarchyPlace, navigation_on}
 use Rattle.edm_model.specs.Models.{Custom, Navigation, Part}
 use Rattle.edm_data.specs.Worlds.{World}
@@ -18,8 +20,7 @@ use Rattle.apply_meaning.specs.Instances.{Instance, extended, rows}
 use Rattle.apply_meaning.specs.Meaning.{Outcome, custom_value, item_value, keyed, mean, related_rows}
 use Rattle.apply_meaning.specs.MeaningLaws.{AllFit}
 use Rattle.apply_meaning.specs.RowViews.{columns_differ}
-use Rattle.apply_meaning.specs.Running.{Returns, Runs, StepRuns}
-use Rattle.apply_meaning.specs.declared.refusals.RunRefused.{RunRefused}
+use Rattle.apply_meaning.specs.Running.{Runs, StepRuns}
 use Rattle.hier_states.specs.States.{IsReadyAt}
 use Rattle.pipe_run.specs.Contexts.{Context}
 use Rattle.pipe_run.specs.Costs.{application, cost}
@@ -147,7 +148,7 @@ LevelsReady x root levels p l = (S : Shape) × (G : Shape) × LevelsRun x root S
 -- ---- several runs
 
 -- what several runs returned, where the meaning of each is known: `Memory` says nothing
-abbrev pub GivesAll : result.Result (Vec (Vec Instance)) RunRefused → List Outcome → Type 0
+abbrev pub GivesAll : result.Result (Vec (Vec Instance)) Refused → List Outcome → Type 0
 GivesAll r os = Returns (λ (v : Vec (Vec Instance)). all_some os ≡ Some (map (λ l. l.items) v.items)) (all_some os ≡ None) r
 
 -- ---- concatenations

@@ -3,8 +3,10 @@ use Rattle.std.specs.Prelude.{◌≡◌, ◌⊎◌, ℕ, Bool, false, true, List
 use Rattle.std.specs.declared.result.Result as result
 use Rattle.std.specs.Global.{Vec}
 use Rattle.edm_values.specs.declared.Value.{Value}
+use Rattle.edm_values.specs.declared.refusals.Refused.{Refused}
 use Rattle.edm_values.specs.Lists.{at_places}
 use Rattle.edm_values.specs.Names.{Path}
+use Rattle.edm_values.specs.Refusals.{Returns}
 use Rattle.edm_model.specs.LookUps.{HierarchyPlace}
 use Rattle.edm_data.specs.Nodes.{identifier, parents_of}
 use Rattle.edm_data.specs.Worlds.{World}
@@ -12,8 +14,6 @@ use Rattle.apply_ast.specs.Trees.{Keys}
 use Rattle.context_typing.specs.Typing.{Customs, RollupPart, group_keys, hierarchy_at, key_paths, plain_paths, rollup_part}
 use Rattle.apply_meaning.specs.Instances.{Instance, extended, no_instance}
 use Rattle.apply_meaning.specs.Meaning.{Outcome, joined, key_list, keyed, keys_shown, level_paths, node}
-use Rattle.apply_meaning.specs.Running.{Returns}
-use Rattle.apply_meaning.specs.declared.refusals.RunRefused.{RunRefused}
 use Rattle.group_rollup.specs.Groupings.{groups, has_beyond_key}
 use Rattle.rollup_rec.specs.Rollups.{rolled}
 
@@ -83,20 +83,16 @@ abbrev pub AreLevels : World → Keys → List Instance → List Level → Type 
 AreLevels w ks l levels = levels ≡ map (level_on w l) (levels_of ks)
 
 -- what a grouping without a recursive rollup found on a list: the groups of all levels, or a refusal where a key is Beyond; `Memory` says nothing
-abbrev pub GivesFlatLevels : result.Result (Vec Level) RunRefused → World → Keys → List Instance → Type 0
+abbrev pub GivesFlatLevels : result.Result (Vec Level) Refused → World → Keys → List Instance → Type 0
 GivesFlatLevels r w ks l = Returns (λ (v : Vec Level). AreLevels w ks l v.items × (has_beyond_key w (key_paths (group_keys ks)) l ≡ false)) (has_beyond_key w (key_paths (group_keys ks)) l ≡ true) r
 
 -- the same of a recursive rollup over these nodes
-abbrev pub GivesNodeLevels : result.Result (Vec Level) RunRefused → World → HierarchyPlace → List Path → Path → List ℕ → List Instance → Type 0
+abbrev pub GivesNodeLevels : result.Result (Vec Level) Refused → World → HierarchyPlace → List Path → Path → List ℕ → List Instance → Type 0
 GivesNodeLevels r w f ks p shown l = Returns (λ (v : Vec Level). (v.items ≡ node_levels w f ks p shown l) × (has_beyond_key w (ks ++ p ∷ []) l ≡ false)) (has_beyond_key w (ks ++ p ∷ []) l ≡ true) r
 
 -- what a grouping found on a list: the groups of all levels, or a refusal where a key is Beyond or the nodes that are shown are refused; `Memory` says nothing
-abbrev pub GivesLevels : result.Result (Vec Level) RunRefused → World → Customs → Keys → List Instance → Type 0
+abbrev pub GivesLevels : result.Result (Vec Level) Refused → World → Customs → Keys → List Instance → Type 0
 GivesLevels r w c ks l = Returns (λ (v : Vec Level). (shown : List ℕ) × (keys_shown w c ks ≡ Some shown) × (v.items ≡ levels_on w ks shown l) × (has_beyond_key w (key_paths (group_keys ks)) l ≡ false)) ((keys_shown w c ks ≡ None) ⊎ (has_beyond_key w (key_paths (group_keys ks)) l ≡ true)) r
-
--- what a grouping by these paths found: something of the groups, or a refusal where a key is Beyond; `Memory` says nothing
-abbrev pub GivesFor : {T : Type 0} → (T → Type 0) → World → List Path → List Instance → result.Result T RunRefused → Type 0
-GivesFor IsRight w ks l r = Returns (λ g. IsRight g × (has_beyond_key w ks l ≡ false)) (has_beyond_key w ks l ≡ true) r
 
 -- the instance of a group by these paths, with the columns of its key alone
 abbrev pub group_row : List Path → List Value × List ℕ → Instance

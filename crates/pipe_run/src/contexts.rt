@@ -15,11 +15,10 @@ ghost use Rattle.apply_meaning.specs.Running.{Gives, all_free, all_of, new_colum
 ghost use Rattle.aggregate_ops.specs.KeyTables.{HasWidth};
 ghost use Rattle.aggregate_ops.specs.Partials.{AreFoldable};
 ghost use Rattle.custom_agg.specs.CustomValues.{value_by_id, HaveRoot};
-ghost use Rattle.group_rollup.specs.Groupings.{groups, level_groups};
+ghost use Rattle.group_rollup.specs.Groupings.{groups, level_groups, GivesFor};
 ghost use Rattle.hier_rows.specs.HierRows.{path_values};
 ghost use Rattle.hier_states.specs.States.{IsReadyAt};
 ghost use Rattle.rollup_rec.specs.Rollups.{rolled, width_of};
-ghost use Rattle.pipe_run.specs.Levels.{GivesFor};
 
 use aggregate_ops::{Groups, aggregate_values};
 use apply_ast::{Expr, HierName, Named, Path};
@@ -29,7 +28,7 @@ use custom_agg::custom_at;
 use edm_data::Data;
 use edm_model::CustomId;
 use edm_values::{Method, Value};
-use group_rollup::{GroupRefused, group_list, list_keys, rollup_list};
+use group_rollup::{group_list, list_keys, rollup_list};
 use hier_index::Index;
 use hier_states::{HierState, Nodes, nodes_at};
 use par_stages::{Gate, workers_for};
@@ -270,11 +269,7 @@ impl<'a, R: Threads + Sync, G: Gate> Context<'a, R, G> {
         ensures { GivesFor (λ found. found ≡ groups self.now.world keys.now rows.now) self.now.world keys.now rows.now result }
     {
         let hands = self.hands(rows.len());
-        match group_list(self.rt, alloc, self.store, rows, keys, hands, self.gate) {
-            Ok(found) => Ok(found),
-            Err(GroupRefused::Range) => Err(RunRefused::Range),
-            Err(GroupRefused::Memory) => Err(RunRefused::Memory),
-        }
+        group_list(self.rt, alloc, self.store, rows, keys, hands, self.gate)
     }
 
     /// The groups of a list by each level of a rollup, the finest first.
@@ -290,13 +285,9 @@ impl<'a, R: Threads + Sync, G: Gate> Context<'a, R, G> {
         ensures { GivesFor (λ found. found.items ≡ level_groups self.now.world keys.now levels.now with_all rows.now) self.now.world (keys.now ++ levels.now) rows.now result }
     {
         let hands = self.hands(rows.len());
-        match rollup_list(
+        rollup_list(
             self.rt, alloc, self.store, rows, keys, levels, with_all, hands, self.gate,
-        ) {
-            Ok(found) => Ok(found),
-            Err(GroupRefused::Range) => Err(RunRefused::Range),
-            Err(GroupRefused::Memory) => Err(RunRefused::Memory),
-        }
+        )
     }
 
     /// The key list of each instance of a list by the paths.
@@ -309,11 +300,7 @@ impl<'a, R: Threads + Sync, G: Gate> Context<'a, R, G> {
         requires { IsTrue (all_of self.now.world rows.now) }
         ensures { GivesFor (λ lists. map (λ k. k.items) lists.items ≡ map (key_list self.now.world keys.now) rows.now) self.now.world keys.now rows.now result }
     {
-        match list_keys(self.rt, alloc, self.store, keys, rows, self.workers) {
-            Ok(lists) => Ok(lists),
-            Err(GroupRefused::Range) => Err(RunRefused::Range),
-            Err(GroupRefused::Memory) => Err(RunRefused::Memory),
-        }
+        list_keys(self.rt, alloc, self.store, keys, rows, self.workers)
     }
 
     /// What a pipeline takes of a hierarchy that it names.

@@ -4,9 +4,9 @@ ghost use Rattle.apply_ast.specs.Views.{key_of, keys_from, keys_of};
 ghost use Rattle.context_typing.specs.Typing.{group_keys, plain_paths, rollup_part, rollup_paths};
 ghost use Rattle.apply_meaning.specs.Meaning.{level_paths};
 ghost use Rattle.apply_meaning.specs.Running.{all_of};
-ghost use Rattle.group_rollup.specs.Groupings.{groups};
+ghost use Rattle.group_rollup.specs.Groupings.{groups, GivesFor};
 ghost use Rattle.pipe_run.specs.RecursiveKeys.{are_flat_keys};
-ghost use Rattle.pipe_run.specs.Levels.{AreKeys, GivesFor, GivesFlatLevels, part_of, with_node};
+ghost use Rattle.pipe_run.specs.Levels.{AreKeys, GivesFlatLevels, part_of, with_node};
 
 use crate::contexts::Context;
 use aggregate_ops::{Groups, copies};

@@ -1,12 +1,11 @@
 //! Selections from the top and the bottom: rows taken by the values of an expression. No row is made.
-ghost use Rattle.std.specs.Prelude.{◌≡◌, ℕ, Bool, List, Option, Some, IfOk, IsTrue, filter, length, map, nat_lt};
+ghost use Rattle.std.specs.Prelude.{◌≡◌, ℕ, Bool, List, Some, IfOk, IsTrue, filter, length, map, nat_lt};
 ghost use Rattle.std.specs.List.{list_all};
 ghost use Rattle.edm_values.specs.Lists.{at_places, places as all_places};
 ghost use Rattle.edm_values.specs.Values.{number_part, seen_value, top_places};
 ghost use Rattle.apply_ast.specs.Views.{limit_of, number_literal_of, top_of};
 ghost use Rattle.apply_meaning.specs.Meaning.{reaches, selected, values};
 ghost use Rattle.apply_meaning.specs.Running.{Gives, all_of};
-ghost use Rattle.top_family.specs.Selections.{Takes};
 ghost use Rattle.pipe_run.specs.Conditions.{LimitReady};
 ghost use Rattle.pipe_run.specs.Selections.{literal_number};
 ghost use Rattle.row_orders.specs.Ranks.{GivesNumbers};
@@ -19,9 +18,7 @@ use par_stages::Gate;
 use row_values::{PlacedRows, RowList};
 use std::alloc::{AllocError, Global};
 use std::thread::Threads;
-use top_family::{
-    TopRefused, bottom_count, bottom_percent, bottom_sum, top_count, top_percent, top_sum,
-};
+use top_family::{bottom_count, bottom_percent, bottom_sum, top_count, top_percent, top_sum};
 
 /// The number of a literal, as a value.
 fn number_value(number: &Number) -> Seen<'_>
@@ -30,17 +27,6 @@ fn number_value(number: &Number) -> Seen<'_>
     match number {
         Number::Int(n) => Seen::Int(*n),
         Number::Dec(d) => Seen::Dec(*d),
-    }
-}
-
-/// What a selection answered, as a run returns it.
-fn run_answer(taken: Result<Vec<usize>, TopRefused>) -> Result<Vec<usize>, RunRefused>
-    ensures { (places : Option (List ℕ)) → Takes places taken → GivesNumbers result places }
-{
-    match taken {
-        Ok(places) => Ok(places),
-        Err(TopRefused::Range) => Err(RunRefused::Range),
-        Err(TopRefused::Memory) => Err(RunRefused::Memory),
     }
 }
 
@@ -55,12 +41,12 @@ fn taken_places(
     ensures { let vs = map seen_value values.now in GivesNumbers result (top_places (reaches (limit_of limit.now) vs) bottom vs) }
 {
     match (limit, bottom) {
-        (Limit::Count(n), false) => run_answer(top_count(alloc, values, *n)),
-        (Limit::Count(n), true) => run_answer(bottom_count(alloc, values, *n)),
-        (Limit::Sum(number), false) => run_answer(top_sum(alloc, values, number_value(number))),
-        (Limit::Sum(number), true) => run_answer(bottom_sum(alloc, values, number_value(number))),
-        (Limit::Percent(p), false) => run_answer(top_percent(alloc, values, *p)),
-        (Limit::Percent(p), true) => run_answer(bottom_percent(alloc, values, *p)),
+        (Limit::Count(n), false) => top_count(alloc, values, *n),
+        (Limit::Count(n), true) => bottom_count(alloc, values, *n),
+        (Limit::Sum(number), false) => top_sum(alloc, values, number_value(number)),
+        (Limit::Sum(number), true) => bottom_sum(alloc, values, number_value(number)),
+        (Limit::Percent(p), false) => top_percent(alloc, values, *p),
+        (Limit::Percent(p), true) => bottom_percent(alloc, values, *p),
     }
 }
 

@@ -5,16 +5,16 @@ use Rattle.std.specs.Arc.{arc_value}
 use Rattle.std.specs.Global.{Vec}
 use Rattle.std.specs.List.{All}
 use Rattle.edm_values.specs.declared.Value.{Value}
+use Rattle.edm_values.specs.declared.refusals.Refused.{Refused}
 use Rattle.edm_values.specs.Values.{seen_value, negated, negation}
 use Rattle.edm_values.specs.Names.{Path}
+use Rattle.edm_values.specs.Refusals.{Returns}
 use Rattle.edm_data.specs.Worlds.{World, Entity, entity_at}
 use Rattle.apply_ast.specs.declared.expressions.UnOp.TheVariants as UnOp
 use Rattle.apply_ast.specs.Trees.{Expr}
 use Rattle.apply_meaning.specs.Instances.{Instance, no_instance, lookup, val, binary, call1, call2}
 use Rattle.apply_meaning.specs.Meaning.{Outcome, key_list}
 use Rattle.apply_meaning.specs.RowViews.{row_instance, IsRow}
-use Rattle.apply_meaning.specs.Running.{Returns}
-use Rattle.apply_meaning.specs.declared.refusals.RunRefused.{RunRefused}
 use Rattle.row_frames.specs.Hops.{property_in, reached}
 use Rattle.row_frames.specs.declared.tables.Roots.{Roots}
 use Rattle.row_frames.specs.declared.tables.Roots.TheVariants as roots
@@ -78,11 +78,11 @@ abbrev pub all_picked : List Table → List Pick → List Instance
 all_picked ts xs = map (picked ts) xs
 
 -- a list that was made, where the meaning is known: `Memory` says nothing
-abbrev pub GivesFrame : result.Result (List Instance) RunRefused → Outcome → Type 0
+abbrev pub GivesFrame : result.Result (List Instance) Refused → Outcome → Type 0
 GivesFrame r m = Returns (λ l. m ≡ Some l) (m ≡ None) r
 
 -- picks that were kept, where the meaning is known
-abbrev pub GivesPicks : List Table → result.Result (Vec Pick) RunRefused → Outcome → Type 0
+abbrev pub GivesPicks : List Table → result.Result (Vec Pick) Refused → Outcome → Type 0
 GivesPicks ts r m = Returns (λ (xs : Vec Pick). m ≡ Some (all_picked ts xs.items)) (m ≡ None) r
 
 -- ---- bound expressions

@@ -17,6 +17,8 @@ use Rattle.std.proofs.lemmas.List.Sorted.{ranks_by}
 use denote.Param.Members.{Mut}
 use Rattle.edm_data.specs.Worlds.{World}
 use Rattle.edm_values.specs.declared.Value.{Value}
+use Rattle.edm_values.specs.declared.refusals.Refused.{Refused}
+use Rattle.edm_values.specs.declared.refusals.Refused.TheVariants.{Range, Memory}
 use Rattle.edm_values.specs.Lists.{sorted}
 use Rattle.edm_values.specs.Values.{is_beyond}
 use Rattle.edm_values.proofs.EachLemmas.{Each, none_is_not_some}
@@ -30,8 +32,6 @@ use Rattle.apply_meaning.specs.Instances.{Instance, val}
 use Rattle.apply_meaning.specs.Meaning.{order_before, order_values, refused_at_beyond}
 use Rattle.apply_meaning.specs.RowViews.{is_of}
 use Rattle.apply_meaning.specs.Running.{Gives, all_of}
-use Rattle.apply_meaning.specs.declared.refusals.RunRefused.{RunRefused}
-use Rattle.apply_meaning.specs.declared.refusals.RunRefused.TheVariants.{Range, Memory}
 use Rattle.row_orders.proofs.OrderLemmas.{beyond-values, item_cmp_total, sorted-by_values, values-before, values_cmp_total}
 use Rattle.row_orders.specs.Orders.{RankedRow, before, first_value, has_beyond, item_cmp, item_values, values_cmp}
 
@@ -261,7 +261,7 @@ module _ (w : World) (is : List code.OrderItem) (k : ℕ) (l rows : List Instanc
   refused-parts true x e = refl
   refused-parts false x e = absurd (none_is_not_some x (sym e))
 
-  pub behind-refused : (e : RunRefused) (r s : List Instance) → Gives (Err e) (refused_at_beyond (order_values w (item_of d ∷ []) rows) r) → Gives (Err e) (refused_at_beyond (order_values w (map item_of is) l) s)
+  pub behind-refused : (e : Refused) (r s : List Instance) → Gives (Err e) (refused_at_beyond (order_values w (item_of d ∷ []) rows) r) → Gives (Err e) (refused_at_beyond (order_values w (map item_of is) l) s)
   behind-refused Memory r s h = tt
   behind-refused Range r s h =
       let here : list_any is_beyond (order_values w (item_of d ∷ []) l) ≡ true = beyond-reorders w (item_of d ∷ []) same-rows ∙ refused-parts (list_any is_beyond (order_values w (item_of d ∷ []) rows)) r h in

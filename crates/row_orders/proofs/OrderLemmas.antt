@@ -18,6 +18,8 @@ use Rattle.std.proofs.lemmas.List.Sorted.{ranks_by}
 use Rattle.std.proofs.Math.Bool.{or-true}
 use Rattle.edm_data.specs.Worlds.{World}
 use Rattle.edm_values.specs.declared.Value.{Value}
+use Rattle.edm_values.specs.declared.refusals.Refused.{Refused}
+use Rattle.edm_values.specs.declared.refusals.Refused.TheVariants.{Range, Memory}
 use Rattle.edm_values.specs.Lists.{sorted}
 use Rattle.edm_values.specs.Values.{is_beyond}
 use Rattle.edm_values.specs.OrderLaws.{value_cmp_total}
@@ -29,8 +31,6 @@ use Rattle.apply_ast.specs.declared.items.OrderItem as code
 use Rattle.apply_meaning.proofs.InstanceOrders.{item_before_is}
 use Rattle.apply_meaning.specs.Instances.{Instance, val}
 use Rattle.apply_meaning.specs.Meaning.{order_before, order_values, refused_at_beyond, values}
-use Rattle.apply_meaning.specs.declared.refusals.RunRefused.{RunRefused}
-use Rattle.apply_meaning.specs.declared.refusals.RunRefused.TheVariants.{Range, Memory}
 use Rattle.apply_meaning.specs.Running.{Gives}
 use Rattle.row_orders.specs.Orders.{GivesRanked, RankedRow, first_value, has_beyond, item_cmp, item_values, ranked, before, values_cmp}
 
@@ -132,6 +132,6 @@ pub all-sure : {A : Type 0} (w : World) (xs : List OrderItem) (l : List Instance
 all-sure w xs l r h = ap (λ b. then_some (not b) r) (beyond-values w xs l ∙ h)
 
 -- and a refusal where one is
-pub beyond-refused : (e : RunRefused) (w : World) (xs : List OrderItem) (l r : List Instance) → GivesRanked (Err e) w xs l → Gives (Err e) (refused_at_beyond (order_values w xs l) r)
+pub beyond-refused : (e : Refused) (w : World) (xs : List OrderItem) (l r : List Instance) → GivesRanked (Err e) w xs l → Gives (Err e) (refused_at_beyond (order_values w xs l) r)
 beyond-refused Range w xs l r h = ap (λ b. then_some (not b) r) (beyond-values w xs l ∙ h)
 beyond-refused Memory w xs l r h = tt

@@ -9,6 +9,8 @@ use Rattle.std.proofs.lemmas.List.{append-nil, length-map}
 use Rattle.std.proofs.lemmas.List.Sorted.{ranks_by}
 use Rattle.std.proofs.lemmas.Option.{slice_get-get_or}
 use Rattle.edm_values.specs.declared.Value.{Value}
+use Rattle.edm_values.specs.declared.refusals.Refused.{Refused}
+use Rattle.edm_values.specs.declared.refusals.Refused.TheVariants.{Range, Memory}
 use Rattle.edm_values.specs.Lists.{at_places, sorted}
 use Rattle.edm_values.specs.Values.{is_beyond}
 use Rattle.edm_values.proofs.ListFacts.{all-map, all-sorted}
@@ -18,8 +20,6 @@ use Rattle.edm_data.specs.Worlds.{World}
 use Rattle.apply_ast.specs.Trees.{OrderItem}
 use Rattle.apply_meaning.specs.Instances.{Instance, no_instance, val}
 use Rattle.apply_meaning.specs.Meaning.{order_before, order_values, refused_at_beyond, values}
-use Rattle.apply_meaning.specs.declared.refusals.RunRefused.{RunRefused}
-use Rattle.apply_meaning.specs.declared.refusals.RunRefused.TheVariants.{Range, Memory}
 use Rattle.row_orders.specs.Orders.{RankedPlace, RankedRow, before, item_values, ranked}
 use Rattle.row_orders.specs.Places.{GivesNumbered, GivesOrder, numbered}
 use Rattle.row_orders.proofs.OrderLemmas.{before-order, values-before, values_cmp_total}
@@ -114,6 +114,6 @@ item-sure w x l vs r e h = ap (λ b. then_some (not b) r) (ap (list_any is_beyon
 pub item-refused : {A : Type 0} (w : World) (x : OrderItem) (l : List Instance) (vs : List Value) (r : A) → vs ≡ values w x.expr l → list_any is_beyond vs ≡ true → refused_at_beyond (order_values w (x ∷ []) l) r ≡ None
 item-refused w x l vs r e h = ap (λ b. then_some (not b) r) (ap (list_any is_beyond) (append-nil (values w x.expr l) ∙ sym e) ∙ h)
 
-pub order-refused : (e : RunRefused) (w : World) (x : OrderItem) (l : List Instance) (vs : List Value) (r : List Instance) → vs ≡ values w x.expr l → GivesNumbered (Err e) vs → GivesOrder (Err e) l (refused_at_beyond (order_values w (x ∷ []) l) r)
+pub order-refused : (e : Refused) (w : World) (x : OrderItem) (l : List Instance) (vs : List Value) (r : List Instance) → vs ≡ values w x.expr l → GivesNumbered (Err e) vs → GivesOrder (Err e) l (refused_at_beyond (order_values w (x ∷ []) l) r)
 order-refused Range w x l vs r e h = item-refused w x l vs r e h
 order-refused Memory w x l vs r e h = tt

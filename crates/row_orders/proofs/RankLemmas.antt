@@ -12,6 +12,8 @@ use Rattle.std.proofs.lemmas.List.{drop_all, get_or_default, length-set}
 use Rattle.std.proofs.lemmas.List.Sorted.{sorted_far}
 use Rattle.std.proofs.lemmas.List.Sums.{length-filter}
 use Rattle.edm_data.specs.Worlds.{World}
+use Rattle.edm_values.specs.declared.refusals.Refused.{Refused}
+use Rattle.edm_values.specs.declared.refusals.Refused.TheVariants.{Range, Memory}
 use Rattle.edm_values.proofs.EachLemmas.{Each, each-at}
 use Rattle.edm_values.proofs.Reorderings.{Reorders, each-reorders, length-reorders, reorders-back, reorders-filter}
 use Rattle.edm_values.proofs.SortLaws.{stable_sort_is_sorted, count_cons}
@@ -19,8 +21,6 @@ use Rattle.edm_values.proofs.SortedLists.{reorders-sorted}
 use Rattle.apply_ast.specs.Trees.{OrderItem}
 use Rattle.apply_meaning.specs.Instances.{Instance}
 use Rattle.apply_meaning.specs.Meaning.{order_before, order_values, refused_at_beyond}
-use Rattle.apply_meaning.specs.declared.refusals.RunRefused.{RunRefused}
-use Rattle.apply_meaning.specs.declared.refusals.RunRefused.TheVariants.{Range, Memory}
 use Rattle.row_orders.specs.Orders.{RankedPlace, before, item_values, values_cmp}
 use Rattle.row_orders.specs.Ranks.{ArePlaces, GivesNumbers, GivesSorted, HaveRanks, IsFormerRank, placed_from, rank_in, ranks}
 use Rattle.row_orders.proofs.OrderLemmas.{before-order, beyond-values, values-before, values_cmp_total}
@@ -230,6 +230,6 @@ module _ (w : World) (xs : List OrderItem) where
         (each-of (λ (y : RankedPlace). slice_index rs y.1 ≡ rank_in (before xs) (placed_from w xs 0 l) y) ys (λ k d h. have.stands k d h ∙ sym (count-reorders (λ y. before xs y (get_or ys k d)) moved))))
 
 -- a refusal where one of the values is `Beyond`
-pub ranks-refused : (e : RunRefused) (w : World) (xs : List OrderItem) (l : List Instance) (r : List ℕ) → GivesSorted (Err e) w xs l → GivesNumbers (Err e) (refused_at_beyond (order_values w xs l) r)
+pub ranks-refused : (e : Refused) (w : World) (xs : List OrderItem) (l : List Instance) (r : List ℕ) → GivesSorted (Err e) w xs l → GivesNumbers (Err e) (refused_at_beyond (order_values w xs l) r)
 ranks-refused Range w xs l r h = ap (λ b. then_some (not b) r) (beyond-values w xs l ∙ h)
 ranks-refused Memory w xs l r h = tt

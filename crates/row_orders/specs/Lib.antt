@@ -1,4 +1,5 @@
 pub use Rattle.edm_values.specs.Lists
+pub use Rattle.edm_values.specs.Refusals
 pub use Rattle.apply_ast.specs.Views
 pub use Rattle.apply_meaning.specs.Meaning
 pub use Rattle.apply_meaning.specs.Running

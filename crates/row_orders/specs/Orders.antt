@@ -8,11 +8,11 @@ use Rattle.std.specs.List.{list_any}
 use Rattle.std.specs.Ordering.{ordering_then, flip_args, is_lt}
 use Rattle.edm_data.specs.Worlds.{World}
 use Rattle.edm_values.specs.declared.Value.{Value}
+use Rattle.edm_values.specs.declared.refusals.Refused.{Refused}
 use Rattle.edm_values.specs.Values.{is_beyond, value_cmp}
+use Rattle.edm_values.specs.Refusals.{Returns}
 use Rattle.apply_ast.specs.Trees.{OrderItem}
 use Rattle.apply_meaning.specs.Instances.{Instance, val}
-use Rattle.apply_meaning.specs.Running.{Returns}
-use Rattle.apply_meaning.specs.declared.refusals.RunRefused.{RunRefused}
 
 -- the values of the items on an instance
 abbrev pub item_values : World → List OrderItem → Instance → List Value
@@ -35,15 +35,15 @@ abbrev pub has_beyond : World → List OrderItem → Instance → Bool
 has_beyond w items i = list_any is_beyond (item_values w items i)
 
 -- what the values of a row are, refused where one is `Beyond`
-abbrev pub GivesValues : result.Result (Vec Value) RunRefused → List Value → Type 0
+abbrev pub GivesValues : result.Result (Vec Value) Refused → List Value → Type 0
 GivesValues r vs = Returns (λ (v : Vec Value). (v.items ≡ vs) × (list_any is_beyond vs ≡ false)) (list_any is_beyond vs ≡ true) r
 
 -- what the only value of a row is, refused where it is `Beyond`
-abbrev pub GivesValue : result.Result Value RunRefused → List Value → Type 0
+abbrev pub GivesValue : result.Result Value Refused → List Value → Type 0
 GivesValue r vs = Returns (λ (v : Value). (v ∷ [] ≡ vs) × (list_any is_beyond vs ≡ false)) (list_any is_beyond vs ≡ true) r
 
 -- the rows with their values, refused where one is `Beyond`
-abbrev pub GivesRanked : result.Result (Vec RankedRow) RunRefused → World → List OrderItem → List Instance → Type 0
+abbrev pub GivesRanked : result.Result (Vec RankedRow) Refused → World → List OrderItem → List Instance → Type 0
 GivesRanked r w items l = Returns (λ (v : Vec RankedRow). (v.items ≡ map (ranked w items) l) × (list_any (has_beyond w items) l ≡ false)) (list_any (has_beyond w items) l ≡ true) r
 
 -- the first value of a list, null where there is none

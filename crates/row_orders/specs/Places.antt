@@ -4,12 +4,12 @@ use Rattle.std.specs.declared.result.Result as result
 use Rattle.std.specs.Global.{Vec}
 use Rattle.std.specs.List.{list_any}
 use Rattle.edm_values.specs.declared.Value.{Value}
+use Rattle.edm_values.specs.declared.refusals.Refused.{Refused}
 use Rattle.edm_values.specs.Lists.{at_places}
 use Rattle.edm_values.specs.Values.{is_beyond}
+use Rattle.edm_values.specs.Refusals.{Returns}
 use Rattle.apply_meaning.specs.Instances.{Instance}
 use Rattle.apply_meaning.specs.Meaning.{Outcome}
-use Rattle.apply_meaning.specs.Running.{Returns}
-use Rattle.apply_meaning.specs.declared.refusals.RunRefused.{RunRefused}
 use Rattle.row_orders.specs.Orders.{RankedPlace}
 
 -- values with their places, counted from n
@@ -18,9 +18,9 @@ numbered n [] = []
 numbered n (v ∷ vs) = (v ∷ [], n) ∷ numbered (suc n) vs
 
 -- the values with their places, refused where one is `Beyond`
-abbrev pub GivesNumbered : result.Result (Vec RankedPlace) RunRefused → List Value → Type 0
+abbrev pub GivesNumbered : result.Result (Vec RankedPlace) Refused → List Value → Type 0
 GivesNumbered r vs = Returns (λ (v : Vec RankedPlace). (v.items ≡ numbered 0 vs) × (list_any is_beyond vs ≡ false)) (list_any is_beyond vs ≡ true) r
 
 -- the places at which these instances are those of the outcome, refused where that is
-abbrev pub GivesOrder : result.Result (Vec ℕ) RunRefused → List Instance → Outcome → Type 0
+abbrev pub GivesOrder : result.Result (Vec ℕ) Refused → List Instance → Outcome → Type 0
 GivesOrder r l m = Returns (λ (v : Vec ℕ). m ≡ Some (at_places l v.items)) (m ≡ None) r

@@ -6,11 +6,11 @@ use Rattle.std.specs.Global.{Vec}
 use Rattle.std.specs.List.{list_any}
 use Rattle.std.specs.Ordering.{bool_cmp, int_cmp}
 use Rattle.edm_values.specs.declared.Value.{Value}
+use Rattle.edm_values.specs.declared.refusals.Refused.{Refused}
 use Rattle.edm_values.specs.Lists.{places}
 use Rattle.edm_values.specs.Values.{is_beyond, is_null, number_part, value_in}
-use Rattle.top_family.specs.Selections.{Returns}
+use Rattle.edm_values.specs.Refusals.{Returns}
 use Rattle.top_family.specs.declared.numbers.Ranked.{Ranked}
-use Rattle.top_family.specs.declared.refusals.TopRefused.{TopRefused}
 
 -- a place with what tells the rank of its number
 abbrev pub ranked_of : Value → ℕ → Ranked
@@ -25,5 +25,5 @@ abbrev pub ranked_cmp : Bool → Ranked → Ranked → Ordering
 ranked_cmp bottom a b = if a.is_null || b.is_null then bool_cmp a.is_null b.is_null else if bottom then int_cmp a.mantissa b.mantissa else int_cmp b.mantissa a.mantissa
 
 -- what all places returned: each with what tells its rank where no value is Beyond, and a refusal where one is; `Memory` says nothing
-abbrev pub GivesRanked : List Value → result.Result (Vec Ranked) TopRefused → Type 0
+abbrev pub GivesRanked : List Value → result.Result (Vec Ranked) Refused → Type 0
 GivesRanked vs r = Returns (λ (v : Vec Ranked). (v.items ≡ map (ranked_at vs) (places (length vs))) × (list_any is_beyond vs ≡ false)) (list_any is_beyond vs ≡ true) r

@@ -14,9 +14,8 @@
 
 mod numbers;
 mod rankings;
-mod refusals;
 mod selections;
 mod thresholds;
 
-pub use refusals::TopRefused;
+pub use edm_values::Refused as TopRefused;
 pub use selections::{bottom_count, bottom_percent, bottom_sum, top_count, top_percent, top_sum};

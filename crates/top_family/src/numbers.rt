@@ -10,7 +10,7 @@ ghost use Rattle.top_family.specs.Numbers.{GivesRanked, ranked_cmp};
 ghost use Rattle.top_family.specs.Rankings.{GivesRanking};
 ghost use Rattle.top_family.specs.Selections.{seen_values};
 
-use crate::refusals::TopRefused;
+use crate::TopRefused;
 use edm_values::Seen;
 use std::alloc::{AllocError, Global};
 use std::cmp::Ordering;

@@ -4,9 +4,9 @@ ghost use Rattle.edm_values.specs.Literals.{AreNumbers};
 ghost use Rattle.edm_values.specs.Values.{number_part, reaches_count, reaches_percent, reaches_sum, seen_value, top_places};
 ghost use Rattle.top_family.specs.Selections.{Takes, seen_values};
 
+use crate::TopRefused;
 use crate::numbers::number_ranking;
 use crate::rankings::{ascending, first_by_rank};
-use crate::refusals::TopRefused;
 use crate::thresholds::{front_reaching, least_of_bound, least_of_percent};
 use edm_values::Seen;
 use std::alloc::Global;

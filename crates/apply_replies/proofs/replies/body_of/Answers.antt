@@ -1,4 +1,6 @@
-use Rattle.std.proofs.Common.{◌≡◌, List, None, Some, ap, Err, subst}
+use Rattle.std.proofs.Common.{◌≡◌, ℕ, List, None, Some, subst}
+use Rattle.std.specs.declared.option.Option.{Option}
+use Rattle.std.proofs.lemmas.Result.{IfOk-weaker}
 use Rattle.edm_model.specs.LookUps.{set_name}
 use Rattle.edm_data.specs.Worlds.{World}
 use Rattle.context_typing.specs.Readings.{readings}
@@ -7,21 +9,22 @@ use Rattle.json_render.specs.Bodies.{body}
 use Rattle.apply_replies.proofs.Responding.{body-of_plan}
 use Rattle.apply_replies.proofs.replies.body_of.Goals as goal
 
-pub returns-in-Ok-clause-ok : goal.returns-in-Ok-clause-ok
-returns-in-Ok-clause-ok g c =
+pub returns-clause-ok : goal.returns-clause-ok
+returns-clause-ok g c =
     let w = c.args.store.now.world in
     let t = c.typed-typed.result.now in
-    let b = Some c.in-Ok.body.items in
-    let P : World → Type 0 = λ x. body x (set_name x.model t.set) t.shape c.as_slice.result.now ≡ b in
-    let Q : List Instance → Type 0 = λ l. body w (set_name w.model t.set) t.shape l ≡ b in
-    body-of_plan w (readings c.args.store.now.customs) c.args.plan.now t c.in_ok-rows.rows.items b c.requires.plan c.typed-typed.ensures.value
-    (rw (c.data.ensures.value, c.customs.ensures.value) at c.in_ok-rows.ensures.mean) (subst Q c.as_slice.ensures.value (subst P c.data-2.ensures.value c.in-Ok.ensures.ok))
+    let P : Option (List ℕ) → World → Type 0 = λ b x. body x (set_name x.model t.set) t.shape c.as_slice.result.now ≡ b in
+    let Q : Option (List ℕ) → List Instance → Type 0 = λ b l. body w (set_name w.model t.set) t.shape l ≡ b in
+    IfOk-weaker c.render.result _ _ (λ b h.
+    body-of_plan w (readings c.args.store.now.customs) c.args.plan.now t c.in_ok-rows.rows.items (Some b.items) c.requires.plan c.typed-typed.ensures.value
+    (rw (c.data.ensures.value, c.customs.ensures.value) at c.in_ok-rows.ensures.mean) (subst (Q (Some b.items)) c.as_slice.ensures.value (subst (P (Some b.items)) c.data-2.ensures.value h)))
+    c.render.ensures.ok
 
-pub returns-in-Err-Range-clause-range : goal.returns-in-Err-Range-clause-range
-returns-in-Err-Range-clause-range g c = λ _.
+pub returns-clause-range : goal.returns-clause-range
+returns-clause-range g c = λ refused.
     let w = c.args.store.now.world in
     let t = c.typed-typed.result.now in
     let P : World → Type 0 = λ x. body x (set_name x.model t.set) t.shape c.as_slice.result.now ≡ None in
     let Q : List Instance → Type 0 = λ l. body w (set_name w.model t.set) t.shape l ≡ None in
     body-of_plan w (readings c.args.store.now.customs) c.args.plan.now t c.in_ok-rows.rows.items None c.requires.plan c.typed-typed.ensures.value
-    (rw (c.data.ensures.value, c.customs.ensures.value) at c.in_ok-rows.ensures.mean) (subst Q c.as_slice.ensures.value (subst P c.data-2.ensures.value (c.in-Err-Range.ensures.range (ap Err c.in-Err-Range.field-0-is))))
+    (rw (c.data.ensures.value, c.customs.ensures.value) at c.in_ok-rows.ensures.mean) (subst Q c.as_slice.ensures.value (subst P c.data-2.ensures.value (c.render.ensures.range refused)))

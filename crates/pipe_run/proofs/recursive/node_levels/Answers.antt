@@ -13,12 +13,12 @@ use Rattle.context_typing.specs.Typing.{hierarchy_at, plain_paths}
 use Rattle.apply_meaning.specs.Instances.{lookup}
 use Rattle.apply_meaning.specs.Meaning.{key_list}
 use Rattle.aggregate_ops.proofs.KeyGroups.{wide-images}
-use Rattle.group_rollup.specs.Groupings.{has_beyond_key}
+use Rattle.group_rollup.specs.Groupings.{has_beyond_key, GivesFor}
 use Rattle.hier_rows.proofs.NodeLaws.{nodes-are, nodes-count}
 use Rattle.hier_rows.specs.HierRows as rows
 use Rattle.hier_rows.specs.HierRows.{AreNodesBelow, AreOptionsBelow, node_in, path_values}
 use Rattle.rollup_rec.specs.Rollups.{rolled}
-use Rattle.pipe_run.specs.Levels.{GivesFor, node_level}
+use Rattle.pipe_run.specs.Levels.{node_level}
 use Rattle.pipe_run.proofs.ClimbOutcomes.{found}
 use Rattle.pipe_run.proofs.NodeKeys.{keys-err, none-beyond, path-err, wide-first}
 use Rattle.pipe_run.proofs.recursive.node_levels.Goals as goal

@@ -11,37 +11,37 @@ use Rattle.pipe_run.proofs.selections.taken_places.Goals as goal
 pub returns-in-Count-true : goal.returns-in-Count-true
 returns-in-Count-true c =
     let vs = map seen_value c.args.values.now in
-    limit-is c.args.limit.now (code.Count c.in-Count-true.n) c.args.bottom true vs c.run_answer.result c.in-Count-true.is-0 c.in-Count-true.is-1
-    (c.run_answer.ensures (top_places (reaches (limit_of (code.Count c.in-Count-true.n)) vs) true vs) c.bottom_count.ensures.value)
+    limit-is c.args.limit.now (code.Count c.in-Count-true.n) c.args.bottom true vs c.bottom_count.result c.in-Count-true.is-0 c.in-Count-true.is-1
+    c.bottom_count.ensures.value
 
 pub returns-in-Count-false : goal.returns-in-Count-false
 returns-in-Count-false c =
     let vs = map seen_value c.args.values.now in
-    limit-is c.args.limit.now (code.Count c.in-Count-false.n) c.args.bottom false vs c.run_answer-in-Count-false.result c.in-Count-false.is-0 c.in-Count-false.is-1
-    (c.run_answer-in-Count-false.ensures (top_places (reaches (limit_of (code.Count c.in-Count-false.n)) vs) false vs) c.top_count.ensures.value)
+    limit-is c.args.limit.now (code.Count c.in-Count-false.n) c.args.bottom false vs c.top_count.result c.in-Count-false.is-0 c.in-Count-false.is-1
+    c.top_count.ensures.value
 
 pub returns-in-Sum-true : goal.returns-in-Sum-true
 returns-in-Sum-true c =
     let vs = map seen_value c.args.values.now in
-    limit-is c.args.limit.now (code.Sum c.in-Sum-true.number) c.args.bottom true vs c.run_answer-in-Sum-true.result c.in-Sum-true.is-0 c.in-Sum-true.is-1
-    (c.run_answer-in-Sum-true.ensures (top_places (reaches (limit_of (code.Sum c.in-Sum-true.number)) vs) true vs) (subst (λ (enough : List Value → Bool). Takes (top_places enough true vs) c.bottom_sum.result) (sym (sum-reaches (number_literal_of c.in-Sum-true.number) vs))
-    (subst (λ (v : Number). Takes (top_places (reaches_sum v) true vs) c.bottom_sum.result) c.number_value.ensures c.bottom_sum.ensures.value)))
+    limit-is c.args.limit.now (code.Sum c.in-Sum-true.number) c.args.bottom true vs c.bottom_sum.result c.in-Sum-true.is-0 c.in-Sum-true.is-1
+    (subst (λ (enough : List Value → Bool). Takes (top_places enough true vs) c.bottom_sum.result) (sym (sum-reaches (number_literal_of c.in-Sum-true.number) vs))
+    (subst (λ (v : Number). Takes (top_places (reaches_sum v) true vs) c.bottom_sum.result) c.number_value.ensures c.bottom_sum.ensures.value))
 
 pub returns-in-Sum-false : goal.returns-in-Sum-false
 returns-in-Sum-false c =
     let vs = map seen_value c.args.values.now in
-    limit-is c.args.limit.now (code.Sum c.in-Sum-false.number) c.args.bottom false vs c.run_answer-in-Sum-false.result c.in-Sum-false.is-0 c.in-Sum-false.is-1
-    (c.run_answer-in-Sum-false.ensures (top_places (reaches (limit_of (code.Sum c.in-Sum-false.number)) vs) false vs) (subst (λ (enough : List Value → Bool). Takes (top_places enough false vs) c.top_sum.result) (sym (sum-reaches (number_literal_of c.in-Sum-false.number) vs))
-    (subst (λ (v : Number). Takes (top_places (reaches_sum v) false vs) c.top_sum.result) c.number_value-in-Sum-false.ensures c.top_sum.ensures.value)))
+    limit-is c.args.limit.now (code.Sum c.in-Sum-false.number) c.args.bottom false vs c.top_sum.result c.in-Sum-false.is-0 c.in-Sum-false.is-1
+    (subst (λ (enough : List Value → Bool). Takes (top_places enough false vs) c.top_sum.result) (sym (sum-reaches (number_literal_of c.in-Sum-false.number) vs))
+    (subst (λ (v : Number). Takes (top_places (reaches_sum v) false vs) c.top_sum.result) c.number_value-in-Sum-false.ensures c.top_sum.ensures.value))
 
 pub returns-in-Percent-true : goal.returns-in-Percent-true
 returns-in-Percent-true c =
     let vs = map seen_value c.args.values.now in
-    limit-is c.args.limit.now (code.Percent c.in-Percent-true.p) c.args.bottom true vs c.run_answer-in-Percent-true.result c.in-Percent-true.is-0 c.in-Percent-true.is-1
-    (c.run_answer-in-Percent-true.ensures (top_places (reaches (limit_of (code.Percent c.in-Percent-true.p)) vs) true vs) c.bottom_percent.ensures.value)
+    limit-is c.args.limit.now (code.Percent c.in-Percent-true.p) c.args.bottom true vs c.bottom_percent.result c.in-Percent-true.is-0 c.in-Percent-true.is-1
+    c.bottom_percent.ensures.value
 
 pub returns-in-Percent-false : goal.returns-in-Percent-false
 returns-in-Percent-false c =
     let vs = map seen_value c.args.values.now in
-    limit-is c.args.limit.now (code.Percent c.in-Percent-false.p) c.args.bottom false vs c.run_answer-in-Percent-false.result c.in-Percent-false.is-0 c.in-Percent-false.is-1
-    (c.run_answer-in-Percent-false.ensures (top_places (reaches (limit_of (code.Percent c.in-Percent-false.p)) vs) false vs) c.top_percent.ensures.value)
+    limit-is c.args.limit.now (code.Percent c.in-Percent-false.p) c.args.bottom false vs c.top_percent.result c.in-Percent-false.is-0 c.in-Percent-false.is-1
+    c.top_percent.ensures.value
