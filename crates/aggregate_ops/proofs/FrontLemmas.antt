@@ -1,13 +1,12 @@
 -- Groups by the first values of the keys are the groups by all of them, merged.
-use Rattle.std.proofs.Common.{◌≡◌, ℕ, zero, suc, ◌+◌, ◌<◌, ◌≤◌, ◌≢◌, Bool, true, false, cond, not, List, [], ◌∷◌, ◌++◌, length, get_or, set, map, filter, take, drop, refl, sym, ◌∙◌, ap, subst, arith, Some, inl, inr, ⊎_elim, length-append, ◌||◌}
-use Rattle.std.specs.Prelude.{◌⊎◌, All, slice_get, slice_index, if◌then◌else◌, option_map}
+use Rattle.std.proofs.Common.{◌≡◌, ℕ, zero, suc, ◌+◌, ◌<◌, ◌≤◌, ◌≢◌, Bool, true, false, cond, not, List, [], ◌∷◌, ◌++◌, length, get_or, set, map, filter, take, drop, refl, sym, ◌∙◌, ap, subst, arith, Some, inl, inr, ⊎_elim, length-append}
+use Rattle.std.specs.Prelude.{◌⊎◌, All, slice_get, slice_index, if◌then◌else◌}
 use Rattle.std.specs.List.{list_any}
-use Rattle.std.specs.Global.{Vec}
 use Rattle.std.proofs.Math.Seq.{take-append_seam}
 use Rattle.std.proofs.lemmas.Bool.{true≢false, cases_eq, not-true, not-false}
 use Rattle.std.proofs.lemmas.List.{append-nil, get_or-map, get_or_append_left, get_or_default, get_or_push, get_or_read, length-map, map-append, take_all, take_more}
 use Rattle.std.proofs.lemmas.List.Elements.{All-cons, All-head, All-nil, All-tail, All-filter, filter_passes}
-use Rattle.std.proofs.lemmas.Option.{slice_get_within, slice_get-get_or, slice_get-map}
+use Rattle.std.proofs.lemmas.Option.{slice_get_within, slice_get-get_or}
 use Rattle.indexmap.specs.IndexSet.{insert_key}
 use Rattle.apply_meaning.proofs.AggregateForms.{distinct-next}
 use Rattle.edm_values.specs.declared.Value.{Value}
@@ -18,7 +17,7 @@ use Rattle.apply_meaning.proofs.InstanceOrders.{same_keys_tests}
 use Rattle.par_stages.specs.Placed.{placed}
 use Rattle.par_stages.proofs.Places.{items-placed, placed-more}
 use Rattle.aggregate_ops.specs.KeyTables.{groups_of, places_of}
-use Rattle.aggregate_ops.specs.Fronts.{AreGroupNumbers, AreGroupsOf, AreNumberedTo, AreRowNumbers, Entry, IsApart, filled, fronts_of, key_at, key_items, places_at}
+use Rattle.aggregate_ops.specs.Fronts.{AreGroupNumbers, AreGroupsOf, AreNumberedTo, AreRowNumbers, Entry, IsApart, filled, fronts_of, key_at, places_at}
 use Rattle.aggregate_ops.proofs.KeyTableLemmas.{places-more, same-back}
 
 -- what is read back of a list that was written whole
@@ -400,17 +399,6 @@ places-within rows keys groups are i d h t e m =
 
 -- ---- the fronts of the groups
 
-pub key-items-insert : (ks : List (Vec Value)) (v : Vec Value) → key_items (insert_key (λ a b. same_keys a.items b.items) ks v) ≡ insert_key same_keys (key_items ks) v.items
-key-items-insert ks v = go (list_any (λ k. same_keys v.items k.items) ks) ∙ ap (λ b. if b then key_items ks else key_items ks ++ v.items ∷ []) (any ks)
-  where
-    any : (ks : List (Vec Value)) → list_any (λ k. same_keys v.items k.items) ks ≡ list_any (same_keys v.items) (key_items ks)
-    any [] = refl
-    any (k ∷ ks) = ap (λ b. same_keys v.items k.items || b) (any ks)
-
-    go : (b : Bool) → key_items (if b then ks else ks ++ v ∷ []) ≡ (if b then key_items ks else key_items ks ++ v.items ∷ [])
-    go true = refl
-    go false = map-append (λ k. k.items) ks (v ∷ [])
-
 get-keeps : (ks : List (List Value)) (k x : List Value) (j : ℕ) → slice_get ks j ≡ Some x → slice_get (insert_key same_keys ks k) j ≡ Some x
 get-keeps ks k x j at = go (list_any (same_keys k) ks)
   where
@@ -429,18 +417,17 @@ pub record AreNumbersTo (n : ℕ) (groups : List Entry) (fronts : List (List Val
   pub size : length numbers ≡ i
   pub told : (j : ℕ) → j < i → slice_get fronts (slice_index numbers j) ≡ Some (take n (key_at groups j))
 
-pub numbers-next : (n : ℕ) (groups : List Entry) (ks ks' : List (Vec Value)) (numbers : List ℕ) (i : ℕ) (item : Entry) (v k : Vec Value) (x : ℕ) → AreNumbersTo n groups (key_items ks) numbers i → i < length groups → item ≡ get_or groups i item
-    → v.items ≡ take n item.0 → ks' ≡ insert_key (λ a b. same_keys a.items b.items) ks v → slice_get ks' x ≡ Some k → same_keys v.items k.items ≡ true → AreNumbersTo n groups (key_items ks') (numbers ++ x ∷ []) (i + 1)
+pub numbers-next : (n : ℕ) (groups : List Entry) (ks ks' : List (List Value)) (numbers : List ℕ) (i : ℕ) (item : Entry) (v k : List Value) (x : ℕ) → AreNumbersTo n groups ks numbers i → i < length groups → item ≡ get_or groups i item
+    → v ≡ take n item.0 → ks' ≡ insert_key same_keys ks v → slice_get ks' x ≡ Some k → same_keys v k ≡ true → AreNumbersTo n groups ks' (numbers ++ x ∷ []) (i + 1)
 numbers-next n groups ks ks' numbers i item v k x before within is front keys at same =
     let read = get_or_read groups i item within is ([], []) in
-    let own : v.items ≡ take n (key_at groups i) = front ∙ ap (λ g. take n g.0) read in
-    let fronts : key_items ks' ≡ insert_key same_keys (key_items ks) v.items = ap key_items keys ∙ key-items-insert ks v in
+    let own : v ≡ take n (key_at groups i) = front ∙ ap (λ g. take n g.0) read in
     let long = before.size in
     let cut : Entry → List Value = λ g. take n g.0 in
     record {
       fronts_are =
-          fronts
-          ∙ ap (λ l. insert_key same_keys l v.items) before.fronts_are
+          keys
+          ∙ ap (λ l. insert_key same_keys l v) before.fronts_are
           ∙ ap (insert_key same_keys (fronts_of n (take i groups))) own
           ∙ sym (distinct-next same_keys same_keys_tests (map cut (take i groups)) (take n (key_at groups i)))
           ∙ ap (distinct same_keys) (sym (map-append cut (take i groups) (get_or groups i ([], []) ∷ [])))
@@ -449,14 +436,13 @@ numbers-next n groups ks ks' numbers i item v k x before within is front keys at
       told = λ j less. ⊎_elim
           (λ last.
           let number : slice_index (numbers ++ x ∷ []) j ≡ x = get_or_push numbers x 0 j (omega arith) in
-          let found : slice_get (key_items ks') x ≡ Some k.items = slice_get-map (λ k. k.items) ks' x ∙ ap (option_map (λ k. k.items)) at in
-          ap (slice_get (key_items ks')) number ∙ found ∙ ap Some (sym (same_keys_tests.same v.items k.items same) ∙ own ∙ ap (λ j. take n (key_at groups j)) (sym last)))
+          ap (slice_get ks') number ∙ at ∙ ap Some (sym (same_keys_tests.same v k same) ∙ own ∙ ap (λ j. take n (key_at groups j)) (sym last)))
           (λ other.
           let ne : j ≢ i = other in
           let less' : j < i = omega arith in
-          ap (slice_get (key_items ks')) (get_or_append_left numbers (x ∷ []) 0 j (omega arith))
-          ∙ ap (λ l. slice_get l (slice_index numbers j)) fronts
-          ∙ get-keeps (key_items ks) v.items (take n (key_at groups j)) (slice_index numbers j) (before.told j less'))
+          ap (slice_get ks') (get_or_append_left numbers (x ∷ []) 0 j (omega arith))
+          ∙ ap (λ l. slice_get l (slice_index numbers j)) keys
+          ∙ get-keeps ks v (take n (key_at groups j)) (slice_index numbers j) (before.told j less'))
           (cases_eq j i);
     }
 

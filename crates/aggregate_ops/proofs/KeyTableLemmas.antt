@@ -1,14 +1,14 @@
 -- Groups of a list of keys, with one key more.
-use Rattle.std.proofs.Common.{◌≡◌, ℕ, ◌+◌, Bool, true, false, cond, not, List, [], ◌∷◌, ◌++◌, map, filter, if◌then◌else◌, refl, sym, ap, ◌∙◌, arith, length-append}
+use Rattle.std.proofs.Common.{◌≡◌, ℕ, ◌+◌, Bool, true, false, cond, not, List, [], ◌∷◌, ◌++◌, map, filter, if◌then◌else◌, refl, sym, ap, subst, ◌∙◌, arith, length-append}
 use Rattle.std.specs.Global.{Vec}
 use Rattle.std.proofs.lemmas.Bool.{true≢false}
-use Rattle.std.proofs.lemmas.List.{append-nil, map-append}
+use Rattle.std.proofs.lemmas.List.{append-nil, length-map, map-append}
 use Rattle.std.proofs.lemmas.List.Elements.{filter-append}
 use Rattle.edm_values.specs.declared.Value.{Value}
 use Rattle.edm_values.specs.Lists.{distinct}
 use Rattle.apply_meaning.specs.Meaning.{same_keys}
 use Rattle.apply_meaning.proofs.InstanceOrders.{same_keys_tests}
-use Rattle.aggregate_ops.specs.KeyTables.{TableState, IsTableOf, groups_of, placed_keys, places_of, with_places}
+use Rattle.aggregate_ops.specs.KeyTables.{TableState, ArePlacesOf, IsTableOf, groups_of, placed_keys, places_of, with_places}
 
 -- a key and its places
 abbrev pub Entry : Type 0
@@ -129,12 +129,34 @@ groups-more (y ∷ ys) k p = groups-first y.0 y.1 (ys ++ (k, p) ∷ []) ∙ go (
         ∙ ap (λ b. if b then (y.0, (y.1 ∷ own) ++ p ∷ []) ∷ left else (y.0, y.1 ∷ own) ∷ with_place left k p) (sym h)
 
 -- a key list was added to a table
-pub IsTableOf-next : (t : TableState) (gs : List Entry) (xs : List (Vec Value × ℕ)) (k : Vec Value) (p : ℕ) → gs ≡ with_place t.groups k.items p → IsTableOf t xs
-    → IsTableOf (record { width = t.width; count = t.count + 1; groups = gs }) (xs ++ (k, p) ∷ [])
-IsTableOf-next t gs xs k p e h = record {
+pub ArePlacesOf-next : (t : TableState) (gs : List Entry) (xs : List (List Value × ℕ)) (k : List Value) (p : ℕ) → gs ≡ with_place t.groups k p → ArePlacesOf t xs
+    → ArePlacesOf (record { width = t.width; count = t.count + 1; groups = gs }) (xs ++ (k, p) ∷ [])
+ArePlacesOf-next t gs xs k p e h = record {
   count_is = omega (arith, length-append xs ((k, p) ∷ []), h.count_is);
-  groups_is =
-      e ∙ ap (λ l. with_place l k.items p) h.groups_is
-      ∙ sym (groups-more (placed_keys xs) k.items p)
-      ∙ ap groups_of (sym (map-append (λ x. (x.0.items, x.1)) xs ((k, p) ∷ [])));
+  groups_is = e ∙ ap (λ l. with_place l k p) h.groups_is ∙ sym (groups-more xs k p);
 }
+
+-- a table stands for the key lists that its places stand for
+pub places-table : (t : TableState) (xs : List (Vec Value × ℕ)) → ArePlacesOf t (placed_keys xs) → IsTableOf t xs
+places-table t xs h = record { count_is = h.count_is ∙ length-map xs (λ x. (x.0.items, x.1)); groups_is = h.groups_is }
+
+pub table-places : (t : TableState) (xs : List (Vec Value × ℕ)) → IsTableOf t xs → ArePlacesOf t (placed_keys xs)
+table-places t xs h = record { count_is = h.count_is ∙ sym (length-map xs (λ x. (x.0.items, x.1))); groups_is = h.groups_is }
+
+placed_keys-append : (us vs : List (Vec Value × ℕ)) → placed_keys (us ++ vs) ≡ placed_keys us ++ placed_keys vs
+placed_keys-append us vs = map-append (λ (x : Vec Value × ℕ). (x.0.items, x.1)) us vs
+
+-- where a key list was added to the places, it was added to the table
+pub IsTableOf-next : (s t : TableState) (xs : List (Vec Value × ℕ)) (k : Vec Value) (key : List Value) (p : ℕ) → key ≡ k.items
+    → ((us : List (List Value × ℕ)) → ArePlacesOf s us → ArePlacesOf t (us ++ (key, p) ∷ [])) → IsTableOf s xs → IsTableOf t (xs ++ (k, p) ∷ [])
+IsTableOf-next s t xs k key p e added h =
+    let own : placed_keys xs ++ (key, p) ∷ [] ≡ placed_keys (xs ++ (k, p) ∷ []) = ap (λ l. placed_keys xs ++ (l, p) ∷ []) e ∙ sym (placed_keys-append xs ((k, p) ∷ [])) in
+    let P : List (List Value × ℕ) → Type 0 = λ us. ArePlacesOf t us in
+    places-table t (xs ++ (k, p) ∷ []) (subst P own (added (placed_keys xs) (table-places s xs h)))
+
+-- where later places were added to the places, they were added to the table
+pub IsTableOf-merged : (s t u : TableState) (xs ys : List (Vec Value × ℕ)) → ((us vs : List (List Value × ℕ)) → ArePlacesOf s us → ArePlacesOf t vs → ArePlacesOf u (us ++ vs))
+    → IsTableOf s xs → IsTableOf t ys → IsTableOf u (xs ++ ys)
+IsTableOf-merged s t u xs ys merged h k =
+    let P : List (List Value × ℕ) → Type 0 = λ us. ArePlacesOf u us in
+    places-table u (xs ++ ys) (subst P (sym (placed_keys-append xs ys)) (merged (placed_keys xs) (placed_keys ys) (table-places s xs h) (table-places t ys k)))

@@ -1,4 +1,5 @@
 pub mod AppendLemmas
+pub mod ColumnKeys
 pub mod FrontLemmas
 pub mod JoinLemmas
 pub mod KeyGroups
@@ -6,4 +7,7 @@ pub mod KeyMapLemmas
 pub mod KeyTableLemmas
 pub mod KindLemmas
 pub mod MergeLemmas
+pub mod NumberLemmas
 pub mod PartialLemmas
+pub mod SameLemmas
+pub mod SpanLemmas

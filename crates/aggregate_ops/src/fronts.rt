@@ -1,38 +1,112 @@
 //! Groups by the first values of their keys, made from the groups by all of them.
 //!
-//! The groups' first values are numbered in order of first appearance, each row takes the number of its group's, and the rows
-//! are put at their numbers in their order. So each group's places ascend, and no row's key list is read again.
-ghost use Rattle.std.specs.Prelude.{◌≡◌, ℕ, ◌<◌, ◌≤◌, ◌⊎◌, List, [], All, length, map, take, slice_index, IfOk, OnOk};
+//! The groups are numbered by the first values of their keys, one value more at a time: two groups have one number where they had
+//! one before and the next values of their keys are the same, so each value of a key is looked up once. A number's groups have
+//! their places put together: each row takes the number of its group, and the rows are put at their numbers in their order. So
+//! each group's places ascend, and no row's key list is read again. A key is shared with the group that had it first.
+ghost use Rattle.std.specs.Prelude.{◌≡◌, ℕ, ◌+◌, ◌-◌, ◌<◌, ◌≤◌, ◌⊎◌, List, [], All, length, map, take, slice_index, IfOk, OnOk};
+ghost use Rattle.std.specs.List.{range_with_len};
 ghost use Rattle.edm_values.specs.declared.Value.{Value as Value'};
 ghost use Rattle.par_stages.specs.Placed.{placed};
-ghost use Rattle.aggregate_ops.specs.Fronts.{AreGroupNumbers, AreGroupsOf, AreRowNumbers, IsApart, filled, fronts_of, key_items};
+ghost use Rattle.aggregate_ops.specs.Fronts.{AreFronts, AreGroupNumbers, AreGroupsOf, AreRowNumbers, IsApart, filled, fronts_of, key_at, with_first};
 ghost use Rattle.aggregate_ops.specs.KeyTables.{groups_of};
 
 use crate::groups::Group;
+use crate::key_steps::KeyStep;
 use crate::seeds::Seed;
-use edm_values::Value;
 use indexmap::IndexSet;
 use std::alloc::{AllocError, Global};
 
-/// The number of each group's first values, which are put into a set in order of first appearance.
-fn front_numbers(
+/// Groups that are numbered by the first values of their keys: the number of each group, and the first group of each number.
+#[derive(Drop)]
+pub(crate) struct Fronts {
+    numbers: Vec<usize>,
+    firsts: Vec<usize>,
+}
+
+/// Groups that are numbered by no value: all have one number.
+fn no_fronts(alloc: Global, groups: &[Group]) -> Result<Fronts, AllocError>
+    ensures { IfOk result (λ f. AreFronts 0 groups.now f.firsts.items f.numbers.items) }
+{
+    let mut firsts = Vec::new(alloc);
+    if groups.is_empty() {
+        let numbers = Vec::new(alloc);
+        return Ok(Fronts { numbers, firsts });
+    }
+    firsts.push(0)?;
+    let numbers = vec![in alloc; 0; groups.len()]?;
+    Ok(Fronts { numbers, firsts })
+}
+
+/// Puts a group behind the first ones, where it is one.
+fn put_first(firsts: &mut Vec<usize>, is_first: bool, i: usize) -> Result<(), AllocError>
+    ensures { OnOk result (firsts.new.items ≡ with_first is_first firsts.old.items i) }
+{
+    if is_first {
+        firsts.push(i)?;
+    }
+    Ok(())
+}
+
+/// The groups numbered by one value more than before.
+fn next_fronts(
+    alloc: Global,
+    groups: &[Group],
+    before: &[usize],
+    front: usize,
+    seed: Seed,
+) -> Result<Fronts, AllocError>
+    requires long { All (λ g. front < length g.0) groups.now }
+    requires before { AreGroupNumbers front groups.now (fronts_of front groups.now) before.now }
+    ensures { IfOk result (λ f. AreFronts (front + 1) groups.now f.firsts.items f.numbers.items) }
+{
+    let mut steps = IndexSet::with_hasher(alloc, seed);
+    let mut numbers = Vec::with_capacity(alloc, groups.len())?;
+    let mut firsts = Vec::new(alloc);
+    for (i, group) in groups.iter().enumerate() {
+        let step = KeyStep::of(before[i], group.value(front));
+        let (number, is_new) = steps.insert_full(step)?;
+        put_first(&mut firsts, is_new, i)?;
+        numbers.push(number)?;
+    }
+    Ok(Fronts { numbers, firsts })
+}
+
+/// The groups numbered by so many values.
+fn fronts_to(
     alloc: Global,
     groups: &[Group],
     front: usize,
-    fronts: &mut IndexSet<Vec<Value>, Seed>,
-) -> Result<Vec<usize>, AllocError>
+    seed: Seed,
+) -> Result<Fronts, AllocError>
     requires long { All (λ g. front ≤ length g.0) groups.now }
-    requires none { fronts.old.keys ≡ [] }
-    ensures fronts { OnOk result (key_items fronts.new.keys ≡ fronts_of front groups.now) }
-    ensures numbers { IfOk result (λ numbers. AreGroupNumbers front groups.now (key_items fronts.new.keys) numbers.items) }
+    ensures { IfOk result (λ f. AreFronts front groups.now f.firsts.items f.numbers.items) }
 {
-    let mut numbers = Vec::with_capacity(alloc, groups.len())?;
-    for group in groups {
-        let key = group.front(alloc, front)?;
-        let (number, _) = fronts.insert_full(key)?;
-        numbers.push(number)?;
+    let mut fronts = no_fronts(alloc, groups)?;
+    for at in 0..front {
+        fronts = next_fronts(alloc, groups, &fronts.numbers, at, seed)?;
     }
-    Ok(numbers)
+    Ok(fronts)
+}
+
+/// The groups numbered for the next level, where there is one: by one value more than before.
+fn fronts_behind(
+    alloc: Global,
+    groups: &[Group],
+    fronts: Fronts,
+    front: usize,
+    width: usize,
+    seed: Seed,
+) -> Result<Fronts, AllocError>
+    requires within { front < width }
+    requires long { All (λ g. width ≤ length g.0) groups.now }
+    requires fronts { AreFronts front groups.now fronts.firsts.items fronts.numbers.items }
+    ensures { IfOk result (λ f. front + 1 < width → AreFronts (front + 1) groups.now f.firsts.items f.numbers.items) }
+{
+    if front + 1 == width {
+        return Ok(fronts);
+    }
+    next_fronts(alloc, groups, &fronts.numbers, front, seed)
 }
 
 /// Writes a number at each of these places.
@@ -73,15 +147,22 @@ fn row_numbers(
     Ok(found)
 }
 
-/// A group without places for each key.
-fn empty_groups(alloc: Global, keys: IndexSet<Vec<Value>, Seed>) -> Result<Vec<Group>, AllocError>
-    ensures { IfOk result (λ groups. groups.items ≡ filled (key_items keys.keys) []) }
+/// A group without places for each of these groups, by the first values of its key.
+fn begun_groups(
+    alloc: Global,
+    groups: &[Group],
+    firsts: &[usize],
+    front: usize,
+) -> Result<Vec<Group>, AllocError>
+    requires there { All (λ i. i < length groups.now) firsts.now }
+    requires long { All (λ g. front ≤ length g.0) groups.now }
+    ensures { IfOk result (λ begun. begun.items ≡ filled (map (λ i. take front (key_at groups.now i)) firsts.now) []) }
 {
-    let mut groups = Vec::with_capacity(alloc, keys.len())?;
-    for key in keys {
-        groups.push(Group::empty(alloc, key))?;
+    let mut begun = Vec::with_capacity(alloc, firsts.len())?;
+    for first in firsts {
+        begun.push(groups[*first].begun(alloc, front)?)?;
     }
-    Ok(groups)
+    Ok(begun)
 }
 
 /// The groups with each row at its number, in the order of the rows.
@@ -93,6 +174,24 @@ fn put_rows(mut groups: Vec<Group>, numbers: &[usize]) -> Result<Vec<Group>, All
         groups[*number].add(row)?;
     }
     Ok(groups)
+}
+
+/// The groups of so many rows by the first values of their keys, by which their groups by all of these are numbered.
+fn level(
+    alloc: Global,
+    groups: &[Group],
+    fronts: &Fronts,
+    front: usize,
+    rows: usize,
+) -> Result<Vec<Group>, AllocError>
+    requires long { All (λ g. front ≤ length g.0) groups.now }
+    requires groups { (keys : List (List Value')) × AreGroupsOf rows keys groups.now }
+    requires fronts { AreFronts front groups.now fronts.now.firsts.items fronts.now.numbers.items }
+    ensures { IfOk result (λ found. (keys : List (List Value')) → AreGroupsOf rows keys groups.now → found.items ≡ groups_of (placed 0 (map (take front) keys))) }
+{
+    let numbers = row_numbers(alloc, groups, &fronts.numbers, rows)?;
+    let begun = begun_groups(alloc, groups, &fronts.firsts, front)?;
+    put_rows(begun, &numbers)
 }
 
 /// The groups of so many rows by the first values of their keys, made from their groups by all of these.
@@ -107,9 +206,30 @@ pub(crate) fn by_front(
     requires groups { (keys : List (List Value')) × AreGroupsOf rows keys groups.now }
     ensures { IfOk result (λ found. (keys : List (List Value')) → AreGroupsOf rows keys groups.now → found.items ≡ groups_of (placed 0 (map (take front) keys))) }
 {
-    let mut fronts = IndexSet::with_hasher(alloc, seed);
-    let group_numbers = front_numbers(alloc, groups, front, &mut fronts)?;
-    let numbers = row_numbers(alloc, groups, &group_numbers, rows)?;
-    let empty = empty_groups(alloc, fronts)?;
-    put_rows(empty, &numbers)
+    let fronts = fronts_to(alloc, groups, front, seed)?;
+    level(alloc, groups, &fronts, front, rows)
+}
+
+/// The groups of so many rows by the first values of their keys, for each number of values from `least` to one less than `width`,
+/// the fewest first.
+pub(crate) fn by_fronts(
+    alloc: Global,
+    groups: &[Group],
+    least: usize,
+    width: usize,
+    rows: usize,
+    seed: Seed,
+) -> Result<Vec<Vec<Group>>, AllocError>
+    requires least { least ≤ width }
+    requires long { All (λ g. width ≤ length g.0) groups.now }
+    requires groups { (keys : List (List Value')) × AreGroupsOf rows keys groups.now }
+    ensures { IfOk result (λ found. (keys : List (List Value')) → AreGroupsOf rows keys groups.now → map (λ l. l.items) found.items ≡ map (λ j. groups_of (placed 0 (map (take j) keys))) (range_with_len least (width - least))) }
+{
+    let mut found = Vec::with_capacity(alloc, width - least)?;
+    let mut fronts = fronts_to(alloc, groups, least, seed)?;
+    for front in least..width {
+        found.push(level(alloc, groups, &fronts, front, rows)?)?;
+        fronts = fronts_behind(alloc, groups, fronts, front, width, seed)?;
+    }
+    Ok(found)
 }

@@ -2,17 +2,19 @@
 //!
 //! `SumOf`, `MinOf`, `MaxOf`, `DistinctOf` and `CountOf` are each a `Partial` over values: made for a type by `new`, given one
 //! value at a time or those of a later part, and ended by `finish`. `aggregate_values` folds a list of values by the partial of
-//! a method. `KeyTable` is a `Partial` over key lists, which finds a key by its hash (`key_maps`); `groups` and `into_groups` give
-//! its `Groups`, and `by_front` those by the first values of their keys (`fronts`). The hashes of a table begin with a `Seed` of the
-//! list that it is made for, so that no list of keys can be chosen whose hashes are all one (`seeds`). `values` has what is asked
-//! of a single value, and copies of values.
+//! a method. `KeyPlaces` is a `Partial` over key lists with their hashes, which are borrowed from lists or from columns (`hashed`):
+//! by these it finds a key (`key_maps`). `KeyTable` is the same over plain key lists. `groups` and `into_groups` give its `Groups`,
+//! and `by_front` and `by_fronts` those by the first values of their keys (`fronts`), which share the keys. `DistinctValues` is to
+//! `DistinctOf` what `KeyPlaces` is to `KeyTable`. The hashes of a table begin with a `Seed` of the list that it is made for, so
+//! that no list of keys can be chosen whose hashes are all one (`seeds`). `sameness` tells whether values are the same, and
+//! `values` has what is asked of a single value, and copies of values.
 //!
 //! The crate stands on `par_stages` for folds, on `apply_meaning` for the meaning of aggregates and of groups, and on
 //! `edm_values` for values and their order.
 //!
 //! It promises that `finish` is the aggregate of the list that the partial stands for (`specs/Partials`), and that `groups`
 //! has the distinct keys in order of first appearance, each with its places in the order of the list (`specs/KeyTables`), as
-//! `by_front` has (`specs/Fronts`). The sum is kept exactly, and tested once against the range of its type, at `finish`. A
+//! `by_front` and `by_fronts` have (`specs/Fronts`). The sum is kept exactly, and tested once against the range of its type, at `finish`. A
 //! partial of fewer than 2^63 items keeps its sum in 128 bits.
 #![tactic(auto)]
 
@@ -22,17 +24,23 @@ mod extremes;
 mod folds;
 mod fronts;
 mod groups;
+mod hashed;
 mod key_maps;
+mod key_places;
+mod key_steps;
 mod key_tables;
+mod sameness;
 mod seeds;
 mod sums;
 mod values;
 
 pub use counts::CountOf;
-pub use distincts::DistinctOf;
+pub use distincts::{DistinctOf, DistinctValues};
 pub use extremes::{MaxOf, MinOf};
 pub use folds::aggregate_values;
 pub use groups::Groups;
+pub use hashed::{HashedKey, HashedValue, hashed_columns, hashed_keys, hashed_values};
+pub use key_places::KeyPlaces;
 pub use key_tables::KeyTable;
 pub use seeds::Seed;
 pub use sums::SumOf;

@@ -1,6 +1,6 @@
 -- What frames give where a part refuses.
-use Rattle.std.proofs.Common.{◌≡◌, ℕ, List, ap, Option}
-use Rattle.std.specs.Prelude.{option_map, None}
+use Rattle.std.proofs.Common.{ℕ, List, ap, Option}
+use Rattle.std.specs.Prelude.{option_map}
 use Rattle.std.specs.declared.result.Result.TheVariants.{Err}
 use Rattle.edm_values.specs.declared.refusals.Refused.{Refused}
 use Rattle.edm_values.specs.declared.refusals.Refused.TheVariants.{Range, Memory}

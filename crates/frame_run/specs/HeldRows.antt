@@ -20,7 +20,7 @@ owed (held.Frame f) = length f
 owed (held.Rows v) = 0
 
 -- the same of what a run returned, nothing where it is refused
-abbrev pub owed_by : result.Result Held Refused → ℕ
+abbrev pub owed_by : {E : Type 0} → result.Result Held E → ℕ
 owed_by (Ok h) = owed h
 owed_by (Err e) = 0
 

@@ -1,25 +1,27 @@
 //! What a pipeline has come to: a frame, as long as no transformation wants rows, and then rows.
-ghost use Rattle.std.specs.Prelude.{◌≡◌, ◌+◌, ◌≤◌, ◌<◌, IfOk, IsTrue, drop, filter, get_or, length, map, true};
+ghost use Rattle.std.specs.Prelude.{◌≡◌, ℕ, ◌+◌, ◌≤◌, ◌<◌, ◌++◌, Some, IfOk, IsTrue, drop, filter, get_or, length, map, slice_get, sum, true};
 ghost use Rattle.edm_values.specs.Values.{is_value};
+ghost use Rattle.apply_ast.specs.Trees as tree;
 ghost use Rattle.apply_ast.specs.Trees.{pipe};
-ghost use Rattle.apply_ast.specs.Views.{expr_of, pipe_of, step_of};
+ghost use Rattle.apply_ast.specs.Views.{climb_of, expr_of, pipe_of, pipes_in, pipes_of, step_of};
 ghost use Rattle.context_typing.specs.Readings.{readings};
 ghost use Rattle.context_typing.specs.Shapes.{Shape};
 ghost use Rattle.apply_meaning.specs.Instances.{val};
-ghost use Rattle.apply_meaning.specs.Meaning.{Outcome, mean, refused_at_beyond, step_mean, values};
+ghost use Rattle.apply_meaning.specs.Meaning.{Outcome, joined, mean, refused_at_beyond, step_mean, values};
 ghost use Rattle.apply_meaning.specs.Running.{Gives, all_of};
 ghost use Rattle.row_frames.specs.Frames.{GivesFrame};
-ghost use Rattle.hier_states.specs.NamedHierarchies.{hierarchies, step_hierarchies};
-ghost use Rattle.pipe_run.specs.Conditions.{AreReady, ReadyFrom, RunsFrom, StepReadyFrom, StepRunsFrom};
-ghost use Rattle.pipe_run.specs.Costs.{cost, step_cost};
+ghost use Rattle.hier_states.specs.NamedHierarchies.{branch_hierarchies, hierarchies, step_hierarchies};
+ghost use Rattle.pipe_run.specs.Conditions.{AreReady, BranchesReady, BranchesRun, ReadyFrom, RunsFrom, StepReadyFrom, StepRunsFrom};
+ghost use Rattle.pipe_run.specs.Costs.{application, cost, step_cost};
 ghost use Rattle.frame_run.specs.HeldRows as spec;
 
-use crate::frame_aggregates::frame_aggregated;
-use crate::frame_steps::{frame_computed, frame_ordered, frame_selected};
-use apply_ast::{Expr, Pipe, Step};
-use apply_meaning::{Row, RunRefused, Steps, data_is_loaded, is_plain_step};
+use crate::frame_steps::{
+    frame_aggregated, frame_climbed, frame_computed, frame_ordered, frame_selected, frame_traversed,
+};
+use apply_ast::{ClimbStep, Expr, Pipe, PipeList, Step};
+use apply_meaning::{Row, RunRefused, Steps, data_is_loaded};
 use edm_model::TypeId;
-use par_stages::{Gate, workers_for};
+use par_stages::Gate;
 use pipe_run::{Context, root_after, run_grouping, run_step};
 use row_frames::Frame;
 use row_values::RowList;
@@ -108,11 +110,6 @@ fn run_on_rows<R: Threads + Sync, G: Gate, L: Ledger>(
     as_held(run_step(alloc, context, root, step, rows, steps))
 }
 
-/// Whether a list of n items is worth more than one of the workers.
-fn is_shared<R: Threads + Sync, G: Gate>(context: &Context<'_, R, G>, n: usize) -> bool {
-    workers_for(n, 1, context.workers()) > 1
-}
-
 /// The instances of a frame on which an expression is true.
 fn frame_filter<R: Threads + Sync, G: Gate>(
     alloc: Global,
@@ -123,11 +120,11 @@ fn frame_filter<R: Threads + Sync, G: Gate>(
     requires { IsTrue (all_of context.now.world frame) }
     ensures { GivesFrame result (refused_at_beyond (values context.now.world (expr_of e.now) frame) (filter (λ i. is_value true (val context.now.world i (expr_of e.now))) frame)) }
 {
-    frame.filter(alloc, context.store(), e)
+    frame.filter(context.rt(), alloc, context.store(), e, context.workers())
 }
 
-/// What one transformation gives on a frame. No row is made where none is wanted; a filter of a list that workers are to share is
-/// run on rows.
+/// What one transformation gives on a frame, but for those whose inner pipelines are run on the same instances. No row is made where
+/// none is wanted.
 fn run_on_frame<R: Threads + Sync, G: Gate, L: Ledger>(
     alloc: Global,
     context: &Context<'_, R, G>,
@@ -148,22 +145,18 @@ fn run_on_frame<R: Threads + Sync, G: Gate, L: Ledger>(
         Step::Identity => Ok(Held::Frame(frame)),
         Step::Skip(n) => Ok(Held::Frame(frame.skip(*n))),
         Step::Top(n) => Ok(Held::Frame(frame.top(*n))),
-        Step::Filter(e) => {
-            if is_shared(context, frame.len()) {
-                return run_on_rows(alloc, context, root, step, frame, steps);
-            }
-            as_frame(frame_filter(alloc, context, e, frame))
-        }
+        Step::Filter(e) => as_frame(frame_filter(alloc, context, e, frame)),
         Step::TopBy(top) => as_frame(frame_selected(alloc, context, root, top, frame)),
         Step::Compute(items) => {
             let frame = frame_computed(alloc, context, root, items, frame)?;
             Ok(Held::Frame(frame))
         }
-        Step::OrderBy(items) => as_frame(frame_ordered(alloc, context.store(), items, frame)),
+        Step::OrderBy(items) => {
+            let store = context.store();
+            let workers = context.workers();
+            as_frame(frame_ordered(context.rt(), alloc, store, items, frame, workers))
+        }
         Step::Aggregate(items) => {
-            if !is_plain_step(step) {
-                return run_on_rows(alloc, context, root, step, frame, steps);
-            }
             let made = frame_aggregated(alloc, context, root, items, &frame, steps)?;
             Ok(Held::Rows(made))
         }
@@ -171,11 +164,182 @@ fn run_on_frame<R: Threads + Sync, G: Gate, L: Ledger>(
             let list = RowList::of_frame(&frame);
             as_held(run_grouping(alloc, context, root, step, &list, steps))
         }
+        Step::Traverse(walk) => as_frame(frame_traversed(alloc, context, walk, frame, steps)),
         _ => run_on_rows(alloc, context, root, step, frame, steps),
     }
 }
 
+/// The instances of a frame that a climb keeps: those whose node is an ancestor, or a descendant, of a node that the inner pipeline
+/// comes to.
+#[cycle(held)]
+fn run_climb<R: Threads + Sync, G: Gate, L: Ledger>(
+    alloc: Global,
+    context: &Context<'_, R, G>,
+    root: &Option<TypeId>,
+    climb: &ClimbStep,
+    frame: Frame,
+    steps: &mut Steps<L>,
+) -> Result<Held, RunRefused>
+    requires ready { StepReadyFrom context.now root.now (climb_of climb.now) frame }
+    requires named { AreReady context.now (step_hierarchies (climb_of climb.now)) }
+    ensures mean { (S S' : Shape) → StepRunsFrom context.now root.now S S' (climb_of climb.now) frame
+        → spec.GivesHeld result (step_mean context.now.world (readings context.now.customs) S (climb_of climb.now) frame) }
+    ensures steps { (S S' : Shape) → StepRunsFrom context.now root.now S S' (climb_of climb.now) frame
+        → steps.new + spec.owed_by result ≤ steps.old + length frame + step_cost context.now.world (readings context.now.customs) S (climb_of climb.now) frame }
+    ensures grown { steps.old ≤ steps.new }
+{
+    data_is_loaded(context.store());
+    let copy = Held::Frame(frame.copy(alloc)?);
+    let starts = held_after(alloc, context, root, &climb.inner, copy, steps)?;
+    as_frame(frame_climbed(alloc, context, climb, frame, &starts))
+}
+
+/// Each branch of a concatenation may be run on the instances.
+fn branches_ready<R: Threads + Sync, G: Gate>(
+    context: &Context<'_, R, G>,
+    root: &Option<TypeId>,
+    branches: &PipeList,
+    frame: &Frame,
+)
+    requires { StepReadyFrom context.now root.now (tree.Step.Concat (pipes_of branches.now)) frame.now }
+    ensures { BranchesReady context.now root.now (map pipe_of (pipes_in branches.now)) frame.now }
+{}
+
+/// The next branch may be run on the instances.
+fn branch_ready<R: Threads + Sync, G: Gate>(
+    context: &Context<'_, R, G>,
+    root: &Option<TypeId>,
+    branches: &[Pipe],
+    k: usize,
+    branch: &Pipe,
+    frame: &Frame,
+)
+    requires within { k < length branches.now }
+    requires branch { branch.now ≡ get_or branches.now k branch.now }
+    requires ready { BranchesReady context.now root.now (map pipe_of branches.now) frame.now }
+    ensures { ReadyFrom context.now root.now (pipe_of branch.now) frame.now }
+{}
+
+/// The most tables that each of two frames may have that are put one behind the other. Concatenations of concatenations could double
+/// the tables of a few rows again and again.
+const MOST_TABLES: usize = 64;
+
+/// The rows of both as rows, one list behind the other.
+fn joined_rows<L: Ledger>(
+    alloc: Global,
+    first: Held,
+    other: Held,
+    steps: &mut Steps<L>,
+) -> Result<Held, AllocError>
+    ensures rows { IfOk result (λ all. spec.rows_of all ≡ spec.rows_of first ++ spec.rows_of other) }
+    ensures steps { steps.new + spec.owed_by result ≤ steps.old + spec.owed first + spec.owed other }
+    ensures grown { steps.old ≤ steps.new }
+{
+    let mut all = made_rows(alloc, first, steps)?;
+    let mut others = made_rows(alloc, other, steps)?;
+    all.append(&mut others)?;
+    Ok(Held::Rows(all))
+}
+
+/// The rows of both, one list behind the other. No row is made where none was, but of frames of many tables.
+fn joined_held<L: Ledger>(
+    alloc: Global,
+    first: Held,
+    other: Held,
+    steps: &mut Steps<L>,
+) -> Result<Held, AllocError>
+    ensures rows { IfOk result (λ all. spec.rows_of all ≡ spec.rows_of first ++ spec.rows_of other) }
+    ensures steps { steps.new + spec.owed_by result ≤ steps.old + spec.owed first + spec.owed other }
+    ensures grown { steps.old ≤ steps.new }
+{
+    match (first, other) {
+        (Held::Frame(first), Held::Frame(other)) => {
+            if first.table_count() > MOST_TABLES || other.table_count() > MOST_TABLES {
+                return joined_rows(alloc, Held::Frame(first), Held::Frame(other), steps);
+            }
+            Ok(Held::Frame(first.append(other)?))
+        }
+        (first, other) => joined_rows(alloc, first, other, steps),
+    }
+}
+
+/// What a concatenation gives on a frame: what each branch gives on the same instances.
+#[cycle(held)]
+fn run_concat<R: Threads + Sync, G: Gate, L: Ledger>(
+    alloc: Global,
+    context: &Context<'_, R, G>,
+    root: &Option<TypeId>,
+    branches: &PipeList,
+    frame: Frame,
+    steps: &mut Steps<L>,
+) -> Result<Held, RunRefused>
+    requires ready { StepReadyFrom context.now root.now (tree.Step.Concat (pipes_of branches.now)) frame }
+    requires named { AreReady context.now (branch_hierarchies (pipes_of branches.now)) }
+    ensures mean { (S S' : Shape) → StepRunsFrom context.now root.now S S' (tree.Step.Concat (pipes_of branches.now)) frame
+        → spec.GivesHeld result (step_mean context.now.world (readings context.now.customs) S (tree.Step.Concat (pipes_of branches.now)) frame) }
+    ensures steps { (S S' : Shape) → StepRunsFrom context.now root.now S S' (tree.Step.Concat (pipes_of branches.now)) frame
+        → steps.new + spec.owed_by result ≤ steps.old + length frame + step_cost context.now.world (readings context.now.customs) S (tree.Step.Concat (pipes_of branches.now)) frame }
+    ensures grown { steps.old ≤ steps.new }
+{
+    branches_ready(context, root, branches, &frame);
+    run_branches(alloc, context, root, branches.as_slice(), &frame, steps)
+}
+
+/// What each branch gives on the instances, one behind the other.
+#[cycle(held)]
+fn run_branches<R: Threads + Sync, G: Gate, L: Ledger>(
+    alloc: Global,
+    context: &Context<'_, R, G>,
+    root: &Option<TypeId>,
+    branches: &[Pipe],
+    frame: &Frame,
+    steps: &mut Steps<L>,
+) -> Result<Held, RunRefused>
+    requires ready { BranchesReady context.now root.now (map pipe_of branches.now) frame.now }
+    requires named { (n : ℕ) (p : tree.Pipe) → slice_get (map pipe_of branches.now) n ≡ Some p → AreReady context.now (hierarchies p) }
+    ensures mean { (S : Shape) → BranchesRun context.now root.now S (map pipe_of branches.now) frame.now
+        → spec.GivesHeld result (joined (map (λ p. mean context.now.world (readings context.now.customs) S p frame.now) (map pipe_of branches.now))) }
+    ensures steps { (S : Shape) → BranchesRun context.now root.now S (map pipe_of branches.now) frame.now
+        → steps.new + spec.owed_by result ≤ steps.old + sum (map (λ p. application (cost context.now.world (readings context.now.customs) S p) (mean context.now.world (readings context.now.customs) S p) frame.now) (map pipe_of branches.now)) }
+    ensures grown { steps.old ≤ steps.new }
+{
+    let mut all = Held::Frame(Frame::none(alloc));
+    for (k, branch) in branches.iter().enumerate() {
+        branch_ready(context, root, branches, k, branch, frame);
+        let copy = Held::Frame(frame.copy(alloc)?);
+        let made = held_after(alloc, context, root, branch, copy, steps)?;
+        all = joined_held(alloc, all, made, steps)?;
+    }
+    Ok(all)
+}
+
+/// What one transformation gives on a frame.
+#[cycle(held)]
+fn run_frame<R: Threads + Sync, G: Gate, L: Ledger>(
+    alloc: Global,
+    context: &Context<'_, R, G>,
+    root: &Option<TypeId>,
+    step: &Step,
+    frame: Frame,
+    steps: &mut Steps<L>,
+) -> Result<Held, RunRefused>
+    requires ready { StepReadyFrom context.now root.now (step_of step.now) frame }
+    requires named { AreReady context.now (step_hierarchies (step_of step.now)) }
+    ensures mean { (S S' : Shape) → StepRunsFrom context.now root.now S S' (step_of step.now) frame
+        → spec.GivesHeld result (step_mean context.now.world (readings context.now.customs) S (step_of step.now) frame) }
+    ensures steps { (S S' : Shape) → StepRunsFrom context.now root.now S S' (step_of step.now) frame
+        → steps.new + spec.owed_by result ≤ steps.old + length frame + step_cost context.now.world (readings context.now.customs) S (step_of step.now) frame }
+    ensures grown { steps.old ≤ steps.new }
+{
+    match step {
+        Step::Climb(climb) => run_climb(alloc, context, root, climb, frame, steps),
+        Step::Concat(branches) => run_concat(alloc, context, root, branches, frame, steps),
+        _ => run_on_frame(alloc, context, root, step, frame, steps),
+    }
+}
+
 /// What one transformation gives.
+#[cycle(held)]
 fn run_on_held<R: Threads + Sync, G: Gate, L: Ledger>(
     alloc: Global,
     context: &Context<'_, R, G>,
@@ -193,9 +357,39 @@ fn run_on_held<R: Threads + Sync, G: Gate, L: Ledger>(
     ensures grown { steps.old ≤ steps.new }
 {
     match held {
-        Held::Frame(frame) => run_on_frame(alloc, context, root, step, frame, steps),
+        Held::Frame(frame) => run_frame(alloc, context, root, step, frame, steps),
         Held::Rows(rows) => as_held(run_step(alloc, context, root, step, rows, steps)),
     }
+}
+
+/// What the pipeline comes to. Rows are made where a transformation wants them.
+#[cycle(held)]
+fn held_after<R: Threads + Sync, G: Gate, L: Ledger>(
+    alloc: Global,
+    context: &Context<'_, R, G>,
+    root: &Option<TypeId>,
+    pipe: &Pipe,
+    held: Held,
+    steps: &mut Steps<L>,
+) -> Result<Held, RunRefused>
+    requires ready { ReadyFrom context.now root.now (pipe_of pipe.now) (spec.rows_of held) }
+    requires named { AreReady context.now (hierarchies (pipe_of pipe.now)) }
+    ensures mean { (S S' : Shape) → RunsFrom context.now root.now S S' (pipe_of pipe.now) (spec.rows_of held)
+        → spec.GivesHeld result (mean context.now.world (readings context.now.customs) S (pipe_of pipe.now) (spec.rows_of held)) }
+    ensures steps { (S S' : Shape) → RunsFrom context.now root.now S S' (pipe_of pipe.now) (spec.rows_of held)
+        → steps.new + spec.owed_by result ≤ steps.old + spec.owed held + cost context.now.world (readings context.now.customs) S (pipe_of pipe.now) (spec.rows_of held) }
+    ensures grown { steps.old ≤ steps.new }
+{
+    data_is_loaded(context.store());
+    let mut held = held;
+    let mut root = *root;
+    let all = pipe.steps();
+    for (i, step) in all.iter().enumerate() {
+        held_ready(context, &root, all, i, step, &held);
+        held = run_on_held(alloc, context, &root, step, held, steps)?;
+        root = root_after(step, root);
+    }
+    Ok(held)
 }
 
 /// The rows that the pipeline gives. Rows are made where a transformation wants them, or at the end.
@@ -215,14 +409,6 @@ pub fn run_held<R: Threads + Sync, G: Gate, L: Ledger>(
         → steps.new ≤ steps.old + spec.owed held + cost context.now.world (readings context.now.customs) S (pipe_of pipe.now) (spec.rows_of held) }
     ensures grown { steps.old ≤ steps.new }
 {
-    data_is_loaded(context.store());
-    let mut held = held;
-    let mut root = *root;
-    let all = pipe.steps();
-    for (i, step) in all.iter().enumerate() {
-        held_ready(context, &root, all, i, step, &held);
-        held = run_on_held(alloc, context, &root, step, held, steps)?;
-        root = root_after(step, root);
-    }
-    Ok(made_rows(alloc, held, steps)?)
+    let made = held_after(alloc, context, root, pipe, held, steps)?;
+    Ok(made_rows(alloc, made, steps)?)
 }

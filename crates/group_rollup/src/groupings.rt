@@ -1,38 +1,38 @@
 //! Groups of the instances of lists by their keys.
-ghost use Rattle.std.specs.Prelude.{◌≡◌, ◌-◌, ◌<◌, ◌≤◌, ◌++◌, map, take, All, IfOk, IsTrue};
-ghost use Rattle.aggregate_ops.specs.KeyTables.{HasWidth};
+ghost use Rattle.std.specs.Prelude.{◌≡◌, ◌+◌, ◌-◌, ◌<◌, ◌≤◌, ◌++◌, if◌then◌else◌, length, map, All, IfOk, IsTrue};
+ghost use Rattle.aggregate_ops.specs.KeyTables.{IsWide};
+ghost use Rattle.apply_meaning.specs.Meaning.{key_list};
 ghost use Rattle.apply_meaning.specs.Running.{all_of};
 ghost use Rattle.group_rollup.specs.Groupings as spec;
 ghost use Rattle.group_rollup.specs.Groupings.{front_groups, groups, key_groups, GivesFor};
 
 use crate::GroupRefused;
-use crate::row_keys::list_keys;
-use aggregate_ops::{Groups, KeyTable, Seed};
+use crate::row_keys::list_columns;
+use aggregate_ops::{Groups, HashedKey, KeyPlaces, Seed, hashed_columns};
 use apply_ast::Path;
 use apply_meaning::Row;
 use edm_data::Data;
-use edm_values::Value;
 use par_stages::{Gate, pieces};
 use row_values::RowList;
 use std::alloc::{AllocError, Global};
 use std::thread::Threads;
 
 /// The groups of key lists of this many values.
-fn groups_of<R: Threads + Sync, G: Gate>(
+fn groups_of<'a, 'v, R: Threads + Sync, G: Gate>(
     rt: &R,
     alloc: Global,
-    lists: &[Vec<Value>],
+    keys: &[HashedKey<'a, 'v>],
     width: usize,
     workers: u32,
     gate: &G,
 ) -> Result<Groups, AllocError>
     requires some { 0 < workers }
     requires few { workers ≤ 64 }
-    requires width { All (HasWidth width) lists.now }
-    ensures { IfOk result (λ found. found ≡ key_groups (map (λ k. k.items) lists.now)) }
+    requires width { All (IsWide width) keys.now }
+    ensures { IfOk result (λ found. found ≡ key_groups keys.now) }
 {
-    let empty = KeyTable::new(alloc, width, Seed::of(lists));
-    pieces(rt, lists, workers, gate, &empty)?.into_groups()
+    let empty = KeyPlaces::new(alloc, width, Seed::of(keys));
+    pieces(rt, keys, workers, gate, &empty)?.into_groups()
 }
 
 /// The groups of the instances of a list by key paths, in order of first appearance, each with their places. The keys are worked
@@ -51,8 +51,11 @@ pub fn group_list<R: Threads + Sync, G: Gate>(
     requires of { IsTrue (all_of store.now list.now) }
     ensures value { GivesFor (λ found. found ≡ groups store.now keys.now list.now) store.now keys.now list.now result }
 {
-    let lists = list_keys(rt, alloc, store, keys, list, workers)?;
-    Ok(groups_of(rt, alloc, lists.as_slice(), keys.len(), workers, gate)?)
+    let columns = list_columns(rt, alloc, &store, &keys, &list, workers)?;
+    let seen = columns.as_slice();
+    let lists = hashed_columns(alloc, seen, list.len())?;
+    let lists = lists.as_slice();
+    Ok(groups_of(rt, alloc, lists, keys.len(), workers, gate)?)
 }
 
 /// The groups of rows by key paths, as `group_list` has them.
@@ -88,39 +91,20 @@ fn all_paths(alloc: Global, keys: &[Path], levels: &[Path]) -> Result<Vec<Path>,
     Ok(paths)
 }
 
-/// The groups of key lists of `width` values by their first `front` values: made from the last of those by more values, or
-/// from the key lists where there are none.
-fn level<R: Threads + Sync, G: Gate>(
-    rt: &R,
-    alloc: Global,
-    lists: &[Vec<Value>],
-    found: &[Groups],
-    front: usize,
-    width: usize,
-    workers: u32,
-    gate: &G,
-) -> Result<Groups, AllocError>
-    requires some { 0 < workers }
-    requires few { workers ≤ 64 }
-    requires width { All (HasWidth width) lists.now }
-    requires within { front ≤ width }
-    requires found { found.now ≡ front_groups front (width - front) (map (λ k. k.items) lists.now) }
-    ensures { IfOk result (λ found. found ≡ key_groups (map (take front) (map (λ k. k.items) lists.now))) }
+/// How many values of a key list the coarsest level of a rollup goes by: those of the keys, and one more where the keys alone are
+/// no level.
+fn least_front(keys: &[Path], with_all: bool) -> usize
+    ensures { result ≡ (if with_all then length keys.now else length keys.now + 1) }
 {
-    let count = found.len();
-    if count == 0 {
-        return groups_of(rt, alloc, lists, width, workers, gate);
-    }
-    let last = count - 1;
-    found[last].by_front(alloc, front, lists.len())
+    if with_all { keys.len() } else { keys.len() + 1 }
 }
 
-/// The groups of key lists of `width` values by their first values, for each number of these from all to one more than
-/// `least`. The key lists are grouped once, by all their values, and each next level is made from the one before it.
-fn front_levels<R: Threads + Sync, G: Gate>(
+/// The groups of key lists of `width` values by their first values, for each number of these from all to `least`. The key lists
+/// are grouped once, by all their values, and each coarser level is made from these groups.
+fn levels_from<'a, 'v, R: Threads + Sync, G: Gate>(
     rt: &R,
     alloc: Global,
-    lists: &[Vec<Value>],
+    lists: &[HashedKey<'a, 'v>],
     least: usize,
     width: usize,
     workers: u32,
@@ -128,21 +112,46 @@ fn front_levels<R: Threads + Sync, G: Gate>(
 ) -> Result<Vec<Groups>, AllocError>
     requires some { 0 < workers }
     requires few { workers ≤ 64 }
-    requires least { least ≤ width }
-    requires width { All (HasWidth width) lists.now }
-    ensures { IfOk result (λ found. found.items ≡ front_groups least (width - least) (map (λ k. k.items) lists.now)) }
+    requires width { All (IsWide width) lists.now }
+    ensures { IfOk result (λ found. found.items ≡ front_groups least (width + 1 - least) lists.now) }
 {
-    let mut found = Vec::new(alloc);
-    for front in (least..width).rev() {
-        let groups = level(rt, alloc, lists, &found, front + 1, width, workers, gate)?;
-        found.push(groups)?;
+    if width < least {
+        return Ok(Vec::new(alloc));
     }
+    let finest = groups_of(rt, alloc, lists, width, workers, gate)?;
+    let mut coarser = finest.by_fronts(alloc, least, width, lists.len())?;
+    let mut found = Vec::new(alloc);
+    found.push(finest)?;
+    found.append(&mut coarser)?;
     Ok(found)
+}
+
+/// The groups of the instances of a list by the first of these paths, for each number of them from all to `least`.
+fn levels_by<R: Threads + Sync, G: Gate>(
+    rt: &R,
+    alloc: Global,
+    store: &Data,
+    list: &RowList<'_>,
+    paths: &[Path],
+    least: usize,
+    workers: u32,
+    gate: &G,
+) -> Result<Vec<Groups>, GroupRefused>
+    requires some { 0 < workers }
+    requires few { workers ≤ 64 }
+    requires of { IsTrue (all_of store.now list.now) }
+    ensures { GivesFor (λ found. found.items ≡ front_groups least (length paths.now + 1 - least) (map (key_list store.now paths.now) list.now)) store.now paths.now list.now result }
+{
+    let columns = list_columns(rt, alloc, &store, &paths, &list, workers)?;
+    let seen = columns.as_slice();
+    let lists = hashed_columns(alloc, seen, list.len())?;
+    let lists = lists.as_slice();
+    Ok(levels_from(rt, alloc, lists, least, paths.len(), workers, gate)?)
 }
 
 /// The groups of the instances of a list by each level of a rollup, the finest first: by the keys with the first of these paths,
 /// for each count of paths from all to one, and with `with_all` by the keys alone. The list is grouped once, by all paths, and
-/// each coarser level is made from the groups of the finer one.
+/// each coarser level is made from these groups.
 pub fn rollup_list<R: Threads + Sync, G: Gate>(
     rt: &R,
     alloc: Global,
@@ -160,14 +169,9 @@ pub fn rollup_list<R: Threads + Sync, G: Gate>(
     ensures value { GivesFor (λ found. found.items ≡ spec.level_groups store.now keys.now levels.now with_all list.now) store.now (keys.now ++ levels.now) list.now result }
 {
     let paths = all_paths(alloc, keys, levels)?;
-    let lists = list_keys(rt, alloc, store, paths.as_slice(), list, workers)?;
-    let lists = lists.as_slice();
-    let width = paths.len();
-    let mut found = front_levels(rt, alloc, lists, keys.len(), width, workers, gate)?;
-    if with_all {
-        let groups = level(rt, alloc, lists, &found, keys.len(), width, workers, gate)?;
-        found.push(groups)?;
-    }
+    let paths = paths.as_slice();
+    let least = least_front(keys, with_all);
+    let found = levels_by(rt, alloc, store, list, paths, least, workers, gate)?;
     Ok(found)
 }
 

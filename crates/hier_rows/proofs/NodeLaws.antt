@@ -1,10 +1,9 @@
 -- The nodes of instances are entities of the set, and what calls over them return.
-use Rattle.std.proofs.Common.{◌≡◌, ℕ, suc, ◌+◌, ◌<◌, ◌≤◌, refl, sym, ◌∙◌, ap, ◌||◌, true, false, not, List, [], ◌∷◌, ◌++◌, length, drop, map, get_or, drop-cons, add-one, append_assoc, Option, Some, None, IfSome, arith}
+use Rattle.std.proofs.Common.{◌≡◌, ℕ, ◌<◌, refl, sym, ◌∙◌, ap, true, false, not, List, length, map, get_or, Option, Some, None, IfSome, arith}
 use Rattle.std.specs.Prelude.{option_map, position}
 use Rattle.std.specs.Bool.{then_some}
 use Rattle.std.specs.List.{list_any}
-use Rattle.std.proofs.Math.ListN.{drop_of_length-le}
-use Rattle.std.proofs.lemmas.List.{append-nil, length-map}
+use Rattle.std.proofs.lemmas.List.{length-map}
 use Rattle.std.proofs.lemmas.List.Elements.{All-map}
 use Rattle.std.proofs.lemmas.List.Quantifiers.{position-Some}
 use Rattle.edm_values.specs.declared.Value.{Value}
@@ -22,7 +21,7 @@ use Rattle.apply_meaning.proofs.RunLemmas.{all-fit-of}
 use Rattle.apply_meaning.specs.Instances.{Instance, lookup, rows}
 use Rattle.apply_meaning.specs.Meaning.{node, refused_at_beyond}
 use Rattle.apply_meaning.specs.Running.{all_of}
-use Rattle.hier_rows.specs.HierRows.{AreOptionsBelow, IsNodesOf, node_in, path_values}
+use Rattle.hier_rows.specs.HierRows.{AreOptionsBelow, IsNodesOf, node_in}
 
 -- ---- nodes
 
@@ -40,22 +39,6 @@ node-within w s p i = go (position (same_value (lookup w i p)) (keys_of w s)) re
 -- and so are those of all instances
 pub nodes-within : (w : World) (s : ℕ) (p : Path) (l : List Instance) → AreOptionsBelow (count w s) (map (node_in w s p) l)
 nodes-within w s p l = All-map (λ n. IfSome n (λ x. x < count w s)) (node_in w s p) l (λ k d h. node-within w s p (get_or l k d))
-
--- the node of the next instance of a list
-module _ (w : World) (s : ℕ) (p : Path) (l : List Instance) where
-  abbrev pub AreLeft : List (Option ℕ) → ℕ → Type 0
-  AreLeft got i = (map (node_in w s p) l ≡ got ++ map (node_in w s p) (drop i l)) × (list_any is_beyond (path_values w p l) ≡ list_any is_beyond (path_values w p (drop i l)))
-
-  pub next-node : (got : List (Option ℕ)) (i : ℕ) (d : Instance) (n : Option ℕ) → i < length l → d ≡ get_or l i d → n ≡ node_in w s p d → is_beyond (lookup w d p) ≡ false → AreLeft got i → AreLeft (got ++ n ∷ []) (i + 1)
-  next-node got i d n h e is quiet L =
-      let step : drop i l ≡ d ∷ drop (i + 1) l = drop-cons l i d h ∙ ap (λ x. x ∷ drop (suc i) l) (sym e) ∙ ap (λ k. d ∷ drop k l) (sym (add-one i)) in (
-        L.0 ∙ ap (λ xs. got ++ map (node_in w s p) xs) step ∙ ap (λ x. got ++ x ∷ map (node_in w s p) (drop (i + 1) l)) (sym is) ∙ sym (append_assoc got (n ∷ []) (map (node_in w s p) (drop (i + 1) l))),
-        L.1 ∙ ap (λ xs. list_any is_beyond (path_values w p xs)) step ∙ ap (λ b. b || list_any is_beyond (path_values w p (drop (i + 1) l))) quiet,
-      )
-
-  -- no instance is left
-  pub none-left : (got : List (Option ℕ)) (i : ℕ) → length l ≤ i → AreLeft got i → got ≡ map (node_in w s p) l
-  none-left got i h L = sym (L.0 ∙ ap (λ xs. got ++ map (node_in w s p) xs) (drop_of_length-le l h) ∙ append-nil got)
 
 -- the nodes are as many as the entities of the set
 pub nodes-count : (w : World) (f : HierarchyPlace) (s : ℕ) (parents : List (Option ℕ)) → IsNodesOf w f s parents → length parents ≡ count w s

@@ -52,10 +52,6 @@ AreRootsBelow count l = All (λ i. IfSome (root_of i) (λ e. e.at < count)) l
 abbrev pub GivesFor : {T : Type 0} → (T → Type 0) → List Value → result.Result T Refused → Type 0
 GivesFor IsRight vs r = Returns (λ v. IsRight v × (list_any is_beyond vs ≡ false)) (list_any is_beyond vs ≡ true) r
 
--- of one instance: its node, or a refusal where the value of the path is Beyond
-abbrev pub GivesNode : World → ℕ → Path → Instance → result.Result (Option ℕ) Refused → Type 0
-GivesNode w s p i r = Returns (λ (n : Option ℕ). (n ≡ node_in w s p i) × (is_beyond (lookup w i p) ≡ false)) (is_beyond (lookup w i p) ≡ true) r
-
 -- of one key: the node that has it, or a refusal where it is Beyond
 abbrev pub GivesNodeBy : World → ℕ → Value → result.Result (Option ℕ) Refused → Type 0
 GivesNodeBy w s v r = Returns (λ (n : Option ℕ). (n ≡ node_by w s v) × (is_beyond v ≡ false)) (is_beyond v ≡ true) r

@@ -1,5 +1,5 @@
 //! The rows that a climb keeps.
-ghost use Rattle.std.specs.Prelude.{◌≡◌, ℕ, Bool, IfOk, IsTrue, filter, filter_map, length};
+ghost use Rattle.std.specs.Prelude.{◌≡◌, ◌<◌, ℕ, Bool, IfOk, IsTrue, filter, filter_map, length};
 ghost use Rattle.edm_values.specs.Lists.{places};
 ghost use Rattle.edm_model.specs.LookUps.{HierarchyPlace, IsSet};
 ghost use Rattle.apply_meaning.specs.Running.{all_of};
@@ -8,11 +8,13 @@ ghost use Rattle.row_orders.specs.Ranks.{GivesNumbers};
 
 use crate::nodes::nodes_of;
 use apply_ast::Path;
-use apply_meaning::{Row, RunRefused};
+use apply_meaning::RunRefused;
 use edm_data::Data;
 use hier_states::Nodes;
 use hier_traverse::{ancestors, descendants};
+use row_values::RowList;
 use std::alloc::{AllocError, Global};
+use std::thread::Threads;
 
 /// The nodes that there are.
 fn present(alloc: Global, nodes: &[Option<u32>]) -> Result<Vec<u32>, AllocError>
@@ -28,8 +30,10 @@ fn present(alloc: Global, nodes: &[Option<u32>]) -> Result<Vec<u32>, AllocError>
 }
 
 /// The places of the rows whose node is an ancestor, or a descendant where `up` is false, of the node of a start row, at most at
-/// the distance, or with `keep` is one. Rows keep their order.
-pub fn climb_places(
+/// the distance, or with `keep` is one. Rows keep their order. The values of the path may be worked out in so many parts, each by a
+/// thread of its own.
+pub fn climb_places<R: Threads + Sync>(
+    rt: &R,
     alloc: Global,
     store: &Data,
     nodes: Nodes<'_>,
@@ -37,9 +41,11 @@ pub fn climb_places(
     path: &Path,
     distance: Option<u64>,
     keep: bool,
-    rows: &[Row],
-    starts: &[Row],
+    rows: &RowList<'_>,
+    starts: &RowList<'_>,
+    workers: u32,
 ) -> Result<Vec<usize>, RunRefused>
+    requires some { 0 < workers }
     requires nodes { (f : HierarchyPlace) × IsNodesOf store.now f nodes.set nodes.index.now }
     requires set { IsSet store.now.model nodes.set }
     requires of { IsTrue (all_of store.now rows.now) }
@@ -47,8 +53,8 @@ pub fn climb_places(
     ensures value { (f : HierarchyPlace) → IsNodesOf store.now f nodes.entry.set nodes.entry.index.now → GivesNumbers result (climb_outcome store.now up f path.now distance keep starts.now rows.now) }
     ensures ascending { IfOk result (λ v. (q : ℕ → Bool) × (v.items ≡ filter q (places (length rows.now)))) }
 {
-    let own = nodes_of(alloc, store, nodes.set, path, rows)?;
-    let starting = nodes_of(alloc, store, nodes.set, path, starts)?;
+    let own = nodes_of(rt, alloc, store, nodes.set, path, rows, workers)?;
+    let starting = nodes_of(rt, alloc, store, nodes.set, path, starts, workers)?;
     let from = present(alloc, &starting)?;
     if up {
         Ok(ancestors(alloc, nodes.index, &own, &from, distance, keep)?)

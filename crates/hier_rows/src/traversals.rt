@@ -1,5 +1,5 @@
 //! The rows that a traversal lists.
-ghost use Rattle.std.specs.Prelude.{◌≡◌, ◌≤◌, ◌+◌, IfOk, IsTrue, length, nat_lt, if◌then◌else◌, map};
+ghost use Rattle.std.specs.Prelude.{◌≡◌, ◌<◌, ◌≤◌, ◌+◌, IfOk, IsTrue, length, nat_lt, if◌then◌else◌, map};
 ghost use Rattle.std.specs.List.{list_all};
 ghost use Rattle.edm_values.specs.Lists.{is_nonempty};
 ghost use Rattle.edm_model.specs.LookUps.{HierarchyPlace, IsSet};
@@ -14,15 +14,17 @@ ghost use Rattle.hier_rows.specs.HierRows.{IsNodesOf, traverse_outcome};
 
 use crate::nodes::nodes_of;
 use apply_ast::{OrderList, TraverseStep};
-use apply_meaning::{Row, RunRefused, Steps, set_rows};
+use apply_meaning::{RunRefused, Steps, set_rows};
 use edm_data::Data;
 use edm_model::SetId;
 use hier_index::WalkOrder;
 use hier_states::Nodes;
 use hier_traverse::traverse;
 use row_orders::row_ranks;
+use row_values::RowList;
 use std::alloc::Global;
 use std::sync::ledger::Ledger;
+use std::thread::Threads;
 
 /// The order of a walk.
 fn walk_order(post: bool) -> WalkOrder
@@ -57,15 +59,19 @@ fn node_ranks<L: Ledger>(
 }
 
 /// The places of the rows that have a node, node by node in the order of a walk, siblings by the items and then in data order.
-/// The items are evaluated on every node, one step a node. Rows of one node keep their order.
-pub fn traverse_places<L: Ledger>(
+/// The items are evaluated on every node, one step a node. Rows of one node keep their order. The values of the path may be worked
+/// out in so many parts, each by a thread of its own.
+pub fn traverse_places<R: Threads + Sync, L: Ledger>(
+    rt: &R,
     alloc: Global,
     store: &Data,
     nodes: Nodes<'_>,
     walk: &TraverseStep,
-    rows: &[Row],
+    rows: &RowList<'_>,
+    workers: u32,
     steps: &mut Steps<L>,
 ) -> Result<Vec<usize>, RunRefused>
+    requires some { 0 < workers }
     requires nodes { (f : HierarchyPlace) × IsNodesOf store.now f nodes.set nodes.index.now }
     requires set { IsSet store.now.model nodes.set }
     requires of { IsTrue (all_of store.now rows.now) }
@@ -74,7 +80,7 @@ pub fn traverse_places<L: Ledger>(
     ensures steps { steps.new ≤ steps.old + (if is_nonempty (traverse_of walk.now).items then count store.now nodes.entry.set else 0) }
     ensures grown { steps.old ≤ steps.new }
 {
-    let own = nodes_of(alloc, store, nodes.set, &walk.path, rows)?;
+    let own = nodes_of(rt, alloc, store, nodes.set, &walk.path, rows, workers)?;
     let rank = node_ranks(alloc, store, nodes.set, &walk.items, steps)?;
     Ok(traverse(alloc, nodes.index, &own, walk_order(walk.post), &rank)?)
 }

@@ -10,7 +10,6 @@ ghost use Rattle.edm_data.specs.Worlds.{entity_at};
 ghost use Rattle.apply_meaning.specs.Running.{all_of};
 
 use apply_ast::{Name, Path};
-use apply_meaning::Row;
 use edm_data::{Data, EntityRef};
 use edm_model::{Model, NavId, PropId, SetId};
 use edm_values::{Seen, order};
@@ -81,17 +80,7 @@ fn tried_from(store: &Data, set: SetId, path: &Path, root: Option<EntityRef>) ->
     }
 }
 
-/// Which node is tried for each of these rows, by the entity that the first of them stands at.
-pub(crate) fn tried_for(store: &Data, set: SetId, path: &Path, rows: &[Row]) -> Tried
-    requires { IsTrue (all_of store.now rows.now) }
-{
-    match rows.first() {
-        Some(row) => tried_from(store, set, path, row.root()),
-        None => Tried::Nothing,
-    }
-}
-
-/// The same of the instances of a list.
+/// Which node is tried for each instance of a list, by the entity that the first of them stands at.
 pub(crate) fn tried_in(store: &Data, set: SetId, path: &Path, list: &RowList<'_>) -> Tried
     requires { IsTrue (all_of store.now list.now) }
 {

@@ -1,7 +1,8 @@
 -- The levels of a rollup by their places, and levels with their groups.
-use Rattle.std.proofs.Common.{◌≡◌, ℕ, zero, suc, ◌+◌, ◌-◌, ◌<◌, ◌≤◌, refl, sym, ◌∙◌, ap, Bool, true, false, List, [], ◌∷◌, ◌++◌, length, drop, take, reverse, map, Option, Some, None, arith, drop-cons, add-one, add-zero, inl, inr, ◌⊎◌}
+use Rattle.std.proofs.Common.{◌≡◌, ℕ, zero, suc, ◌+◌, ◌-◌, ◌<◌, ◌≤◌, refl, sym, ◌∙◌, ap, Bool, true, false, List, [], ◌∷◌, ◌++◌, length, drop, take, reverse, map, Option, Some, None, arith, drop-cons, add-one, add-zero, inl, inr, length-append, ◌⊎◌}
 use Rattle.std.specs.Prelude.{slice_get, zip}
 use Rattle.std.specs.List.{range_with_len}
+use Rattle.std.proofs.Math.Seq.{take-append-add}
 use Rattle.std.proofs.lemmas.List.{append-nil, reverse-append}
 use Rattle.std.proofs.lemmas.Option.{get_or_from_slice_get, slice_get_within}
 use Rattle.edm_values.specs.declared.Value.{Value}
@@ -77,6 +78,13 @@ level-place ks ps true k h =
         paths = at-end (down f (length ps)) ks k (e ∙ sym own) ∙ ap Some (sym (append-nil ks) ∙ (let none : 0 ≡ length ps - k = omega (arith, e) in ap (λ j. ks ++ take j ps) none));
       }
     ]
+
+-- all paths but the last ones, where these are the rollup's
+pub front-of-all : (ks ps : List Path) (k : ℕ) → k ≤ length ps → take (length (ks ++ ps) - k) (ks ++ ps) ≡ ks ++ take (length ps - k) ps
+front-of-all ks ps k h =
+    let long = length-append ks ps in
+    let e : length (ks ++ ps) - k ≡ length ks + (length ps - k) = omega (arith, long, h) in
+    ap (λ n. take n (ks ++ ps)) e ∙ take-append-add ks ps (length ps - k)
 
 -- the next level with its groups
 pub zip-next : {X : Type 0} (levels : List (List Path)) (n : ℕ) (p : List Path) (g : X) (rest : List X) → slice_get levels n ≡ Some p → zip (drop n levels) (g ∷ rest) ≡ (p, g) ∷ zip (drop (n + 1) levels) rest

@@ -155,7 +155,7 @@ module _ (w : World) (f : HierarchyPlace) (ks : List Path) (p : Path) (l : List 
   abbrev level_group : ℕ → List Value → List Value × List ℕ
   level_group x k = (k ++ identifier w f x ∷ [], passing (is_of x k) 0 l)
 
-  level-groups : (x : ℕ) → (node_level w f ks p (x, found x)).1 ≡ map (level_group x) (keys w ks (below x))
+  level-groups : (x : ℕ) → (node_level w f (ks ++ p ∷ []) (x, found x)).1 ≡ map (level_group x) (keys w ks (below x))
   level-groups x =
       ap (with_node (Some (identifier w f x))) (found-is x) ∙ map-map (λ (g : List Value × List ℕ). (g.0 ++ identifier w f x ∷ [], g.1)) (λ k. (k, passing (is_of x k) 0 l)) (keys w ks (below x))
 
@@ -177,7 +177,7 @@ module _ (w : World) (f : HierarchyPlace) (ks : List Path) (p : Path) (l : List 
         (λ i. option_map (map (λ r. extended r (keyed-last ks k p (identifier w f x) same i))) (F (group-is x k i)))
         ∙ extended-twice (keyed ks k) ((p, identifier w f x) ∷ []) (F (group w ks k (below x)))
 
-    node-made : (x : ℕ) → level_made F l (node_level w f ks p (x, found x)) ≡ option_map (map (λ r. extended r ((p, identifier w f x) ∷ []))) (grouped w ks F (below x))
+    node-made : (x : ℕ) → level_made F l (node_level w f (ks ++ p ∷ []) (x, found x)) ≡ option_map (map (λ r. extended r ((p, identifier w f x) ∷ []))) (grouped w ks F (below x))
     node-made x =
         let made : List Value → Outcome = λ k. option_map (map (λ r. extended r (keyed ks k))) (F (group w ks k (below x))) in
         ap (λ gs. joined (map (group_made (ks ++ p ∷ []) F l) gs)) (level-groups x)
@@ -204,15 +204,15 @@ module _ (w : World) (f : HierarchyPlace) (ks : List Path) (p : Path) (l : List 
         next e o h = joined-first o rest ∙ (λ i. first_with (h i) (e i)) ∙ sym (joined-first (made_at x) others)
 
         go : (gs : List (List Value × List ℕ)) → found x ≡ gs → joined rest ≡ joined others
-            → joined (map (level_made F l) (map (node_level w f ks p) (cond (is_nonempty gs) ((x, found x) ∷ rolled (parents_of w f) (map (node w f p) l) (map (key_list w ks) l) shown) (rolled (parents_of w f) (map (node w f p) l) (map (key_list w ks) l) shown)))) ≡ joined (made_at x ∷ others)
-        go (g ∷ gs) e t = next t (level_made F l (node_level w f ks p (x, found x))) (node-made x)
+            → joined (map (level_made F l) (map (node_level w f (ks ++ p ∷ [])) (cond (is_nonempty gs) ((x, found x) ∷ rolled (parents_of w f) (map (node w f p) l) (map (key_list w ks) l) shown) (rolled (parents_of w f) (map (node w f p) l) (map (key_list w ks) l) shown)))) ≡ joined (made_at x ∷ others)
+        go (g ∷ gs) e t = next t (level_made F l (node_level w f (ks ++ p ∷ []) (x, found x))) (node-made x)
         go [] e t =
-            let none : Some [] ≡ made_at x = ap (λ gs. level_made F l (node_level w f ks p (x, gs))) (sym e) ∙ node-made x in
+            let none : Some [] ≡ made_at x = ap (λ gs. level_made F l (node_level w f (ks ++ p ∷ []) (x, gs))) (sym e) ∙ node-made x in
             begun (joined rest) ∙ sym (joined-first (Some []) rest) ∙ next t (Some []) none
 
   -- ---- the lists of the groups
 
-  node-lists : (x : ℕ) → level_lists l (node_level w f ks p (x, found x)) ≡ costs.groups w ks (below x)
+  node-lists : (x : ℕ) → level_lists l (node_level w f (ks ++ p ∷ []) (x, found x)) ≡ costs.groups w ks (below x)
   node-lists x =
       ap (map (λ (g : List Value × List ℕ). at_places l g.1)) (level-groups x)
       ∙ map-map (λ (g : List Value × List ℕ). at_places l g.1) (level_group x) (keys w ks (below x))
@@ -229,10 +229,10 @@ module _ (w : World) (f : HierarchyPlace) (ks : List Path) (p : Path) (l : List 
       others = flat_map (λ x. costs.groups w ks (below x)) shown
 
       go : (gs : List (List Value × List ℕ)) → found x ≡ gs → rest ≡ others
-          → flat_map (level_lists l) (map (node_level w f ks p) (cond (is_nonempty gs) ((x, found x) ∷ rolled (parents_of w f) (map (node w f p) l) (map (key_list w ks) l) shown) (rolled (parents_of w f) (map (node w f p) l) (map (key_list w ks) l) shown))) ≡ costs.groups w ks (below x) ++ others
+          → flat_map (level_lists l) (map (node_level w f (ks ++ p ∷ [])) (cond (is_nonempty gs) ((x, found x) ∷ rolled (parents_of w f) (map (node w f p) l) (map (key_list w ks) l) shown) (rolled (parents_of w f) (map (node w f p) l) (map (key_list w ks) l) shown))) ≡ costs.groups w ks (below x) ++ others
       go (g ∷ gs) e t = λ i. node-lists x i ++ t i
       go [] e t =
-          let none : [] ≡ costs.groups w ks (below x) = ap (λ gs. level_lists l (node_level w f ks p (x, gs))) (sym e) ∙ node-lists x in
+          let none : [] ≡ costs.groups w ks (below x) = ap (λ gs. level_lists l (node_level w f (ks ++ p ∷ []) (x, gs))) (sym e) ∙ node-lists x in
           t ∙ ap (λ xs. xs ++ others) none
 
   -- ---- each level has the paths of the keys and that of the node, and groups of these instances
@@ -254,7 +254,7 @@ module _ (w : World) (f : HierarchyPlace) (ks : List Path) (p : Path) (l : List 
 
   pub nodes-within : (shown : List ℕ) → Each IsNodeLevel (node_levels w f ks p shown l)
   nodes-within shown =
-      each-map IsNodeLevel (λ (x : ℕ × List (List Value × List ℕ)). Each IsWithin x.1) (node_level w f ks p)
+      each-map IsNodeLevel (λ (x : ℕ × List (List Value × List ℕ)). Each IsWithin x.1) (node_level w f (ks ++ p ∷ []))
       (λ x e. (refl, each-map IsWithin IsWithin (λ (g : List Value × List ℕ). (g.0 ++ identifier w f x.0 ∷ [], g.1)) (λ g h. h) x.1 e))
       (rolled (parents_of w f) (map (node w f p) l) (map (key_list w ks) l) shown)
       (each-filter (λ (x : ℕ × List (List Value × List ℕ)). Each IsWithin x.1) (λ x. is_nonempty x.1) (map (λ x. (x, found x)) shown)

@@ -49,13 +49,13 @@ abbrev pub with_node : Option Value → List (List Value × List ℕ) → List (
 with_node None gs = gs
 with_node (Some v) gs = map (λ g. (g.0 ++ v ∷ [], g.1)) gs
 
--- a node and its groups as a level
-abbrev pub node_level : World → HierarchyPlace → List Path → Path → ℕ × List (List Value × List ℕ) → Level
-node_level w f ks p x = (ks ++ p ∷ [], with_node (Some (identifier w f x.0)) x.1)
+-- a node and its groups as a level by these paths
+abbrev pub node_level : World → HierarchyPlace → List Path → ℕ × List (List Value × List ℕ) → Level
+node_level w f level x = (level, with_node (Some (identifier w f x.0)) x.1)
 
 -- the levels of a recursive rollup: one for each node that is shown and that has instances at it or below it
 abbrev pub node_levels : World → HierarchyPlace → List Path → Path → List ℕ → List Instance → List Level
-node_levels w f ks p shown l = map (node_level w f ks p) (rolled (parents_of w f) (map (node w f p) l) (map (key_list w ks) l) shown)
+node_levels w f ks p shown l = map (node_level w f (ks ++ p ∷ [])) (rolled (parents_of w f) (map (node w f p) l) (map (key_list w ks) l) shown)
 
 -- the levels by each level's paths, or for each node that is shown
 abbrev pub levels_by : World → RollupPart → List Path → List ℕ → List Instance → List Level

@@ -120,7 +120,7 @@ fn aggregation_ready<R: Threads + Sync, G: Gate>(
 }
 
 /// The row of an aggregation, alone in a list.
-pub(crate) fn aggregated<R: Threads + Sync, G: Gate, L: Ledger>(
+pub fn aggregated<R: Threads + Sync, G: Gate, L: Ledger>(
     alloc: Global,
     context: &Context<'_, R, G>,
     root: &Option<TypeId>,

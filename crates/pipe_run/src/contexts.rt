@@ -16,7 +16,6 @@ ghost use Rattle.aggregate_ops.specs.KeyTables.{HasWidth};
 ghost use Rattle.aggregate_ops.specs.Partials.{AreFoldable};
 ghost use Rattle.custom_agg.specs.CustomValues.{value_by_id, HaveRoot};
 ghost use Rattle.group_rollup.specs.Groupings.{groups, level_groups, GivesFor};
-ghost use Rattle.hier_rows.specs.HierRows.{path_values};
 ghost use Rattle.hier_states.specs.States.{IsReadyAt};
 ghost use Rattle.rollup_rec.specs.Rollups.{rolled, width_of};
 
@@ -122,6 +121,11 @@ impl<'a, R: Threads + Sync, G: Gate> Context<'a, R, G> {
         workers_for(n, 2, self.workers)
     }
 
+    /// What starts threads.
+    pub fn rt(&self) -> &R {
+        self.rt
+    }
+
     /// The data.
     pub fn store(&self) -> &Data
         ensures value { result.now ≡ self.now.world }
@@ -187,20 +191,6 @@ impl<'a, R: Threads + Sync, G: Gate> Context<'a, R, G> {
         ensures { IfOk result (λ vs. vs.items ≡ values self.now.world (expr_of e.now) rows.now) }
     {
         rows.values(self.rt, alloc, self.store, e, self.workers)
-    }
-
-    /// The values of a path on a list.
-    pub(crate) fn path_values(
-        &self,
-        alloc: Global,
-        path: &Path,
-        rows: &RowList<'_>,
-    ) -> Result<Vec<Value>, AllocError>
-        requires { IsTrue (all_of self.now.world rows.now) }
-        ensures { IfOk result (λ vs. vs.items ≡ path_values self.now.world path.now rows.now) }
-    {
-        let e = Expr::Path(path.copy(alloc)?);
-        rows.values(self.rt, alloc, self.store, &e, self.workers)
     }
 
     /// Each row with its new columns: one step a row.

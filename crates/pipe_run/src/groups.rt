@@ -1,7 +1,6 @@
 //! What is made of the groups of rows.
 ghost use Rattle.std.specs.Prelude.{◌≡◌, ◌+◌, ◌≤◌, ◌++◌, true, IsTrue, IfOk, map, flat_map, length, nat_lt};
 ghost use Rattle.std.specs.List.{list_all};
-ghost use Rattle.edm_values.specs.Lists.{at_places};
 ghost use Rattle.apply_meaning.specs.Instances.{extended};
 ghost use Rattle.apply_meaning.specs.Meaning.{keyed};
 ghost use Rattle.apply_meaning.specs.RowViews.{columns_differ};
@@ -11,25 +10,8 @@ use crate::levels::Level;
 use apply_ast::Path;
 use apply_meaning::{Row, Steps};
 use edm_values::Value;
-use row_values::RowList;
 use std::alloc::{AllocError, Global};
 use std::sync::ledger::Ledger;
-
-/// Copies of the rows at these places.
-pub(crate) fn members<L: Ledger>(
-    alloc: Global,
-    rows: &[Row],
-    places: &[usize],
-    steps: &mut Steps<L>,
-) -> Result<Vec<Row>, AllocError>
-    requires { IsTrue (list_all (λ k. nat_lt k (length rows.now)) places.now) }
-    ensures rows { IfOk result (λ copies. copies.items ≡ at_places rows.now places.now) }
-    ensures steps { steps.new ≤ steps.old + length (at_places rows.now places.now) }
-    ensures grown { steps.old ≤ steps.new }
-{
-    let list = RowList::of_rows(rows);
-    list.members(alloc, places, steps)
-}
 
 /// The columns of a key list.
 fn key_columns(
@@ -71,7 +53,7 @@ pub(crate) fn with_keys<L: Ledger>(
 fn add_keys<L: Ledger>(
     alloc: Global,
     all: Vec<Row>,
-    level: &Level,
+    level: &Level<'_>,
     steps: &mut Steps<L>,
 ) -> Result<Vec<Row>, AllocError>
     requires differ { IsTrue (list_all (λ g. columns_differ (keyed level.now.0 g.0)) level.now.1) }
@@ -91,7 +73,7 @@ fn add_keys<L: Ledger>(
 /// One row for each group of each level, which has the columns of its key alone: one step a row.
 pub(crate) fn key_rows<L: Ledger>(
     alloc: Global,
-    levels: &[Level],
+    levels: &[Level<'_>],
     steps: &mut Steps<L>,
 ) -> Result<Vec<Row>, AllocError>
     requires differ { IsTrue (list_all (λ level. list_all (λ g. columns_differ (keyed level.0 g.0)) level.1) levels.now) }

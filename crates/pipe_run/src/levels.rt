@@ -1,7 +1,7 @@
 //! The levels of a grouping, each with its groups.
 ghost use Rattle.std.specs.Prelude.{◌≡◌, ◌<◌, ◌∷◌, [], ◌++◌, Some, IfOk, IsTrue, length, map, option_map, slice_get, zip};
 ghost use Rattle.apply_ast.specs.Views.{key_of, keys_from, keys_of};
-ghost use Rattle.context_typing.specs.Typing.{group_keys, plain_paths, rollup_part, rollup_paths};
+ghost use Rattle.context_typing.specs.Typing.{group_keys, key_paths, plain_paths, rollup_part, rollup_paths};
 ghost use Rattle.apply_meaning.specs.Meaning.{level_paths};
 ghost use Rattle.apply_meaning.specs.Running.{all_of};
 ghost use Rattle.group_rollup.specs.Groupings.{groups, GivesFor};
@@ -17,6 +17,7 @@ use par_stages::Gate;
 use row_values::RowList;
 use std::alloc::{AllocError, Global};
 use std::marker::Model;
+use std::slice;
 use std::thread::Threads;
 
 /// The paths of a rollup from the coarsest level on, and whether all rows are a level too.
@@ -71,6 +72,33 @@ fn first_rollup(keys: &[KeyItem]) -> Option<Rollup<'_>>
     None
 }
 
+/// The paths of the first key that is not plain.
+fn other_paths(keys: &[KeyItem]) -> &[Path]
+    ensures value { result.now ≡ rollup_paths (rollup_part (group_keys (keys_from (map key_of keys.now)))) }
+{
+    for key in keys {
+        match key {
+            KeyItem::Plain(_) => {}
+            KeyItem::Rollup(_, paths) => return paths.as_slice(),
+            KeyItem::Recursive(_, path, _) => return slice::from_ref(path),
+        }
+    }
+    &[]
+}
+
+/// The paths of all keys, the plain ones first. The levels of a grouping borrow them.
+pub(crate) fn all_paths(alloc: Global, keys: &KeyList) -> Result<Vec<Path>, AllocError>
+    ensures value { IfOk result (λ paths. paths.items ≡ key_paths (group_keys (keys_of keys.now))) }
+{
+    let items = keys.as_slice();
+    let others = other_paths(items);
+    let mut paths = plain_keys(alloc, items)?;
+    for path in others {
+        paths.push(path.copy(alloc)?)?;
+    }
+    Ok(paths)
+}
+
 /// The keys of a grouping, taken apart.
 fn taken_apart(alloc: Global, keys: &KeyList) -> Result<LevelKeys<'_>, AllocError>
     requires { IsTrue (are_flat_keys (keys_of keys.now)) }
@@ -109,54 +137,40 @@ fn level_groups<R: Threads + Sync, G: Gate>(
     }
 }
 
-/// Copies of the paths of two lists, one after the other.
-fn paths_of(alloc: Global, first: &[Path], others: &[Path]) -> Result<Vec<Path>, AllocError>
-    ensures { IfOk result (λ paths. paths.items ≡ first.now ++ others.now) }
+/// The paths of level k, the finest being level 0: all paths of the keys but the last k.
+fn paths_at<'a>(keys: &LevelKeys<'_>, paths: &'a [Path], k: usize) -> &'a [Path]
+    requires within { k < length (level_paths keys.now.plain (part_of keys.now.rollup)) }
+    requires all { paths.now ≡ keys.now.plain ++ rollup_paths (part_of keys.now.rollup) }
+    ensures value { Some result.now ≡ slice_get (level_paths keys.now.plain (part_of keys.now.rollup)) k }
 {
-    let mut paths = Vec::with_capacity(alloc, first.len())?;
-    for path in first {
-        paths.push(path.copy(alloc)?)?;
-    }
-    for path in others {
-        paths.push(path.copy(alloc)?)?;
-    }
-    Ok(paths)
-}
-
-/// The paths of level k, the finest being level 0.
-fn paths_at(alloc: Global, keys: &LevelKeys<'_>, k: usize) -> Result<Vec<Path>, AllocError>
-    requires { k < length (level_paths keys.now.plain (part_of keys.now.rollup)) }
-    ensures { IfOk result (λ paths. Some paths.items ≡ slice_get (level_paths keys.now.plain (part_of keys.now.rollup)) k) }
-{
-    let plain = keys.plain.as_slice();
     match keys.rollup {
-        Some(rollup) => paths_of(alloc, plain, &rollup.paths[..rollup.paths.len() - k]),
-        None => paths_of(alloc, plain, &[]),
+        Some(_) => &paths[..paths.len() - k],
+        None => paths,
     }
 }
 
 /// A level of a grouping: its paths, and the groups by them. The key of each group of a recursive rollup ends with the
 /// identifier of the node.
 #[derive(Drop)]
-pub(crate) struct Level {
-    paths: Vec<Path>,
+pub(crate) struct Level<'a> {
+    paths: &'a [Path],
     groups: Groups,
     node: Option<Value>,
 }
 
-impl Model for Level {
+impl<'a> Model for Level<'a> {
     ghost use Rattle.pipe_run.specs.Levels as seen;
     ghost use Rattle.pipe_run.specs.Levels.{with_node};
 
     ghost Value = { seen.Level };
 
-    ghost view = { λ l. (l.paths.items, with_node l.node l.groups) };
+    ghost view = { λ l. (l.paths.now, with_node l.node l.groups) };
 }
 
-impl Level {
+impl<'a> Level<'a> {
     /// The level of a recursive rollup that has the groups of the rows at a node or below it.
-    pub(crate) fn of_node(paths: Vec<Path>, groups: Groups, node: Value) -> Level
-        ensures { result ≡ (paths.items, with_node (Some node) groups) }
+    pub(crate) fn of_node(paths: &'a [Path], groups: Groups, node: Value) -> Level<'a>
+        ensures { result ≡ (paths.now, with_node (Some node) groups) }
     {
         Level {
             paths,
@@ -166,10 +180,10 @@ impl Level {
     }
 
     /// The paths.
-    pub(crate) fn paths(&self) -> &[Path]
+    pub(crate) fn paths(&self) -> &'a [Path]
         ensures { result.now ≡ self.now.0 }
     {
-        self.paths.as_slice()
+        self.paths
     }
 
     /// How many groups there are.
@@ -201,17 +215,19 @@ impl Level {
 }
 
 /// The groups of each level with its paths.
-fn with_paths(
+fn with_paths<'a>(
     alloc: Global,
     keys: &LevelKeys<'_>,
+    paths: &'a [Path],
     found: Vec<Groups>,
-) -> Result<Vec<Level>, AllocError>
-    requires { length found.items ≡ length (level_paths keys.now.plain (part_of keys.now.rollup)) }
+) -> Result<Vec<Level<'a>>, AllocError>
+    requires one { length found.items ≡ length (level_paths keys.now.plain (part_of keys.now.rollup)) }
+    requires all { paths.now ≡ keys.now.plain ++ rollup_paths (part_of keys.now.rollup) }
     ensures { IfOk result (λ levels. levels.items ≡ zip (level_paths keys.now.plain (part_of keys.now.rollup)) found.items) }
 {
     let mut levels = Vec::with_capacity(alloc, found.len())?;
     for groups in found {
-        let paths = paths_at(alloc, keys, levels.len())?;
+        let paths = paths_at(keys, paths, levels.len());
         levels.push(Level {
             paths,
             groups,
@@ -221,18 +237,21 @@ fn with_paths(
     Ok(levels)
 }
 
-/// The levels of a grouping without a recursive rollup on a list, the finest first, each with its groups.
-pub(crate) fn levels_of<R: Threads + Sync, G: Gate>(
+/// The levels of a grouping without a recursive rollup on a list, the finest first, each with its groups. They borrow the paths of
+/// the keys.
+pub(crate) fn levels_of<'a, R: Threads + Sync, G: Gate>(
     alloc: Global,
     context: &Context<'_, R, G>,
     keys: &KeyList,
+    paths: &'a [Path],
     rows: &RowList<'_>,
-) -> Result<Vec<Level>, RunRefused>
+) -> Result<Vec<Level<'a>>, RunRefused>
     requires flat { IsTrue (are_flat_keys (keys_of keys.now)) }
+    requires all { paths.now ≡ key_paths (group_keys (keys_of keys.now)) }
     requires of { IsTrue (all_of context.now.world rows.now) }
     ensures { GivesFlatLevels result context.now.world (keys_of keys.now) rows.now }
 {
     let keys = taken_apart(alloc, keys)?;
     let found = level_groups(alloc, context, &keys, rows)?;
-    Ok(with_paths(alloc, &keys, found)?)
+    Ok(with_paths(alloc, &keys, paths, found)?)
 }

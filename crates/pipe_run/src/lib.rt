@@ -2,12 +2,12 @@
 //!
 //! `run_pipe` passes rows through a pipeline, one transformation after another (`pipes`), with a `Context` of the data, the custom
 //! aggregates and the hierarchies (`contexts`). `skip` and `top` are those of `apply_meaning`, `filter` and `compute` those of
-//! `row_values`, by as many threads as there are workers, and `orderby` is that of `row_orders`; `aggregations` has `aggregate`.
+//! `row_values`, by as many threads as there are workers, and `orderby` is that of `row_orders`; `aggregations` has `aggregate`, of rows or a frame.
 //! `run_grouping` runs a `groupby` on a list of instances, which are rows or a frame: `levels` finds the groups of each level, and
 //! `recursive` those of each node of a recursive rollup; `item_lists` works out the values of an aggregation once for all groups,
 //! and `groups` makes rows of groups and puts key columns on them. `selections` takes rows from the top and the bottom, and
 //! `selected_places` has the places of the values that one takes; `joins` says what a join takes; `hierarchies` has climbs and
-//! traversals; `copies` copies rows for pipelines that share them. `roots` follows the type at the empty prefix from one
+//! traversals, and the places of the instances of a list that they take; `copies` copies rows for pipelines that share them. `roots` follows the type at the empty prefix from one
 //! transformation to the next, which custom aggregates are looked up by.
 //!
 //! The crate stands on `apply_meaning` for rows, the plain transformations and the meaning of pipelines, on `aggregate_ops`,
@@ -36,7 +36,9 @@ mod recursive;
 mod roots;
 mod selections;
 
+pub use aggregations::aggregated;
 pub use contexts::Context;
+pub use hierarchies::{climbed_places, traversed_places};
 pub use pipes::{run_grouping, run_pipe, run_step};
 pub use roots::root_after;
 pub use selections::selected_places;

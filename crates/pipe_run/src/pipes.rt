@@ -12,7 +12,7 @@ ghost use Rattle.apply_ast.specs.Views.{climb_of, hier_of, inner_of, join_of, ke
 ghost use Rattle.context_typing.specs.Readings.{readings};
 ghost use Rattle.context_typing.specs.Shapes.{Shape, set_shape};
 ghost use Rattle.context_typing.specs.Typing as typing;
-ghost use Rattle.context_typing.specs.Typing.{hierarchy_at, root_type};
+ghost use Rattle.context_typing.specs.Typing.{group_keys, hierarchy_at, key_paths, root_type};
 ghost use Rattle.apply_meaning.specs.Meaning as meaning;
 ghost use Rattle.apply_meaning.specs.Instances as instances;
 ghost use Rattle.apply_meaning.specs.Meaning.{inner_mean, joined, mean, shown_of, step_mean, values};
@@ -33,12 +33,12 @@ use crate::groups::{key_rows, with_keys};
 use crate::hierarchies::{climb_rows, traverse_rows};
 use crate::item_lists::{ItemList, aggregated_at, first_lists};
 use crate::joins::{alias_ready, join_navigation};
-use crate::levels::{Level, levels_of};
+use crate::levels::{Level, all_paths, levels_of};
 use crate::recursive::node_levels;
 use crate::roots::root_after;
 use crate::selections::select_rows;
 use apply_ast::{
-    ClimbStep, HierName, JoinStep, KeyItem, KeyList, Name, Pipe, PipeList, Step, TopStep,
+    ClimbStep, HierName, JoinStep, KeyItem, KeyList, Name, Path, Pipe, PipeList, Step, TopStep,
 };
 use apply_meaning::{Row, RunRefused, Steps, data_is_loaded, set_rows, skip_rows, top_rows};
 use edm_model::{NavId, TypeId};
@@ -71,9 +71,9 @@ fn level_ready<R: Threads + Sync, G: Gate>(
     context: &Context<'_, R, G>,
     root: &Option<TypeId>,
     pipe: &Pipe,
-    levels: &[Level],
+    levels: &[Level<'_>],
     i: usize,
-    level: &Level,
+    level: &Level<'_>,
     rows: &RowList<'_>,
 )
     requires within { i < length levels.now }
@@ -87,7 +87,7 @@ fn group_ready<R: Threads + Sync, G: Gate>(
     context: &Context<'_, R, G>,
     root: &Option<TypeId>,
     pipe: &Pipe,
-    level: &Level,
+    level: &Level<'_>,
     rows: &RowList<'_>,
     places: &[usize],
 )
@@ -356,7 +356,9 @@ pub fn run_grouping<R: Threads + Sync, G: Gate, L: Ledger>(
     data_is_loaded(context.store());
     match step {
         Step::GroupBy(keys, inner) => {
-            let levels = grouping_levels(alloc, context, keys, rows, steps)?;
+            let paths = all_paths(alloc, keys)?;
+            let paths = paths.as_slice();
+            let levels = grouping_levels(alloc, context, keys, paths, rows, steps)?;
             match inner {
                 Some(pipe) => {
                     let lists = first_lists(alloc, context, pipe, rows)?;
@@ -371,15 +373,17 @@ pub fn run_grouping<R: Threads + Sync, G: Gate, L: Ledger>(
     }
 }
 
-/// The levels of a grouping on a list, each with its groups.
+/// The levels of a grouping on a list, each with its groups. They borrow the paths of the keys.
 #[cycle(run)]
-fn grouping_levels<R: Threads + Sync, G: Gate, L: Ledger>(
+fn grouping_levels<'a, R: Threads + Sync, G: Gate, L: Ledger>(
     alloc: Global,
     context: &Context<'_, R, G>,
     keys: &KeyList,
+    paths: &'a [Path],
     rows: &RowList<'_>,
     steps: &mut Steps<L>,
-) -> Result<Vec<Level>, RunRefused>
+) -> Result<Vec<Level<'a>>, RunRefused>
+    requires all { paths.now ≡ key_paths (group_keys (keys_of keys.now)) }
     requires of { IsTrue (all_of context.now.world rows.now) }
     requires ready { KeysReady context.now (keys_of keys.now) }
     requires named { AreReady context.now (keys_hierarchies (keys_of keys.now)) }
@@ -394,11 +398,12 @@ fn grouping_levels<R: Threads + Sync, G: Gate, L: Ledger>(
             KeyItem::Rollup(..) => {}
             KeyItem::Recursive(hier, path, inner) => {
                 let shown = run_shown(alloc, context, hier, inner, steps)?;
-                return node_levels(alloc, context, keys, hier, path, shown.as_slice(), rows);
+                let shown = shown.as_slice();
+                return node_levels(alloc, context, keys, paths, hier, path, shown, rows);
             }
         }
     }
-    levels_of(alloc, context, keys, rows)
+    levels_of(alloc, context, keys, paths, rows)
 }
 
 /// The nodes that a recursive rollup shows: those that its pipeline gives from all nodes on, each once, or all nodes where there
@@ -444,7 +449,7 @@ fn run_levels<R: Threads + Sync, G: Gate, L: Ledger>(
     context: &Context<'_, R, G>,
     root: &Option<TypeId>,
     pipe: &Pipe,
-    levels: &[Level],
+    levels: &[Level<'_>],
     rows: &RowList<'_>,
     lists: &[ItemList],
     steps: &mut Steps<L>,
@@ -474,7 +479,7 @@ fn run_groups<R: Threads + Sync, G: Gate, L: Ledger>(
     context: &Context<'_, R, G>,
     root: &Option<TypeId>,
     pipe: &Pipe,
-    level: &Level,
+    level: &Level<'_>,
     rows: &RowList<'_>,
     lists: &[ItemList],
     steps: &mut Steps<L>,
@@ -503,7 +508,7 @@ fn run_group<R: Threads + Sync, G: Gate, L: Ledger>(
     context: &Context<'_, R, G>,
     root: &Option<TypeId>,
     pipe: &Pipe,
-    level: &Level,
+    level: &Level<'_>,
     k: usize,
     rows: &RowList<'_>,
     lists: &[ItemList],

@@ -16,55 +16,44 @@ use apply_ast::{HierName, KeyList, Path};
 use apply_meaning::RunRefused;
 use edm_data::Data;
 use edm_model::SetId;
-use hier_rows::{identifier, nodes_by_keys};
+use hier_rows::{identifier, nodes_of};
 use par_stages::Gate;
 use row_values::RowList;
 use std::alloc::{AllocError, Global};
 use std::thread::Threads;
 
-/// Copies of the paths, and of one more behind them.
-fn with_path(alloc: Global, paths: &[Path], last: &Path) -> Result<Vec<Path>, AllocError>
-    ensures { IfOk result (λ v. v.items ≡ paths.now ++ last.now ∷ []) }
-{
-    let mut all = Vec::with_capacity(alloc, paths.len())?;
-    for path in paths {
-        all.push(path.copy(alloc)?)?;
-    }
-    all.push(last.copy(alloc)?)?;
-    Ok(all)
-}
-
 /// One level for each node, with the groups of the rows at it or below it.
-fn levels_by_node(
+fn levels_by_node<'a>(
     alloc: Global,
     store: &Data,
     set: SetId,
-    plain: &[Path],
-    path: &Path,
+    paths: &'a [Path],
     rolled: Vec<(u32, Groups)>,
-) -> Result<Vec<Level>, AllocError>
+) -> Result<Vec<Level<'a>>, AllocError>
     requires { IsSet store.now.model set }
-    ensures { IfOk result (λ levels. (f : HierarchyPlace) → f.set ≡ set → levels.items ≡ map (node_level store.now f plain.now path.now) rolled.items) }
+    ensures { IfOk result (λ levels. (f : HierarchyPlace) → f.set ≡ set → levels.items ≡ map (node_level store.now f paths.now) rolled.items) }
 {
     let mut levels = Vec::with_capacity(alloc, rolled.len())?;
     for (node, groups) in rolled {
-        let paths = with_path(alloc, plain, path)?;
         let node = identifier(alloc, store, set, node)?;
         levels.push(Level::of_node(paths, groups, node))?;
     }
     Ok(levels)
 }
 
-/// The levels of a grouping with a recursive rollup: one for each node that is shown and that has rows at it or below it.
-pub(crate) fn node_levels<R: Threads + Sync, G: Gate>(
+/// The levels of a grouping with a recursive rollup: one for each node that is shown and that has rows at it or below it. They
+/// borrow the paths of the keys.
+pub(crate) fn node_levels<'a, R: Threads + Sync, G: Gate>(
     alloc: Global,
     context: &Context<'_, R, G>,
     keys: &KeyList,
+    paths: &'a [Path],
     hier: &HierName,
     path: &Path,
     shown: &[u32],
     rows: &RowList<'_>,
-) -> Result<Vec<Level>, RunRefused>
+) -> Result<Vec<Level<'a>>, RunRefused>
+    requires all { paths.now ≡ plain_paths (keys_of keys.now) ++ path.now ∷ [] }
     requires of { IsTrue (all_of context.now.world rows.now) }
     requires there { IsTrue (is_some (hierarchy_at context.now.world.model (hier_of hier.now))) }
     requires ready { IsReadyAt context.now.world context.now.hiers (hier_of hier.now) }
@@ -76,9 +65,8 @@ pub(crate) fn node_levels<R: Threads + Sync, G: Gate>(
     let plain = plain.as_slice();
     let found = context.nodes(hier);
     let store = context.store();
-    let own = context.path_values(alloc, path, rows)?;
-    let own = own.as_slice();
-    let nodes = nodes_by_keys(alloc, store, found.set, path, rows, own)?;
+    let (rt, workers) = (context.rt(), context.workers());
+    let nodes = nodes_of(rt, alloc, store, found.set, path, rows, workers)?;
     let lists = context.key_lists(alloc, plain, rows)?;
     let rolled = context.roll(
         alloc,
@@ -87,5 +75,5 @@ pub(crate) fn node_levels<R: Threads + Sync, G: Gate>(
         shown,
         lists.as_slice(),
     )?;
-    Ok(levels_by_node(alloc, store, found.set, plain, path, rolled)?)
+    Ok(levels_by_node(alloc, store, found.set, paths, rolled)?)
 }

@@ -1,9 +1,8 @@
 -- Tables of the key lists of rows: one row more, and the rows of a later table behind those of a table.
-use Rattle.std.proofs.Common.{◌≡◌, ℕ, ◌<◌, List, [], ◌∷◌, ◌++◌, length, map, get_or, sym, ap, ◌∙◌, arith, length-append}
-use Rattle.std.specs.Global.{Vec}
-use Rattle.std.proofs.lemmas.List.{get_or-map, map-append}
+use Rattle.std.proofs.Common.{◌≡◌, ℕ, ◌<◌, List, [], ◌∷◌, ◌++◌, length, map, get_or, sym, ap, ◌∙◌, arith, subst, length-append}
+use Rattle.std.proofs.lemmas.List.{get_or_read, map-append}
 use Rattle.edm_values.specs.declared.Value.{Value}
-use Rattle.aggregate_ops.specs.KeyTables.{TableState, IsTableOf, groups_of, placed_keys}
+use Rattle.aggregate_ops.specs.KeyTables.{TableState, ArePlacesOf}
 use Rattle.rollup_rec.specs.RowTables.{IsRowTableOf, RowTableState, keyed_rows}
 
 -- rows behind others
@@ -12,39 +11,29 @@ keyed_rows-append keys xs ys =
     ap (keyed_rows keys) (map-append (λ (x : ℕ × ℕ). x.0) xs ys)
     ∙ map-append (λ (r : ℕ). (get_or keys r [], r)) (map (λ (x : ℕ × ℕ). x.0) xs) (map (λ (x : ℕ × ℕ). x.0) ys)
 
-placed_keys-append : (us vs : List (Vec Value × ℕ)) → placed_keys (us ++ vs) ≡ placed_keys us ++ placed_keys vs
-placed_keys-append us vs = map-append (λ (x : Vec Value × ℕ). (x.0.items, x.1)) us vs
-
 -- one row more
-pub IsRowTableOf-next : (s : RowTableState) (table : TableState) (key : Vec Value) (row place : ℕ) (xs : List (ℕ × ℕ)) → row < length s.keys → key ≡ get_or s.keys row key
-    → ((us : List (Vec Value × ℕ)) → IsTableOf s.table us → IsTableOf table (us ++ (key, row) ∷ [])) → IsRowTableOf s xs → IsRowTableOf (record { keys = s.keys; table = table }) (xs ++ (row, place) ∷ [])
+pub IsRowTableOf-next : (s : RowTableState) (table : TableState) (key : List Value) (row place : ℕ) (xs : List (ℕ × ℕ)) → row < length s.keys → key ≡ get_or s.keys row key
+    → ((us : List (List Value × ℕ)) → ArePlacesOf s.table us → ArePlacesOf table (us ++ (key, row) ∷ [])) → IsRowTableOf s xs → IsRowTableOf (record { keys = s.keys; table = table }) (xs ++ (row, place) ∷ [])
 IsRowTableOf-next s table key row place xs there is added h =
-    let lists : List (List Value) = map (λ (k : Vec Value). k.items) s.keys in
-    let both : IsTableOf table (h.keyed ++ (key, row) ∷ []) = added h.keyed h.table_is in
-    let at : key.items ≡ get_or lists row [] = ap (λ (k : Vec Value). k.items) is ∙ sym (get_or-map (λ (k : Vec Value). k.items) s.keys row key [] there) in
+    let rows : List (List Value × ℕ) = keyed_rows s.keys (map (λ (x : ℕ × ℕ). x.0) xs) in
+    let both : ArePlacesOf table (rows ++ (key, row) ∷ []) = added rows h.table_is in
+    let at : key ≡ get_or s.keys row [] = get_or_read s.keys row key there is [] in
+    let own : rows ++ (key, row) ∷ [] ≡ keyed_rows s.keys (map (λ (x : ℕ × ℕ). x.0) (xs ++ (row, place) ∷ [])) = ap (λ k. rows ++ (k, row) ∷ []) at ∙ sym (keyed_rows-append s.keys xs ((row, place) ∷ [])) in
     record {
-      count_is = omega (arith, length-append xs ((row, place) ∷ []), length-append h.keyed ((key, row) ∷ []), h.count_is, h.table_is.count_is, both.count_is);
-      keyed = h.keyed ++ (key, row) ∷ [];
-      are = placed_keys-append h.keyed ((key, row) ∷ []) ∙ (λ i. h.are i ++ (at i, row) ∷ []) ∙ sym (keyed_rows-append lists xs ((row, place) ∷ []));
-      table_is = both;
+      count_is = omega (arith, length-append xs ((row, place) ∷ []), length-append rows ((key, row) ∷ []), h.count_is, h.table_is.count_is, both.count_is);
+      table_is = subst (ArePlacesOf table) own both;
     }
 
 -- a later table was added to a table
 pub IsRowTableOf-append : (s t : RowTableState) (table : TableState) (xs ys : List (ℕ × ℕ)) → t.keys ≡ s.keys
-    → ((us vs : List (Vec Value × ℕ)) → IsTableOf s.table us → IsTableOf t.table vs → IsTableOf table (us ++ vs)) → IsRowTableOf s xs → IsRowTableOf t ys
+    → ((us vs : List (List Value × ℕ)) → ArePlacesOf s.table us → ArePlacesOf t.table vs → ArePlacesOf table (us ++ vs)) → IsRowTableOf s xs → IsRowTableOf t ys
     → IsRowTableOf (record { keys = s.keys; table = table }) (xs ++ ys)
 IsRowTableOf-append s t table xs ys same merged h k =
-    let lists : List (List Value) = map (λ (k : Vec Value). k.items) s.keys in
-    let both : IsTableOf table (h.keyed ++ k.keyed) = merged h.keyed k.keyed h.table_is k.table_is in
-    let later : placed_keys k.keyed ≡ keyed_rows lists (map (λ (x : ℕ × ℕ). x.0) ys) = k.are ∙ ap (λ keys. keyed_rows (map (λ (k : Vec Value). k.items) keys) (map (λ (x : ℕ × ℕ). x.0) ys)) same in
+    let rows : List (List Value × ℕ) = keyed_rows s.keys (map (λ (x : ℕ × ℕ). x.0) xs) in
+    let later : List (List Value × ℕ) = keyed_rows t.keys (map (λ (x : ℕ × ℕ). x.0) ys) in
+    let both : ArePlacesOf table (rows ++ later) = merged rows later h.table_is k.table_is in
+    let own : rows ++ later ≡ keyed_rows s.keys (map (λ (x : ℕ × ℕ). x.0) (xs ++ ys)) = ap (λ keys. rows ++ keyed_rows keys (map (λ (x : ℕ × ℕ). x.0) ys)) same ∙ sym (keyed_rows-append s.keys xs ys) in
     record {
-      count_is = omega (arith, length-append xs ys, length-append h.keyed k.keyed, h.count_is, k.count_is, h.table_is.count_is, k.table_is.count_is, both.count_is);
-      keyed = h.keyed ++ k.keyed;
-      are = placed_keys-append h.keyed k.keyed ∙ (λ i. h.are i ++ later i) ∙ sym (keyed_rows-append lists xs ys);
-      table_is = both;
+      count_is = omega (arith, length-append xs ys, length-append rows later, h.count_is, k.count_is, h.table_is.count_is, k.table_is.count_is, both.count_is);
+      table_is = subst (ArePlacesOf table) own both;
     }
-
--- the groups that a table gives
-pub groups-of_table : (s : RowTableState) (groups : List (List Value × List ℕ)) → ((ks : List (Vec Value × ℕ)) → IsTableOf s.table ks → groups ≡ groups_of (placed_keys ks)) → (xs : List (ℕ × ℕ)) → IsRowTableOf s xs
-    → groups ≡ groups_of (keyed_rows (map (λ (k : Vec Value). k.items) s.keys) (map (λ (x : ℕ × ℕ). x.0) xs))
-groups-of_table s groups given xs h = given h.keyed h.table_is ∙ ap groups_of h.are

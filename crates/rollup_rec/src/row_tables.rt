@@ -1,12 +1,10 @@
 //! Tables of the key lists of rows that are told by their places.
 ghost use Rattle.std.specs.Prelude.{◌≡◌, ℕ, ◌<◌, List, [], All, IfOk, length, map};
-ghost use Rattle.std.specs.Global.{Vec as Vec'};
 ghost use Rattle.edm_values.specs.declared.Value.{Value as Value'};
-ghost use Rattle.aggregate_ops.specs.KeyTables.{IsTableOf, groups_of};
+ghost use Rattle.aggregate_ops.specs.KeyTables.{ArePlacesOf, groups_of};
 ghost use Rattle.rollup_rec.specs.RowTables.{IsRowTableOf, keyed_rows};
 
-use aggregate_ops::{Groups, KeyTable};
-use edm_values::Value;
+use aggregate_ops::{Groups, HashedKey, KeyPlaces};
 use par_stages::Partial;
 use std::alloc::AllocError;
 use std::marker::Model;
@@ -14,8 +12,8 @@ use std::marker::Model;
 /// A table of the key lists of some rows. The rows are told by their places in the list of all key lists.
 #[derive(Drop)]
 pub(crate) struct RowTable<'a> {
-    keys: &'a [Vec<Value>],
-    table: KeyTable,
+    keys: &'a [HashedKey<'a, 'a>],
+    table: KeyPlaces<'a, 'a>,
 }
 
 impl<'a> Model for RowTable<'a> {
@@ -28,10 +26,10 @@ impl<'a> Model for RowTable<'a> {
 
 impl<'a> RowTable<'a> {
     /// A table without rows.
-    pub(crate) fn new(keys: &'a [Vec<Value>], table: KeyTable) -> RowTable<'a>
-        requires { IsTableOf table [] }
+    pub(crate) fn new(keys: &'a [HashedKey<'a, 'a>], table: KeyPlaces<'a, 'a>) -> RowTable<'a>
+        requires { ArePlacesOf table [] }
         ensures keys { result.keys ≡ keys.now }
-        ensures table { result.table ≡ table }
+        ensures table { result.table ≡ table.entry }
         ensures empty { IsRowTableOf result [] }
     {
         RowTable { keys, table }
@@ -39,22 +37,22 @@ impl<'a> RowTable<'a> {
 
     /// The groups of the rows by their key lists. The table is given up, and its keys and places are moved.
     pub(crate) fn into_groups(self) -> Result<Groups, AllocError>
-        ensures { IfOk result (λ g. (xs : List (ℕ × ℕ)) → IsRowTableOf self.entry xs → g ≡ groups_of (keyed_rows (map (λ k. k.items) self.entry.keys) (map (λ x. x.0) xs))) }
+        ensures { IfOk result (λ g. (xs : List (ℕ × ℕ)) → IsRowTableOf self.entry xs → g ≡ groups_of (keyed_rows self.entry.keys (map (λ x. x.0) xs))) }
     {
         self.table.into_groups()
     }
 }
 
 impl<'a> Partial for RowTable<'a> {
-    ghost use Rattle.aggregate_ops.specs.KeyTables.{HasWidth};
+    ghost use Rattle.aggregate_ops.specs.KeyTables.{IsWide};
 
     type Item = usize;
 
-    ghost Kind = { ℕ × List (Vec' Value') };
+    ghost Kind = { ℕ × List (List Value') };
 
     ghost kind = { λ t. (t.table.width, t.keys) };
 
-    ghost takes = { λ k row. (row < length k.1) × All (HasWidth k.0) k.1 };
+    ghost takes = { λ k row. (row < length k.1) × All (IsWide k.0) k.1 };
 
     ghost count = { λ t. t.table.count };
 

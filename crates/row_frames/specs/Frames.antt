@@ -1,5 +1,5 @@
 -- Frames: lists of instances that are kept by columns.
-use Rattle.std.specs.Prelude.{◌≡◌, ℕ, List, Option, Some, None, get_or, map, slice_get, unwrap_or}
+use Rattle.std.specs.Prelude.{◌≡◌, ◌<◌, ℕ, Bool, IsTrue, List, Option, Some, None, get_or, length, map, slice_get, unwrap_or}
 use Rattle.std.specs.declared.result.Result as result
 use Rattle.std.specs.Arc.{arc_value}
 use Rattle.std.specs.Global.{Vec}
@@ -13,8 +13,9 @@ use Rattle.edm_data.specs.Worlds.{World, Entity, entity_at}
 use Rattle.apply_ast.specs.declared.expressions.UnOp.TheVariants as UnOp
 use Rattle.apply_ast.specs.Trees.{Expr}
 use Rattle.apply_meaning.specs.Instances.{Instance, no_instance, lookup, val, binary, call1, call2}
-use Rattle.apply_meaning.specs.Meaning.{Outcome, key_list}
-use Rattle.apply_meaning.specs.RowViews.{row_instance, IsRow}
+use Rattle.apply_meaning.specs.Meaning.{Outcome}
+use Rattle.apply_meaning.specs.RowViews.{is_of, row_instance, IsRow}
+use Rattle.row_frames.specs.Answers.{answer_of}
 use Rattle.row_frames.specs.Hops.{property_in, reached}
 use Rattle.row_frames.specs.declared.tables.Roots.{Roots}
 use Rattle.row_frames.specs.declared.tables.Roots.TheVariants as roots
@@ -25,7 +26,6 @@ use Rattle.row_frames.specs.declared.tables.Pick.{Pick}
 use Rattle.row_frames.specs.declared.readers.Bound as of_bound
 use Rattle.row_frames.specs.declared.readers.Bound.TheVariants as bound
 use Rattle.row_frames.specs.declared.readers.TableReader.{TableReader}
-use Rattle.row_frames.specs.declared.keys.KeyReader.{KeyReader}
 
 -- the place of a row's entity in its set
 abbrev pub place_in : Roots → ℕ → ℕ
@@ -108,8 +108,9 @@ bound_value w t k (bound.Call2' f p a q b) = call2 f (bound_value w t k a) (boun
 abbrev pub IsBound : World → Table → Expr → of_bound.Bound → Type 0
 IsBound w t e b = (k : ℕ) → val w (instance_at t k) e ≡ bound_value w t k b
 
--- the reader's expression is bound to its table
+-- the reader is over the world, and its expression is bound to its table
 pub record IsReaderOf (w : World) (e : Expr) (r : TableReader) : Type 0 where
+  pub world : r.store.now ≡ w
   pub values : IsBound w r.table.now e r.bound
 
 -- an expression that is bound to each of the tables
@@ -117,18 +118,34 @@ pub record IsReader (w : World) (ts : List Table) (e : Expr) (rs : List TableRea
   pub tables : map (λ r. r.table.now) rs ≡ ts
   pub bound : All (IsReaderOf w e) rs
 
--- the bound paths have the values of the key paths in each row of the table
-abbrev pub AreBound : World → Table → List Path → List of_bound.Bound → Type 0
-AreBound w t ps bs = (k : ℕ) → key_list w ps (instance_at t k) ≡ map (bound_value w t k) bs
+-- ---- what readers read
 
--- the reader's paths are bound to its table
-pub record IsKeyReaderOf (w : World) (ps : List Path) (r : KeyReader) : Type 0 where
-  pub keys : AreBound w r.table.now ps r.keys.items
+-- the value of what is bound to a table, in a row of it
+abbrev pub read_in : Option TableReader → ℕ → Value
+read_in None k = Value.Null
+read_in (Some r) k = bound_value r.store.now r.table.now k r.bound
 
--- key paths that are bound to each of the tables
-pub record AreKeyReaders (w : World) (ts : List Table) (ps : List Path) (rs : List KeyReader) : Type 0 where
-  pub tables : map (λ r. r.table.now) rs ≡ ts
-  pub bound : All (IsKeyReaderOf w ps) rs
+-- the value in the row that is picked
+abbrev pub read_at : List TableReader → Pick → Value
+read_at rs x = read_in (slice_get rs x.table) x.row
+
+-- a row of the reader's table is one of its world
+pub record CanRead (r : TableReader) (k : ℕ) : Type 0 where
+  pub row : IsRow (prefixes_at r.table.now k) (columns_at r.table.now k)
+  pub of : IsTrue (is_of r.store.now (instance_at r.table.now k))
+
+-- the row that is picked is of a table that is read
+pub record IsReadable (rs : List TableReader) (x : Pick) : Type 0 where
+  pub within : x.table < length rs
+  pub read : (d : TableReader) → CanRead (get_or rs x.table d) x.row
+
+-- these are the values in the rows that are picked
+pub record AreRead (rs : List TableReader) (xs : List Pick) (vs : List Value) : Type 0 where
+  pub read : vs ≡ map (read_at rs) xs
+
+-- and these say whether they are true
+pub record AreAnswers (rs : List TableReader) (xs : List Pick) (bs : List (Option Bool)) : Type 0 where
+  pub answers : bs ≡ map (λ x. answer_of (read_at rs x)) xs
 
 -- a row of the first table
 abbrev pub first_pick : ℕ → Pick

@@ -10,41 +10,48 @@ ghost use Rattle.row_frames.specs.Frames as spec;
 ghost use Rattle.row_frames.specs.Gathered.{AreComputed, AreInOrder, IsComputed, IsGathered, at_row as spec_at_row, in_order as ordered};
 
 use crate::gathered::{gathered, widened};
-use crate::picks::values_of;
 use crate::tables::{Column, Pick, Table};
+use crate::values::values_of;
 use apply_ast::Named;
 use apply_meaning::path_of;
 use edm_data::Data;
 use std::alloc::{AllocError, Global};
 use std::sync::Arc;
+use std::thread::Threads;
 
-/// The new column of an item, with its value in each row that is picked.
-fn new_column(
+/// The new column of an item, with its value in each row that is picked. The picks may be cut into so many parts, each for a thread
+/// of its own.
+fn new_column<R: Threads + Sync>(
+    rt: &R,
     alloc: Global,
     store: &Data,
     tables: &[Table],
     item: &Named,
     picks: &[Pick],
+    workers: u32,
 ) -> Result<Column, AllocError>
     requires tables { All spec.IsTable tables.now }
     requires within { All (λ x. x.table < length tables.now) picks.now }
     requires of { IsTrue (all_of store.now (spec.all_picked tables.now picks.now)) }
     ensures { IfOk result (λ c. spec.listed c ≡ (item.now.name ∷ [], values store.now (expr_of item.now.expr) (spec.all_picked tables.now picks.now))) }
 {
-    let values = values_of(alloc, store, tables, &item.expr, picks)?;
+    let values = values_of(rt, alloc, store, tables, &item.expr, picks, workers)?;
     Ok(Column {
         path: path_of(alloc, &item.name)?.copy(alloc)?,
         values: Arc::new(alloc, values)?,
     })
 }
 
-/// The new columns, each with its value in each row that is picked.
-pub(crate) fn new_columns(
+/// The new columns, each with its value in each row that is picked. The picks may be cut into so many parts, each for a thread of
+/// its own.
+pub(crate) fn new_columns<R: Threads + Sync>(
+    rt: &R,
     alloc: Global,
     store: &Data,
     tables: &[Table],
     items: &[Named],
     picks: &[Pick],
+    workers: u32,
 ) -> Result<Vec<Column>, AllocError>
     requires tables { All spec.IsTable tables.now }
     requires within { All (λ x. x.table < length tables.now) picks.now }
@@ -53,7 +60,7 @@ pub(crate) fn new_columns(
 {
     let mut columns = Vec::with_capacity(alloc, items.len())?;
     for item in items {
-        columns.push(new_column(alloc, store, tables, item, picks)?)?;
+        columns.push(new_column(rt, alloc, store, tables, item, picks, workers)?)?;
     }
     Ok(columns)
 }

@@ -1,30 +1,36 @@
 //! Frames: lists of instances that are kept by columns.
-ghost use Rattle.std.specs.Prelude.{◌≡◌, ◌+◌, ◌≤◌, ◌<◌, ℕ, List, IsTrue, IfOk, true, filter, get_or, length, map, nat_lt, take, drop};
+ghost use Rattle.std.specs.Prelude.{◌≡◌, ◌+◌, ◌≤◌, ◌<◌, ◌++◌, [], ℕ, List, IsTrue, IfOk, true, filter, get_or, length, map, nat_lt, take, drop};
 ghost use Rattle.std.specs.List.{All, list_all};
 ghost use Rattle.edm_values.specs.Lists.{at_places};
-ghost use Rattle.edm_values.specs.Values.{is_value};
+ghost use Rattle.edm_values.specs.Values.{is_value, seen_value};
 ghost use Rattle.apply_ast.specs.Views.{expr_of, named_of};
 ghost use Rattle.apply_meaning.specs.Instances as meaning;
 ghost use Rattle.apply_meaning.specs.Instances.{extended, no_instance, root_of, val};
 ghost use Rattle.apply_meaning.specs.Meaning.{key_list, values, refused_at_beyond};
 ghost use Rattle.apply_meaning.specs.Running.{all_free, all_of, new_columns as columns_of};
 ghost use Rattle.row_frames.specs.Frames as spec;
+ghost use Rattle.row_frames.specs.Keys.{key_columns, seen_columns};
 
 use crate::chosen::picks_at;
 use crate::computed::{computed_tables, new_columns, rows_in_order};
-use crate::picks::{
-    first_picks, kept_picks, key_lists_of, later_picks, picked_rows, set_picks, values_of,
+use crate::joined::{copied_picks, joined_picks, joined_tables, shared_tables};
+use crate::kept::kept_picks;
+use crate::keys::{key_columns_of, key_lists_of};
+use crate::picks::{first_picks, later_picks, picked_rows, set_picks};
+use crate::placed::{
+    placed_columns, placed_keys, placed_root, placed_row, placed_rows, placed_values,
 };
-use crate::placed::{placed_keys, placed_root, placed_row, placed_rows, placed_values};
 use crate::tables::{Pick, Table, one_table, set_table};
+use crate::values::{seen_of, values_of};
 use apply_ast::{Expr, Named, Path};
 use apply_meaning::{Row, RunRefused, Steps};
 use edm_data::{Data, EntityRef};
 use edm_model::SetId;
-use edm_values::Value;
+use edm_values::{Seen, Value};
 use std::alloc::{AllocError, Global};
 use std::marker::Model;
 use std::sync::ledger::Ledger;
+use std::thread::Threads;
 
 /// A list of instances: tables, and the rows of these that are picked, in their order.
 #[derive(Debug, Drop)]
@@ -70,18 +76,39 @@ impl Frame {
         picked_rows(alloc, tables.as_slice(), picks.as_slice(), steps)
     }
 
-    /// The values of an expression on the instances.
-    pub fn values(&self, alloc: Global, store: &Data, e: &Expr) -> Result<Vec<Value>, AllocError>
+    /// The values of an expression on the instances. These may be cut into so many parts, each for a thread of its own.
+    pub fn values<R: Threads + Sync>(
+        &self,
+        rt: &R,
+        alloc: Global,
+        store: &Data,
+        e: &Expr,
+        workers: u32,
+    ) -> Result<Vec<Value>, AllocError>
+        requires some { 0 < workers }
         requires of { IsTrue (all_of store.now self.now) }
         ensures value { IfOk result (λ vs. vs.items ≡ values store.now (expr_of e.now) self.now) }
     {
-        values_of(
-            alloc,
-            store,
-            self.tables.as_slice(),
-            e,
-            self.picks.as_slice(),
-        )
+        let tables = self.tables.as_slice();
+        values_of(rt, alloc, store, tables, e, self.picks.as_slice(), workers)
+    }
+
+    /// The values of an expression on the instances, which borrow their texts. The instances may be cut into so many parts, each
+    /// for a thread of its own.
+    pub fn seen_values<'s, R: Threads + Sync>(
+        &'s self,
+        rt: &R,
+        alloc: Global,
+        store: &'s Data,
+        e: &'s Expr,
+        workers: u32,
+    ) -> Result<Vec<Seen<'s>>, AllocError>
+        requires some { 0 < workers }
+        requires of { IsTrue (all_of store.now self.now) }
+        ensures value { IfOk result (λ vs. map (λ v. seen_value v) vs.items ≡ values store.now (expr_of e.now) self.now) }
+    {
+        let tables = self.tables.as_slice();
+        seen_of(rt, alloc, store, tables, e, self.picks.as_slice(), workers)
     }
 
     /// The values of an expression on the instances at these places.
@@ -100,18 +127,57 @@ impl Frame {
         placed_values(alloc, store, tables, e, self.picks.as_slice(), places)
     }
 
-    /// The key list of each instance by the paths.
-    pub fn key_lists(
+    /// The values of the paths on the instances, which borrow their texts: a list for each path. The instances may be cut into so
+    /// many parts, each for a thread of its own.
+    pub fn key_columns<'s, R: Threads + Sync>(
+        &'s self,
+        rt: &R,
+        alloc: Global,
+        store: &'s Data,
+        paths: &'s [Path],
+        workers: u32,
+    ) -> Result<Vec<Vec<Seen<'s>>>, AllocError>
+        requires some { 0 < workers }
+        requires of { IsTrue (all_of store.now self.now) }
+        ensures value { IfOk result (λ cs. seen_columns cs.items ≡ key_columns store.now paths.now self.now) }
+    {
+        let tables = self.tables.as_slice();
+        let picks = self.picks.as_slice();
+        key_columns_of(rt, alloc, store, tables, paths, picks, workers)
+    }
+
+    /// The values of the paths on the instances at these places, which borrow their texts: a list for each path.
+    pub fn key_columns_at<'s>(
+        &'s self,
+        alloc: Global,
+        store: &'s Data,
+        paths: &'s [Path],
+        places: &[usize],
+    ) -> Result<Vec<Vec<Seen<'s>>>, AllocError>
+        requires of { IsTrue (all_of store.now (at_places self.now places.now)) }
+        requires within { IsTrue (list_all (λ k. nat_lt k (length self.now)) places.now) }
+        ensures value { IfOk result (λ cs. seen_columns cs.items ≡ key_columns store.now paths.now (at_places self.now places.now)) }
+    {
+        let tables = self.tables.as_slice();
+        placed_columns(alloc, store, tables, paths, self.picks.as_slice(), places)
+    }
+
+    /// The key list of each instance by the paths. The instances may be cut into so many parts, each for a thread of its own.
+    pub fn key_lists<R: Threads + Sync>(
         &self,
+        rt: &R,
         alloc: Global,
         store: &Data,
         paths: &[Path],
+        workers: u32,
     ) -> Result<Vec<Vec<Value>>, AllocError>
+        requires some { 0 < workers }
         requires of { IsTrue (all_of store.now self.now) }
         ensures value { IfOk result (λ lists. map (λ k. k.items) lists.items ≡ map (key_list store.now paths.now) self.now) }
     {
         let tables = self.tables.as_slice();
-        key_lists_of(alloc, store, tables, paths, self.picks.as_slice())
+        let picks = self.picks.as_slice();
+        key_lists_of(rt, alloc, store, tables, paths, picks, workers)
     }
 
     /// The key lists of the instances at these places.
@@ -170,25 +236,44 @@ impl Frame {
         placed_root(self.tables.as_slice(), self.picks.as_slice(), k)
     }
 
-    /// The instances on which the expression is true. No row is made or moved.
-    pub fn filter(self, alloc: Global, store: &Data, e: &Expr) -> Result<Frame, RunRefused>
+    /// The instances on which the expression is true. No row is made or moved. The instances may be cut into so many parts, each for
+    /// a thread of its own.
+    pub fn filter<R: Threads + Sync>(
+        self,
+        rt: &R,
+        alloc: Global,
+        store: &Data,
+        e: &Expr,
+        workers: u32,
+    ) -> Result<Frame, RunRefused>
+        requires some { 0 < workers }
         requires of { IsTrue (all_of store.now self) }
         ensures value { spec.GivesFrame result (refused_at_beyond (values store.now (expr_of e.now) self) (filter (λ i. is_value true (val store.now i (expr_of e.now))) self)) }
     {
         let Frame { tables, picks } = self;
-        let picks = kept_picks(alloc, store, tables.as_slice(), e, picks.as_slice())?;
+        let own = tables.as_slice();
+        let picks = kept_picks(rt, alloc, store, own, e, picks.as_slice(), workers)?;
         Ok(Frame { tables, picks })
     }
 
     /// Each instance with the new columns of these items. A list of values that was there is not copied where all rows of a table are
-    /// picked in their order.
-    pub fn compute(self, alloc: Global, store: &Data, items: &[Named]) -> Result<Frame, AllocError>
+    /// picked in their order. The instances may be cut into so many parts, each for a thread of its own, which works out values.
+    pub fn compute<R: Threads + Sync>(
+        self,
+        rt: &R,
+        alloc: Global,
+        store: &Data,
+        items: &[Named],
+        workers: u32,
+    ) -> Result<Frame, AllocError>
+        requires some { 0 < workers }
         requires of { IsTrue (all_of store.now self) }
         requires free { IsTrue (all_free store.now (map named_of items.now) self) }
         ensures value { let ns = map named_of items.now in IfOk result (λ f. f ≡ map (λ i. extended i (columns_of store.now ns i)) self) }
     {
         let Frame { tables, picks } = self;
-        let columns = new_columns(alloc, store, tables.as_slice(), items, picks.as_slice())?;
+        let own = tables.as_slice();
+        let columns = new_columns(rt, alloc, store, own, items, picks.as_slice(), workers)?;
         let (tables, picks) = rows_in_order(alloc, tables, picks)?;
         let tables = computed_tables(alloc, tables, picks.as_slice(), columns.as_slice())?;
         Ok(Frame { tables, picks })
@@ -227,5 +312,47 @@ impl Frame {
         ensures value { result ≡ length self.now }
     {
         self.picks.len()
+    }
+}
+
+impl Frame {
+    /// No instances. No memory is taken.
+    pub fn none(alloc: Global) -> Frame
+        ensures value { result ≡ [] }
+    {
+        Frame {
+            tables: Vec::new(alloc),
+            picks: Vec::new(alloc),
+        }
+    }
+
+    /// The same instances. No row is made, and no list of a table is copied.
+    pub fn copy(&self, alloc: Global) -> Result<Frame, AllocError>
+        ensures value { IfOk result (λ f. f ≡ self.now) }
+    {
+        let tables = shared_tables(alloc, self.tables.as_slice())?;
+        let picks = copied_picks(alloc, self.picks.as_slice())?;
+        Ok(Frame { tables, picks })
+    }
+
+    /// In how many tables the instances stand. Only `append` makes them more, and no answer depends on it: it tells whoever puts
+    /// frames behind one another again and again when rows would take less memory than the tables.
+    pub fn table_count(&self) -> usize {
+        self.tables.len()
+    }
+
+    /// The instances of both, one list behind the other, in the tables of both. No row is made. An error also where there would be
+    /// more than 2^32 tables.
+    pub fn append(self, other: Frame) -> Result<Frame, AllocError>
+        ensures value { IfOk result (λ f. f ≡ self ++ other) }
+    {
+        let Frame { tables, picks } = self;
+        let Frame {
+            tables: more,
+            picks: others,
+        } = other;
+        let picks = joined_picks(tables.as_slice().len(), picks, others.as_slice())?;
+        let tables = joined_tables(tables, more)?;
+        Ok(Frame { tables, picks })
     }
 }

@@ -20,7 +20,7 @@ fn shared_column(alloc: Global, column: &Column) -> Result<Column, AllocError>
 }
 
 /// The columns, and then others with the same lists.
-fn with_columns(
+pub(crate) fn with_columns(
     alloc: Global,
     columns: Vec<Column>,
     others: &[Column],

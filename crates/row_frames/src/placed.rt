@@ -7,13 +7,16 @@ ghost use Rattle.apply_meaning.specs.Instances.{no_instance, root_of};
 ghost use Rattle.apply_meaning.specs.Meaning.{key_list, values};
 ghost use Rattle.apply_meaning.specs.Running.{all_of};
 ghost use Rattle.row_frames.specs.Frames as spec;
+ghost use Rattle.row_frames.specs.Keys.{key_columns, seen_columns};
 
-use crate::picks::{key_lists_of, picked_root, picked_row, picked_rows, values_of};
+use crate::keys::{columns_in_turn, lists_in_turn};
+use crate::picks::{picked_root, picked_row, picked_rows};
 use crate::tables::{Pick, Table};
+use crate::values::values_alone;
 use apply_ast::{Expr, Path};
 use apply_meaning::{Row, Steps};
 use edm_data::{Data, EntityRef};
-use edm_values::Value;
+use edm_values::{Seen, Value};
 use std::alloc::{AllocError, Global};
 use std::sync::ledger::Ledger;
 
@@ -61,7 +64,26 @@ pub(crate) fn placed_values<'a>(
     ensures { IfOk result (λ vs. vs.items ≡ values store.now (expr_of e.now) (at_places (spec.all_picked tables.now picks.now) places.now)) }
 {
     let found = placed_picks(alloc, tables, picks, places)?;
-    values_of(alloc, store, tables, e, found.as_slice())
+    values_alone(alloc, store, tables, e, found.as_slice())
+}
+
+/// The values of key paths in the rows at these places, a list for each path.
+pub(crate) fn placed_columns<'a>(
+    alloc: Global,
+    store: &'a Data,
+    tables: &'a [Table],
+    paths: &'a [Path],
+    picks: &[Pick],
+    places: &[usize],
+) -> Result<Vec<Vec<Seen<'a>>>, AllocError>
+    requires tables { All spec.IsTable tables.now }
+    requires within { All (λ x. x.table < length tables.now) picks.now }
+    requires of { IsTrue (all_of store.now (at_places (spec.all_picked tables.now picks.now) places.now)) }
+    requires there { IsTrue (list_all (λ k. nat_lt k (length (spec.all_picked tables.now picks.now))) places.now) }
+    ensures { IfOk result (λ cs. seen_columns cs.items ≡ key_columns store.now paths.now (at_places (spec.all_picked tables.now picks.now) places.now)) }
+{
+    let found = placed_picks(alloc, tables, picks, places)?;
+    columns_in_turn(alloc, store, tables, paths, found.as_slice())
 }
 
 /// The key lists of the rows at these places.
@@ -80,7 +102,7 @@ pub(crate) fn placed_keys<'a>(
     ensures { IfOk result (λ lists. map (λ k. k.items) lists.items ≡ map (key_list store.now paths.now) (at_places (spec.all_picked tables.now picks.now) places.now)) }
 {
     let found = placed_picks(alloc, tables, picks, places)?;
-    key_lists_of(alloc, store, tables, paths, found.as_slice())
+    lists_in_turn(alloc, store, tables, paths, found.as_slice())
 }
 
 /// The rows at these places: one step each.

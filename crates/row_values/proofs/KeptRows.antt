@@ -8,7 +8,8 @@ use Rattle.edm_values.specs.declared.Value.{Value}
 use Rattle.edm_values.specs.Values.{is_beyond, is_value}
 use Rattle.apply_meaning.specs.Instances.{Instance}
 use Rattle.apply_meaning.specs.Meaning.{refused_at_beyond}
-use Rattle.row_values.specs.Answers.{answer_of, kept_by}
+use Rattle.row_frames.specs.Answers.{answer_of}
+use Rattle.row_values.specs.Answers.{kept_by}
 
 -- the answers of values keep the instances on which these are true
 pub kept-filtered : (value : Instance → Value) (l : List Instance) → kept_by (map (λ i. answer_of (value i)) l) l ≡ refused_at_beyond (map value l) (filter (λ i. is_value true (value i)) l)

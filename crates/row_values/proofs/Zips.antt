@@ -17,3 +17,10 @@ zipped-shown E h f [] [] p = refl
 zipped-shown E h f [] (v ∷ vs) p = absurd p
 zipped-shown E h f (x ∷ xs) [] p = absurd p
 zipped-shown E h f (x ∷ xs) (v ∷ vs) p = λ i. p.0 i ∷ zipped-shown E h f xs vs p.1 i
+
+-- what is seen of results, each by one function of the elements
+pub zipped-seen : {X T Y : Type 0} (h : T → Y) (f : X → Y) (xs : List X) (vs : List T) → AllZip (λ x v. h v ≡ f x) xs vs → map h vs ≡ map f xs
+zipped-seen h f [] [] p = refl
+zipped-seen h f [] (v ∷ vs) p = absurd p
+zipped-seen h f (x ∷ xs) [] p = absurd p
+zipped-seen h f (x ∷ xs) (v ∷ vs) p = λ i. p.0 i ∷ zipped-seen h f xs vs p.1 i

@@ -4,3 +4,4 @@ pub use Rattle.apply_meaning.specs.Running
 pub mod Answers
 pub mod Placed
 pub mod Columns
+pub mod Readers

@@ -6,7 +6,8 @@ ghost use Rattle.apply_meaning.specs.Instances.{val};
 ghost use Rattle.apply_meaning.specs.Meaning.{values, refused_at_beyond};
 ghost use Rattle.apply_meaning.specs.RowViews.{is_of};
 ghost use Rattle.apply_meaning.specs.Running.{Gives, all_of};
-ghost use Rattle.row_values.specs.Answers.{answer_of, kept_by};
+ghost use Rattle.row_frames.specs.Answers.{answer_of};
+ghost use Rattle.row_values.specs.Answers.{kept_by};
 
 use crate::parts::{is_one_part, part_len};
 use apply_ast::Expr;

@@ -2,10 +2,10 @@
 //!
 //! `values_of` has the values of an expression on rows, `key_lists` those of key paths; `filter_rows` keeps the rows on which an
 //! expression is true, and `compute_rows` extends rows by new columns. `RowList` is a list of instances that is read where it
-//! stands, rows or a frame, and `PlacedRows` those of a list that are told by their places, each with the values on them: no row
-//! is copied or made, but those that `RowList::members` is asked for. The rows are cut into at most as many parts as there are
-//! workers, by `rayon`, and few rows are not cut at all. Threads read the data, the rows and the expression, and write nothing
-//! that is shared. Rows are moved and made by the thread that called.
+//! stands, rows or a frame, and `PlacedRows` those of a list that are told by their places, each with the values on them, owned or
+//! borrowed (`seen`): no row is copied or made, but those that `RowList::members` is asked for. The rows are cut into at most as
+//! many parts as there are workers, by `rayon`, and few rows are not cut at all. Threads read the data, the rows and the
+//! expression, and write nothing that is shared. Rows are moved and made by the thread that called.
 //!
 //! The crate stands on `row_frames` for frames, on `apply_meaning` for rows and the values of expressions on them, on `apply_ast`
 //! for expressions and paths, and on `edm_data` for the data.
@@ -19,6 +19,7 @@ mod keys;
 mod lists;
 mod parts;
 mod placed;
+mod seen;
 mod values;
 
 pub use computes::compute_rows;

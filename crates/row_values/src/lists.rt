@@ -2,18 +2,21 @@
 ghost use Rattle.std.specs.Prelude.{◌≡◌, ◌+◌, ◌≤◌, ◌<◌, IfOk, IsTrue, get_or, length, map, nat_lt};
 ghost use Rattle.std.specs.List.{list_all};
 ghost use Rattle.edm_values.specs.Lists.{at_places};
+ghost use Rattle.edm_values.specs.Values.{seen_value};
 ghost use Rattle.apply_ast.specs.Views.{expr_of};
 ghost use Rattle.apply_meaning.specs.Instances.{no_instance, root_of};
 ghost use Rattle.apply_meaning.specs.Meaning as spec;
 ghost use Rattle.apply_meaning.specs.Meaning.{values};
 ghost use Rattle.apply_meaning.specs.Running.{all_of};
+ghost use Rattle.row_frames.specs.Keys.{key_column, key_columns, seen_columns};
 
 use crate::keys::{key_list, key_lists};
+use crate::seen::{key_columns_of, seen_of};
 use crate::values::{value_on, values_of};
 use apply_ast::{Expr, Path};
-use apply_meaning::{Row, Steps};
+use apply_meaning::{Row, Steps, lookup};
 use edm_data::{Data, EntityRef};
-use edm_values::Value;
+use edm_values::{Seen, Value};
 use row_frames::Frame;
 use std::alloc::{AllocError, Global};
 use std::marker::Model;
@@ -83,8 +86,7 @@ impl<'a> RowList<'a> {
         }
     }
 
-    /// The values of an expression on the instances. Rows may be cut into so many parts, each for a thread of its own; a frame is
-    /// read by the thread that calls.
+    /// The values of an expression on the instances. These may be cut into so many parts, each for a thread of its own.
     pub fn values<R: Threads + Sync>(
         &self,
         rt: &R,
@@ -99,7 +101,7 @@ impl<'a> RowList<'a> {
     {
         match self.source {
             Source::Rows(rows) => values_of(rt, alloc, store, e, rows, workers),
-            Source::Frame(frame) => frame.values(alloc, store, e),
+            Source::Frame(frame) => frame.values(rt, alloc, store, e, workers),
         }
     }
 
@@ -121,8 +123,65 @@ impl<'a> RowList<'a> {
         }
     }
 
-    /// The key list of each instance by the paths. Rows may be cut into so many parts, each for a thread of its own; a frame is read
-    /// by the thread that calls.
+    /// The values of an expression on the instances, which borrow their texts. The instances may be cut into so many parts, each
+    /// for a thread of its own.
+    pub fn seen_values<'s, R: Threads + Sync>(
+        &'s self,
+        rt: &R,
+        alloc: Global,
+        store: &'s Data,
+        e: &'s Expr,
+        workers: u32,
+    ) -> Result<Vec<Seen<'s>>, AllocError>
+        requires some { 0 < workers }
+        requires of { IsTrue (all_of store.now self.now) }
+        ensures value { IfOk result (λ vs. map (λ v. seen_value v) vs.items ≡ values store.now (expr_of e.now) self.now) }
+    {
+        match self.source {
+            Source::Rows(rows) => seen_of(rt, alloc, store, e, rows, workers),
+            Source::Frame(frame) => frame.seen_values(rt, alloc, store, e, workers),
+        }
+    }
+
+    /// The values of the paths on the instances, which borrow their texts: a list for each path. The instances may be cut into so
+    /// many parts, each for a thread of its own.
+    pub fn key_columns<'s, R: Threads + Sync>(
+        &'s self,
+        rt: &R,
+        alloc: Global,
+        store: &'s Data,
+        paths: &'s [Path],
+        workers: u32,
+    ) -> Result<Vec<Vec<Seen<'s>>>, AllocError>
+        requires some { 0 < workers }
+        requires of { IsTrue (all_of store.now self.now) }
+        ensures value { IfOk result (λ cs. seen_columns cs.items ≡ key_columns store.now paths.now self.now) }
+    {
+        match self.source {
+            Source::Rows(rows) => key_columns_of(rt, alloc, store, paths, rows, workers),
+            Source::Frame(frame) => frame.key_columns(rt, alloc, store, paths, workers),
+        }
+    }
+
+    /// The values of the paths on the instances at these places, which borrow their texts: a list for each path.
+    pub fn key_columns_at<'s>(
+        &'s self,
+        alloc: Global,
+        store: &'s Data,
+        paths: &'s [Path],
+        places: &[usize],
+    ) -> Result<Vec<Vec<Seen<'s>>>, AllocError>
+        requires of { IsTrue (all_of store.now (at_places self.now places.now)) }
+        requires within { IsTrue (list_all (λ k. nat_lt k (length self.now)) places.now) }
+        ensures value { IfOk result (λ cs. seen_columns cs.items ≡ key_columns store.now paths.now (at_places self.now places.now)) }
+    {
+        match self.source {
+            Source::Rows(rows) => row_columns_at(alloc, store, paths, rows, places),
+            Source::Frame(frame) => frame.key_columns_at(alloc, store, paths, places),
+        }
+    }
+
+    /// The key list of each instance by the paths. The instances may be cut into so many parts, each for a thread of its own.
     pub fn key_lists<R: Threads + Sync>(
         &self,
         rt: &R,
@@ -137,7 +196,7 @@ impl<'a> RowList<'a> {
     {
         match self.source {
             Source::Rows(rows) => key_lists(rt, alloc, store, paths, rows, workers),
-            Source::Frame(frame) => frame.key_lists(alloc, store, paths),
+            Source::Frame(frame) => frame.key_lists(rt, alloc, store, paths, workers),
         }
     }
 
@@ -203,6 +262,44 @@ fn row_values_at(
         found.push(value_on(alloc, store, e, &rows[*at])?)?;
     }
     Ok(found)
+}
+
+/// The value of a path on the rows at these places.
+fn row_column_at<'a>(
+    alloc: Global,
+    store: &'a Data,
+    path: &Path,
+    rows: &'a [Row],
+    places: &[usize],
+) -> Result<Vec<Seen<'a>>, AllocError>
+    requires of { IsTrue (all_of store.now (at_places rows.now places.now)) }
+    requires within { IsTrue (list_all (λ k. nat_lt k (length rows.now)) places.now) }
+    ensures { IfOk result (λ c. map (λ v. seen_value v) c.items ≡ key_column store.now (at_places rows.now places.now) path.now) }
+{
+    let mut seen = Vec::with_capacity(alloc, places.len())?;
+    for at in places {
+        seen.push(lookup(store, &rows[*at], path))?;
+    }
+    Ok(seen)
+}
+
+/// The values of the paths on the rows at these places, a list for each path.
+fn row_columns_at<'a>(
+    alloc: Global,
+    store: &'a Data,
+    paths: &[Path],
+    rows: &'a [Row],
+    places: &[usize],
+) -> Result<Vec<Vec<Seen<'a>>>, AllocError>
+    requires of { IsTrue (all_of store.now (at_places rows.now places.now)) }
+    requires within { IsTrue (list_all (λ k. nat_lt k (length rows.now)) places.now) }
+    ensures { IfOk result (λ cs. seen_columns cs.items ≡ key_columns store.now paths.now (at_places rows.now places.now)) }
+{
+    let mut columns = Vec::with_capacity(alloc, paths.len())?;
+    for path in paths {
+        columns.push(row_column_at(alloc, store, path, rows, places)?)?;
+    }
+    Ok(columns)
 }
 
 /// The key lists of the rows at these places.

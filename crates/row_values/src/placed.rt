@@ -6,11 +6,12 @@ ghost use Rattle.apply_ast.specs.Views.{expr_of};
 ghost use Rattle.apply_meaning.specs.Meaning as spec;
 ghost use Rattle.apply_meaning.specs.Meaning.{values};
 ghost use Rattle.apply_meaning.specs.Running.{all_of};
+ghost use Rattle.row_frames.specs.Keys.{key_columns, seen_columns};
 
 use crate::lists::RowList;
 use apply_ast::{Expr, Path};
 use edm_data::Data;
-use edm_values::Value;
+use edm_values::{Seen, Value};
 use std::alloc::{AllocError, Global};
 use std::marker::Model;
 use std::thread::Threads;
@@ -104,6 +105,27 @@ impl<'a> PlacedRows<'a> {
                 let inner = places_of(alloc, own, places)?;
                 list.values_at(alloc, store, e, inner.as_slice())
             }
+        }
+    }
+
+    /// The values of the paths on the instances, which borrow their texts: a list for each path. All those of a list may be cut into
+    /// so many parts, each for a thread of its own.
+    pub fn key_columns<'s, R: Threads + Sync>(
+        &'s self,
+        rt: &R,
+        alloc: Global,
+        store: &'s Data,
+        paths: &'s [Path],
+        workers: u32,
+    ) -> Result<Vec<Vec<Seen<'s>>>, AllocError>
+        requires some { 0 < workers }
+        requires of { IsTrue (all_of store.now self.now) }
+        ensures value { IfOk result (λ cs. seen_columns cs.items ≡ key_columns store.now paths.now self.now) }
+    {
+        let list = self.list;
+        match self.places {
+            None => list.key_columns(rt, alloc, store, paths, workers),
+            Some(places) => list.key_columns_at(alloc, store, paths, places),
         }
     }
 

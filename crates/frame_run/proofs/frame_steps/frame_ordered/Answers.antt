@@ -11,17 +11,17 @@ use Rattle.frame_run.proofs.FrameSteps.{frame-gives, gives-frame}
 use Rattle.frame_run.proofs.frame_steps.frame_ordered.Goals as goal
 
 pub loop-k-init : goal.loop-k-init
-loop-k-init c = behind-none c.args.store.now c.as_slice-all.result.now c.args.frame c.requires
+loop-k-init g c = behind-none c.args.store.now c.as_slice-all.result.now c.args.frame c.requires.of
 
 pub loop-k-preserved : goal.loop-k-preserved
-loop-k-preserved c =
+loop-k-preserved g c =
     let is = c.as_slice-all.result.now in
     let k = c.loop-k.k in
     let at : length is - 1 - k + suc k ≡ length is = omega (arith, c.loop-k-test.true) in
     behind-more c.args.store.now is k c.args.frame c.loop-k.frame c.loop-k.invariant (length is - 1 - k) c.index-all-last.result at c.index-all-last.is c.in_ok-frame.frame c.in_ok-frame.ensures
 
 pub returns-in_err-frame : goal.returns-in_err-frame
-returns-in_err-frame c =
+returns-in_err-frame g c =
     let w = c.args.store.now in
     let l = c.args.frame in
     let is = c.as_slice-all.result.now in
@@ -33,7 +33,7 @@ returns-in_err-frame c =
     (gives-frame e _ (behind-refused w is k l c.loop-k.frame c.loop-k.invariant (length is - 1 - k) c.index-all-last.result at c.index-all-last.is e _ _ (frame-gives e _ c.in_err-frame.ensures))))
 
 pub returns : goal.returns
-returns c =
+returns g c =
     let w = c.args.store.now in
     let l = c.args.frame in
     let is = c.as_slice-all.result.now in

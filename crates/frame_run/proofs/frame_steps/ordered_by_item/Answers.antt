@@ -1,17 +1,17 @@
-use Rattle.std.proofs.Common.{◌≡◌, ◌∙◌, ◌∷◌, [], ap, sym, subst, length, map, Some, List, IsTrue}
+use Rattle.std.proofs.Common.{◌≡◌, ◌∙◌, ◌∷◌, [], ap, sym, subst, length, Some, IsTrue}
 use Rattle.std.specs.Prelude.{nat_lt}
 use Rattle.std.specs.List.{list_all}
 use Rattle.std.proofs.lemmas.List.{length-map}
 use Rattle.std.proofs.lemmas.Result.{err_from_is_err_and}
 use Rattle.edm_values.specs.Lists.{at_places, sorted}
-use Rattle.apply_ast.specs.Views.{expr_of, item_of}
+use Rattle.apply_ast.specs.Views.{item_of}
 use Rattle.apply_meaning.specs.Instances.{Instance, val}
 use Rattle.apply_meaning.specs.Meaning.{order_before, order_values, refused_at_beyond, values}
 use Rattle.frame_run.proofs.FrameSteps.{frame-order}
 use Rattle.frame_run.proofs.frame_steps.ordered_by_item.Goals as goal
 
 pub at-requires : goal.at-requires
-at-requires c =
+at-requires g c =
     let w = c.args.store.now in
     let l = c.args.frame in
     let x = item_of c.args.item.now in
@@ -22,7 +22,7 @@ at-requires c =
     }
 
 pub returns-in_err-places : goal.returns-in_err-places
-returns-in_err-places c =
+returns-in_err-places g c =
     let w = c.args.store.now in
     let l = c.args.frame in
     let x = item_of c.args.item.now in
@@ -31,7 +31,7 @@ returns-in_err-places c =
     rw (p.1, p.2) (frame-order c.in_err-places.field-0.0 (refused_at_beyond (order_values w (x ∷ []) l) (sorted (order_before w (x ∷ [])) l)) l (c.in_err-places.ensures.value w l e))
 
 pub returns : goal.returns
-returns c =
+returns g c =
     let w = c.args.store.now in
     let l = c.args.frame in
     let x = item_of c.args.item.now in

@@ -1,7 +1,8 @@
-use Rattle.std.proofs.Common.{rules, ◌≡◌, ℕ, ◌+◌, ◌<◌, ◌≤◌, ◌∙◌, List, Option, ap, get_or, length, subst, sym, arith}
+use Rattle.std.proofs.Common.{ℕ, ◌+◌, ◌∙◌, List, Option, ap, length, map, subst, sym, arith}
 use Rattle.std.specs.List.{list_any}
 use Rattle.std.proofs.lemmas.List.{length-map}
-use Rattle.edm_values.specs.Values.{is_beyond}
+use Rattle.edm_values.specs.declared.Seen.{Seen}
+use Rattle.edm_values.specs.Values.{is_beyond, seen_value}
 use Rattle.edm_data.specs.References.{count}
 use Rattle.apply_meaning.specs.Instances.{lookup}
 use Rattle.hier_rows.specs.HierRows.{AreOptionsBelow}
@@ -11,7 +12,7 @@ use Rattle.hier_rows.proofs.nodes.nodes_by_keys.Goals as goal
 
 pub root-requires : goal.root-requires
 root-requires c =
-    let long = ap length c.requires.keys ∙ length-map c.args.list.now (λ i. lookup c.args.store.now i c.args.path.now) in
+    let long = sym (length-map c.args.keys.now (λ (v : Seen). seen_value v)) ∙ ap length c.requires.keys ∙ length-map c.args.list.now (λ i. lookup c.args.store.now i c.args.path.now) in
     omega (arith, long, c.loop-k-test.true)
 
 pub loop-k-preserved : goal.loop-k-preserved
@@ -26,10 +27,10 @@ pub returns-clause-nodes : goal.returns-clause-nodes
 returns-clause-nodes c =
     let w = c.args.store.now in
     let end = no-key w c.args.set c.args.keys.now c.loop-k.nodes.items c.loop-k.k (omega (arith, c.loop-k-test.false)) c.loop-k.invariant in
-    (end.0 ∙ nodes-of-keys w c.args.set c.args.path.now c.args.list.now c.args.keys.now c.requires.keys, ap (list_any is_beyond) (sym c.requires.keys) ∙ end.1)
+    (end.0 ∙ nodes-of-keys w c.args.set c.args.path.now c.args.list.now (map (λ (v : Seen). seen_value v) c.args.keys.now) c.requires.keys, ap (list_any is_beyond) (sym c.requires.keys) ∙ end.1)
 
 pub returns-clause-within : goal.returns-clause-within
 returns-clause-within c =
     let w = c.args.store.now in
     let end = no-key w c.args.set c.args.keys.now c.loop-k.nodes.items c.loop-k.k (omega (arith, c.loop-k-test.false)) c.loop-k.invariant in
-    subst (AreOptionsBelow (count w c.args.set)) (sym (end.0 ∙ nodes-of-keys w c.args.set c.args.path.now c.args.list.now c.args.keys.now c.requires.keys)) (nodes-within w c.args.set c.args.path.now c.args.list.now)
+    subst (AreOptionsBelow (count w c.args.set)) (sym (end.0 ∙ nodes-of-keys w c.args.set c.args.path.now c.args.list.now (map (λ (v : Seen). seen_value v) c.args.keys.now) c.requires.keys)) (nodes-within w c.args.set c.args.path.now c.args.list.now)

@@ -14,3 +14,6 @@ returns g c =
       are-levels w ks k l c.in_ok-found.found.items c.in_ok-with_paths.field-0.items K c.in_ok-found.ensures.0 c.in_ok-with_paths.ensures,
       ap (λ ps. has_beyond_key w ps l) (sym (all-paths ks k K)) ∙ c.in_ok-found.ensures.1,
     )
+
+pub with_paths-requires-clause-all : goal.with_paths-requires-clause-all
+with_paths-requires-clause-all g c = c.requires.all ∙ sym (all-paths (keys_of c.args.keys.now) c.in_ok-keys.keys c.in_ok-keys.ensures)

@@ -1,4 +1,4 @@
-use Rattle.std.proofs.Common.{rules, ℕ, true, false, get_or, [], ◌≡◌, ◌+◌, ◌≤◌, ◌∙◌, ap, sym, subst, refl, map, drop, length, Some, Err, IsTrue, arith, List, ◌∷◌}
+use Rattle.std.proofs.Common.{rules, ℕ, true, false, get_or, [], ◌≡◌, ◌+◌, ◌≤◌, ◌∙◌, ap, sym, subst, refl, map, drop, length, Some, Err, IsTrue, arith, List, ◌∷◌, ◌++◌}
 use Rattle.std.specs.Prelude.{flat_map, option_and_then, option_map, slice_get, nat_lt, ◌++◌, is_some}
 use Rattle.std.proofs.lemmas.Option.{slice_get-get_or}
 use Rattle.std.proofs.lemmas.Result.{err_from_is_err_and}
@@ -43,7 +43,7 @@ use Rattle.pipe_run.proofs.ConcatLemmas.{branch-at, branch-turn, concat-run}
 use Rattle.pipe_run.proofs.ListsInTurn.{gives-all_err, joined-err, last-list, next-list, next-list_refused}
 use Rattle.pipe_run.proofs.RelatedLemmas.{join-run, lists-made, made-mean, related-least, related-long, related-same, related-turn, related_charge, related_mean, target-is}
 use Rattle.edm_data.specs.References.{count}
-use Rattle.context_typing.specs.Typing.{hierarchy_at}
+use Rattle.context_typing.specs.Typing.{hierarchy_at, plain_paths, rollup_paths}
 use Rattle.apply_meaning.specs.Instances as instances
 use Rattle.hier_rows.specs.HierRows.{AreRootsBelow}
 use Rattle.pipe_run.specs.Hierarchies.{climb_from, traversal}
@@ -52,7 +52,7 @@ use Rattle.pipe_run.proofs.ClimbLemmas.{climb-costs, climb-means, climb-of, trav
 use Rattle.pipe_run.proofs.ClimbOutcomes.{found}
 use Rattle.edm_values.proofs.OptionFacts.{some_value}
 use Rattle.pipe_run.proofs.GroupingLevels.{all-flat, flat-gives, met-key, next-among, next-flat_key, node-gives, shown-gives, shown-least}
-use Rattle.pipe_run.proofs.KeyParts.{recursive}
+use Rattle.pipe_run.proofs.KeyParts.{recursive, recursive-part}
 use Rattle.pipe_run.proofs.ShownRun.{shown-below, shown-err, shown-rows, shown-run}
 use Rattle.pipe_run.proofs.pipes.+run.Goals as goal
 use Rattle.pipe_run.proofs.pipes.+run.Goals.{grouping_levels-in-Plain, grouping_levels-in-Rollup}
@@ -768,6 +768,9 @@ run_grouping-grouping_levels-requires-clause-of g t c κs within =
     let r = c.requires.ready in
     all-fit-of c.args.context.now.world r.0 c.args.rows.now (r.2).runs.fit
 
+pub run_grouping-grouping_levels-requires-clause-all : goal.run_grouping-grouping_levels-requires-clause-all
+run_grouping-grouping_levels-requires-clause-all g t c κs within = c.as_slice-paths.ensures.value ∙ c.in_ok-paths-in-GroupBy.ensures.value
+
 pub run_grouping-grouping_levels-requires-clause-ready : goal.run_grouping-grouping_levels-requires-clause-ready
 run_grouping-grouping_levels-requires-clause-ready g t c κs within =
     let r = c.requires.ready in
@@ -785,7 +788,7 @@ run_grouping-returns-in_err-levels-in-GroupBy-clause-mean g t c = λ S S' R.
     let l = c.args.rows.now in
     let ks = keys_of c.in-GroupBy.keys in
     let T = inner_of (option_map pipe_of c.in-GroupBy.inner) in
-    let p = err_from_is_err_and c.from_residual.result c.from_residual.ensures.1 in
+    let p = err_from_is_err_and c.from_residual-in_err-levels-in-GroupBy.result c.from_residual-in_err-levels-in-GroupBy.ensures.1 in
     let whole = step-mean-on x S (ap step_of c.in-GroupBy.is ∙ step_of-GroupBy c.in-GroupBy.keys c.in-GroupBy.inner) refl in
     rw (p.1, p.2) (subst (Gives (Err c.in_err-levels-in-GroupBy.field-0.0)) (sym whole) (levels-err x.world (readings x.customs) S ks T l c.in_err-levels-in-GroupBy.field-0.0 c.in_err-levels-in-GroupBy.ensures.levels))
 
@@ -1604,6 +1607,15 @@ grouping_levels-node_levels-requires-clause-ready g t c κs within =
     let has = met-key c.args.keys.now c.as_slice-items.result.now c.loop-key.key-index c.key-item.result c.as_slice-items.ensures.value c.loop-key-test.true c.key-item.is (c.loop-key.invariant).1 (ap key_of c.in-Recursive.is ∙ key_of-Recursive c.in-Recursive.hier p c.in-Recursive.inner) in
     ready-first x h (inner_hierarchies T) (ready-key x (tree.Key.Recursive h p T) (keys_of c.args.keys.now) has c.requires.named)
 
+pub grouping_levels-node_levels-requires-clause-all : goal.grouping_levels-node_levels-requires-clause-all
+grouping_levels-node_levels-requires-clause-all g t c κs within =
+    let h = hier_of c.in-Recursive.hier in
+    let p = c.in-Recursive.path in
+    let T = inner_of (option_map pipe_of c.in-Recursive.inner) in
+    let ks = keys_of c.args.keys.now in
+    let has = met-key c.args.keys.now c.as_slice-items.result.now c.loop-key.key-index c.key-item.result c.as_slice-items.ensures.value c.loop-key-test.true c.key-item.is (c.loop-key.invariant).1 (ap key_of c.in-Recursive.is ∙ key_of-Recursive c.in-Recursive.hier p c.in-Recursive.inner) in
+    c.requires.all ∙ ap (λ part. plain_paths ks ++ rollup_paths part) (recursive-part h p T ks has c.requires.ready.few)
+
 pub grouping_levels-returns-in_err-shown-in-Recursive-clause-levels : goal.grouping_levels-returns-in_err-shown-in-Recursive-clause-levels
 grouping_levels-returns-in_err-shown-in-Recursive-clause-levels g t c =
     let x = c.args.context.now in
@@ -1639,8 +1651,8 @@ grouping_levels-returns-in-Recursive-clause-levels g t c =
     let T = inner_of (option_map pipe_of c.in-Recursive.inner) in
     let has = met-key c.args.keys.now c.as_slice-items.result.now c.loop-key.key-index c.key-item.result c.as_slice-items.ensures.value c.loop-key-test.true c.key-item.is (c.loop-key.invariant).1 (ap key_of c.in-Recursive.is ∙ key_of-Recursive c.in-Recursive.hier p c.in-Recursive.inner) in
     let u = recursive x h p T (keys_of c.args.keys.now) has c.requires.ready in
-    node-gives x h p T (keys_of c.args.keys.now) has c.requires.ready u.place u.at c.node_levels.result c.as_slice.result.now c.args.rows.now
-    (c.in_ok-shown-in-Recursive.ensures.shown u.place u.at ∙ ap Some (sym c.as_slice.ensures.value)) (c.node_levels.ensures u.place u.at)
+    node-gives x h p T (keys_of c.args.keys.now) has c.requires.ready u.place u.at c.node_levels.result c.as_slice-shown.result.now c.args.rows.now
+    (c.in_ok-shown-in-Recursive.ensures.shown u.place u.at ∙ ap Some (sym c.as_slice-shown.ensures.value)) (c.node_levels.ensures u.place u.at)
 
 pub grouping_levels-returns-in-Recursive-clause-steps : goal.grouping_levels-returns-in-Recursive-clause-steps
 grouping_levels-returns-in-Recursive-clause-steps g t c =
@@ -1671,6 +1683,9 @@ grouping_levels-loop-key-preserved g t c =
       λ k h. c.loop-key.invariant.1 k (next-among k ks i d c.loop-key-test.true c.key-item.is h),
       c.loop-key.invariant.2,
     )
+
+pub grouping_levels-levels_of-requires-clause-all : goal.grouping_levels-levels_of-requires-clause-all
+grouping_levels-levels_of-requires-clause-all g t c κs within = c.requires.all
 
 pub grouping_levels-levels_of-requires-clause-flat : goal.grouping_levels-levels_of-requires-clause-flat
 grouping_levels-levels_of-requires-clause-flat g t c κs within = all-flat c.args.keys.now c.as_slice-items.result.now c.loop-key.key-index c.as_slice-items.ensures.value (omega (arith, c.loop-key-test.false)) (c.loop-key.invariant).0

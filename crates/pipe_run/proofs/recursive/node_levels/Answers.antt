@@ -1,4 +1,4 @@
-use Rattle.std.proofs.Common.{◌≡◌, ℕ, Option, sym, subst, ◌∙◌, ap, Err, length, map}
+use Rattle.std.proofs.Common.{◌≡◌, ◌++◌, ◌∷◌, [], ℕ, Option, sym, subst, ◌∙◌, ap, Err, length, map}
 use Rattle.std.specs.List.{list_any}
 use Rattle.std.specs.Global.{Vec}
 use Rattle.std.proofs.lemmas.List.{length-map}
@@ -33,10 +33,6 @@ returns-in_err-nodes g c = λ f at.
     let given = subst (λ (w : World). rows.GivesFor (λ (v : Vec (Option ℕ)). v.items ≡ map (node_in w s p) l) (path_values w p l) (Err e)) c.store-store.ensures.value c.in_err-nodes.ensures.nodes in
     let q = err_from_is_err_and c.from_residual-in_err-nodes.result c.from_residual-in_err-nodes.ensures.1 in
     rw (q.1, q.2) (path-err (λ (v : Vec (Option ℕ)). v.items ≡ map (node_in w s p) l) w f (plain_paths (keys_of c.args.keys.now)) p c.args.shown.now l e given)
-
-pub nodes_by_keys-requires-clause-keys : goal.nodes_by_keys-requires-clause-keys
-nodes_by_keys-requires-clause-keys g c =
-    c.as_slice-own.ensures.value ∙ c.in_ok-own.ensures ∙ ap (λ (w : World). path_values w c.args.path.now c.args.rows.now) (sym c.store-store.ensures.value)
 
 pub returns-in_err-lists : goal.returns-in_err-lists
 returns-in_err-lists g c = λ f at.
@@ -82,8 +78,8 @@ returns g c = λ f at.
     let lists = ap (map (λ k. k.items)) c.as_slice-3.ensures.value ∙ c.in_ok-lists.ensures.0 ∙ ap (λ ks. map (key_list w ks) l) plain in
     let quiet = ap (λ (w : World). path_values w p l) (sym c.store-store.ensures.value) in (
       c.in_ok-levels_by_node.ensures f (sym set)
-          ∙ (λ i. map (node_level (c.store-store.ensures.value i) f (plain i) p) c.in_ok-rolled.rolled.items)
-          ∙ ap (map (node_level w f (plain_paths (keys_of c.args.keys.now)) p)) (c.in_ok-rolled.ensures ∙ (λ i. rolled (c.nodes-found.ensures.index f at i) (nodes i) (lists i) c.args.shown.now)),
+          ∙ (λ i. map (node_level (c.store-store.ensures.value i) f (c.requires.all i)) c.in_ok-rolled.rolled.items)
+          ∙ ap (map (node_level w f (plain_paths (keys_of c.args.keys.now) ++ p ∷ []))) (c.in_ok-rolled.ensures ∙ (λ i. rolled (c.nodes-found.ensures.index f at i) (nodes i) (lists i) c.args.shown.now)),
       none-beyond w (plain_paths (keys_of c.args.keys.now)) p l
           (ap (λ ks. has_beyond_key w ks l) (sym plain) ∙ c.in_ok-lists.ensures.1)
           (ap (list_any is_beyond) quiet ∙ c.in_ok-nodes.ensures.nodes.1),

@@ -3,5 +3,5 @@ use Rattle.apply_meaning.specs.Running.{all_of}
 use Rattle.row_frames.specs.Frames.{all_picked}
 use Rattle.row_frames.proofs.placed.placed_keys.Goals as goal
 
-pub key_lists_of-requires-clause-of : goal.key_lists_of-requires-clause-of
-key_lists_of-requires-clause-of c = subst (λ l. all_of c.args.store.now l ≡ true) (sym (ap (all_picked c.args.tables.now) c.as_slice.ensures.value ∙ c.in_ok-found.ensures.picked)) c.requires.of
+pub lists_in_turn-requires-clause-of : goal.lists_in_turn-requires-clause-of
+lists_in_turn-requires-clause-of c = subst (λ l. all_of c.args.store.now l ≡ true) (sym (ap (all_picked c.args.tables.now) c.as_slice.ensures.value ∙ c.in_ok-found.ensures.picked)) c.requires.of

@@ -8,8 +8,8 @@ use Rattle.rayon.proofs.ToStd.{slice-map}
 use Rattle.apply_ast.specs.Views.{expr_of}
 use Rattle.apply_meaning.specs.Instances.{Instance, val}
 use Rattle.apply_meaning.specs.RowViews.{is_of}
-use Rattle.row_values.specs.Answers.{answer_of}
-use Rattle.row_values.proofs.Sharing.{data-sync, expr-sync, row-sync}
+use Rattle.row_frames.specs.Answers.{answer_of}
+use Rattle.row_frames.proofs.Sharing.{data-sync, expr-sync, row-sync}
 use Rattle.row_values.proofs.filters.answers.Goals as goal
 
 -- one line for each `Send` and `Sync`, the allocator, and then the closure's `requires` at each row

@@ -8,7 +8,7 @@ use Rattle.rayon.proofs.ListFacts.{IfOk-then}
 use Rattle.rayon.proofs.ToStd.{slice-AllZip}
 use Rattle.apply_meaning.specs.Meaning.{key_list}
 use Rattle.apply_meaning.specs.RowViews.{is_of}
-use Rattle.row_values.proofs.Sharing.{data-sync, path-sync, row-sync}
+use Rattle.row_frames.proofs.Sharing.{data-sync, path-sync, row-sync}
 use Rattle.row_values.proofs.keys.list_results.Goals as goal
 
 -- one line for each `Send` and `Sync`, the allocator, and then the closure's `requires` at each row

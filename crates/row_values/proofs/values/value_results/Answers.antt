@@ -9,7 +9,7 @@ use Rattle.rayon.proofs.ToStd.{slice-AllZip}
 use Rattle.apply_ast.specs.Views.{expr_of}
 use Rattle.apply_meaning.specs.Instances.{val}
 use Rattle.apply_meaning.specs.RowViews.{is_of}
-use Rattle.row_values.proofs.Sharing.{data-sync, expr-sync, row-sync}
+use Rattle.row_frames.proofs.Sharing.{data-sync, expr-sync, row-sync}
 use Rattle.row_values.proofs.values.value_results.Goals as goal
 
 -- one line for each `Send` and `Sync`, the allocator, and then the closure's `requires` at each row

@@ -1,0 +1,414 @@
+use Rattle.std.proofs.Common.{◌≡◌, ℕ, ◌+◌, ◌∙◌, ◌++◌, ap, sym, subst, length, map, drop, Some, arith}
+use Rattle.std.specs.Prelude.{option_and_then, option_map, slice_get}
+use Rattle.std.proofs.lemmas.List.{length-map}
+use Rattle.std.proofs.lemmas.Result.{err_from_is_err_and}
+use Rattle.std.proofs.Math.ListN.{drop_of_length-le}
+use Rattle.apply_ast.specs.Trees as tree
+use Rattle.apply_ast.specs.Trees.{Pipe}
+use Rattle.apply_ast.specs.Views.{climb_of, hier_of, pipe_of, pipes_in, step_of}
+use Rattle.apply_ast.proofs.ViewEquations.{climb_of-is, pipes_of-is, step_of-Climb, step_of-Concat}
+use Rattle.context_typing.specs.Readings.{readings}
+use Rattle.apply_meaning.specs.Meaning.{Outcome, joined, mean, step_mean}
+use Rattle.apply_meaning.specs.MeaningLaws.{IsLoaded}
+use Rattle.apply_meaning.proofs.MeaningEquations.{mean-End}
+use Rattle.apply_meaning.proofs.RunLemmas.{all-fit-of, turn, next-step}
+use Rattle.row_frames.specs.Frames.{GivesFrame}
+use Rattle.hier_states.specs.NamedHierarchies.{branch_hierarchies, hierarchies, step_hierarchies}
+use Rattle.pipe_run.specs.Conditions.{AreReady, BranchesReady, ReadyFrom, RunsFrom, StepReadyFrom, StepRunsFrom}
+use Rattle.pipe_run.specs.Costs.{cost, step_cost}
+use Rattle.frame_run.specs.HeldRows.{GivesHeld, owed, rows_of}
+use Rattle.frame_run.specs.declared.held.Held.{Held}
+use Rattle.frame_run.proofs.HeldLemmas.{climb-inner, held-refused, owed-beside}
+use Rattle.pipe_run.proofs.ClimbLemmas.{climb-costs, climb-means, climb-of}
+use Rattle.pipe_run.proofs.ConcatLemmas.{branch-at, branch-turn, concat-run}
+use Rattle.pipe_run.proofs.GroupLemmas.{begun}
+use Rattle.pipe_run.proofs.ReadyParts.{ready-branch, ready-first, ready-here, ready-next, ready-others}
+use Rattle.pipe_run.proofs.RunLemmas.{turn-cost, turn-least}
+use Rattle.pipe_run.proofs.RunLevels.{last-joined, next-joined, next-refused}
+use Rattle.frame_run.proofs.held.+held.Goals as goal
+
+-- ---- the transformations of a pipeline
+
+pub held_after-held_ready-requires-clause-ready : goal.held_after-held_ready-requires-clause-ready
+held_after-held_ready-requires-clause-ready g t c κs within =
+    let r = c.requires.ready in
+    let i = c.loop-i.invariant.1 r.0 r.1 r.2 in
+    (i.0, r.1, i.1)
+
+pub held_after-run_on_held-requires-clause-named : goal.held_after-run_on_held-requires-clause-named
+held_after-run_on_held-requires-clause-named g t c κs within = ready-here c.args.context.now c.steps-all.result.now c.loop-i.i c.index-all-i.result c.loop-i-test.true c.index-all-i.is c.loop-i.invariant.0
+
+pub held_after-returns-in_err-held-clause-mean : goal.held_after-returns-in_err-held-clause-mean
+held_after-returns-in_err-held-clause-mean g t c = λ S S' R.
+    let w = c.args.context.now.world in
+    let cs = readings c.args.context.now.customs in
+    let ss = c.steps-all.result.now in
+    let rest = tree.pipe (map step_of (drop (c.loop-i.i + 1) ss)) in
+    let e = next-step ss c.loop-i.i c.index-all-i.result c.loop-i-test.true c.index-all-i.is in
+    let i = c.loop-i.invariant.1 S S' R in
+    let u = turn w cs i.0 S' _ (step_of c.index-all-i.result) rest (rows_of c.loop-i.held) e (i.1).runs in
+    let p = err_from_is_err_and c.from_residual.result c.from_residual.ensures.1 in
+    rw (p.1, p.2) (held-refused c.in_err-held.field-0.0 (step_mean w cs i.0 (step_of c.index-all-i.result) (rows_of c.loop-i.held)) _ (c.in_err-held.ensures.mean i.0 u.between (record { runs = u.first; root_is = (i.1).root_is }))
+    (λ n. i.2 ∙ u.meaning ∙ ap (option_and_then (mean w cs u.between rest)) n))
+
+pub held_after-returns-in_err-held-clause-steps : goal.held_after-returns-in_err-held-clause-steps
+held_after-returns-in_err-held-clause-steps g t c = λ S S' R.
+    let w = c.args.context.now.world in
+    let cs = readings c.args.context.now.customs in
+    let ss = c.steps-all.result.now in
+    let rest = tree.pipe (map step_of (drop (c.loop-i.i + 1) ss)) in
+    let e = next-step ss c.loop-i.i c.index-all-i.result c.loop-i-test.true c.index-all-i.is in
+    let i = c.loop-i.invariant.1 S S' R in
+    let u = turn w cs i.0 S' _ (step_of c.index-all-i.result) rest (rows_of c.loop-i.held) e (i.1).runs in
+    let s = c.run_on_held.ensures.steps i.0 u.between (record { runs = u.first; root_is = (i.1).root_is }) in
+    let least = turn-least w cs i.0 _ (step_of c.index-all-i.result) rest (rows_of c.loop-i.held) e in
+    let left = i.3 in
+    let p = err_from_is_err_and c.from_residual.result c.from_residual.ensures.1 in
+    rw p.1 (omega (arith, s, least, left))
+
+pub held_after-returns-in_err-held-clause-grown : goal.held_after-returns-in_err-held-clause-grown
+held_after-returns-in_err-held-clause-grown g t c = omega (arith, c.run_on_held.ensures.grown, c.loop-i.invariant.2)
+
+pub held_after-loop-i-preserved : goal.held_after-loop-i-preserved
+held_after-loop-i-preserved g t c = (
+  ready-next c.args.context.now c.steps-all.result.now c.loop-i.i c.index-all-i.result c.loop-i-test.true c.index-all-i.is c.loop-i.invariant.0,
+  λ S S' R.
+      let w = c.args.context.now.world in
+      let cs = readings c.args.context.now.customs in
+      let ss = c.steps-all.result.now in
+      let rest = tree.pipe (map step_of (drop (c.loop-i.i + 1) ss)) in
+      let e = next-step ss c.loop-i.i c.index-all-i.result c.loop-i-test.true c.index-all-i.is in
+      let i = c.loop-i.invariant.1 S S' R in
+      let u = turn w cs i.0 S' _ (step_of c.index-all-i.result) rest (rows_of c.loop-i.held) e (i.1).runs in
+      let first : StepRunsFrom c.args.context.now c.loop-i.root i.0 u.between (step_of c.index-all-i.result) (rows_of c.loop-i.held) = record { runs = u.first; root_is = (i.1).root_is } in
+      let m = c.in_ok-held.ensures.mean i.0 u.between first in
+      let s = c.in_ok-held.ensures.steps i.0 u.between first in
+      let spent = turn-cost w cs i.0 S' _ (step_of c.index-all-i.result) rest (rows_of c.loop-i.held) (rows_of c.in_ok-held.held) e u m in
+      let left = i.3 in (
+        u.between,
+        record {
+          runs = u.next (rows_of c.in_ok-held.held) (subst IsLoaded c.store.ensures.value c.data_is_loaded.ensures.value) m;
+          root_is = c.root_after-root.ensures.value w.model cs i.0 u.between u.first.typed (i.1).root_is;
+        },
+        i.2 ∙ u.meaning ∙ ap (option_and_then (mean w cs u.between rest)) m,
+        omega (arith, s, spent, left),
+      ),
+  omega (arith, c.run_on_held.ensures.grown, c.loop-i.invariant.2),
+)
+
+pub held_after-returns-clause-mean : goal.held_after-returns-clause-mean
+held_after-returns-clause-mean g t c = λ S S' R.
+    let w = c.args.context.now.world in
+    let cs = readings c.args.context.now.customs in
+    let i = c.loop-i.invariant.1 S S' R in
+    i.2 ∙ ap (λ ss. mean w cs i.0 (tree.pipe (map step_of ss)) (rows_of c.loop-i.held)) (drop_of_length-le c.steps-all.result.now (omega (arith, c.loop-i-test.false))) ∙ mean-End w cs i.0 (rows_of c.loop-i.held)
+
+pub held_after-returns-clause-steps : goal.held_after-returns-clause-steps
+held_after-returns-clause-steps g t c = λ S S' R.
+    let left = (c.loop-i.invariant.1 S S' R).3 in
+    omega (arith, left)
+
+pub held_after-returns-clause-grown : goal.held_after-returns-clause-grown
+held_after-returns-clause-grown g t c = omega (arith, c.loop-i.invariant.2)
+
+-- ---- rows that are made, or not
+
+pub run_on_held-run_frame-requires-clause-ready : goal.run_on_held-run_frame-requires-clause-ready
+run_on_held-run_frame-requires-clause-ready g t c κs within =
+    subst (λ (h : Held). StepReadyFrom c.args.context.now c.args.root.now (step_of c.args.step.now) (rows_of h)) c.in-Frame.is c.requires.ready
+
+pub run_on_held-run_step-requires-clause-ready : goal.run_on_held-run_step-requires-clause-ready
+run_on_held-run_step-requires-clause-ready g t c κs within =
+    subst (λ (h : Held). StepReadyFrom c.args.context.now c.args.root.now (step_of c.args.step.now) (rows_of h)) c.in-Rows.is c.requires.ready
+
+pub run_on_held-returns-in-Frame-clause-mean : goal.run_on_held-returns-in-Frame-clause-mean
+run_on_held-returns-in-Frame-clause-mean g t c = λ S S' R.
+    let x = c.args.context.now in
+    let s = step_of c.args.step.now in
+    let e = c.in-Frame.is in
+    subst (λ (h : Held). GivesHeld c.run_frame.result (step_mean x.world (readings x.customs) S s (rows_of h))) (sym e)
+    (c.run_frame.ensures.mean S S' (subst (λ (h : Held). StepRunsFrom x c.args.root.now S S' s (rows_of h)) e R))
+
+pub run_on_held-returns-in-Frame-clause-steps : goal.run_on_held-returns-in-Frame-clause-steps
+run_on_held-returns-in-Frame-clause-steps g t c = λ S S' R.
+    let x = c.args.context.now in
+    let s = step_of c.args.step.now in
+    let e = c.in-Frame.is in
+    let spent = c.run_frame.ensures.steps S S' (subst (λ (h : Held). StepRunsFrom x c.args.root.now S S' s (rows_of h)) e R) in
+    let same = ap (λ (h : Held). step_cost x.world (readings x.customs) S s (rows_of h)) e in
+    let owes = ap owed e in
+    omega (arith, spent, same, owes)
+
+pub run_on_held-returns-in-Rows-clause-mean : goal.run_on_held-returns-in-Rows-clause-mean
+run_on_held-returns-in-Rows-clause-mean g t c = λ S S' R.
+    let x = c.args.context.now in
+    let s = step_of c.args.step.now in
+    let e = c.in-Rows.is in
+    subst (λ (h : Held). GivesHeld c.as_held.result (step_mean x.world (readings x.customs) S s (rows_of h))) (sym e)
+    (c.as_held.ensures.gives (step_mean x.world (readings x.customs) S s c.in-Rows.rows.items) (c.run_step.ensures.mean S S' (subst (λ (h : Held). StepRunsFrom x c.args.root.now S S' s (rows_of h)) e R)))
+
+pub run_on_held-returns-in-Rows-clause-steps : goal.run_on_held-returns-in-Rows-clause-steps
+run_on_held-returns-in-Rows-clause-steps g t c = λ S S' R.
+    let x = c.args.context.now in
+    let s = step_of c.args.step.now in
+    let e = c.in-Rows.is in
+    let spent = c.run_step.ensures.steps S S' (subst (λ (h : Held). StepRunsFrom x c.args.root.now S S' s (rows_of h)) e R) in
+    let same = ap (λ (h : Held). step_cost x.world (readings x.customs) S s (rows_of h)) e in
+    omega (arith, spent, same, c.as_held.ensures.owed)
+
+-- ---- a frame
+
+pub run_frame-run_climb-requires-clause-ready : goal.run_frame-run_climb-requires-clause-ready
+run_frame-run_climb-requires-clause-ready g t c κs within =
+    let x = c.args.context.now in
+    subst (λ s. StepReadyFrom x c.args.root.now s c.args.frame) (ap step_of c.in-Climb.is ∙ step_of-Climb c.in-Climb.climb) c.requires.ready
+
+pub run_frame-run_climb-requires-clause-named : goal.run_frame-run_climb-requires-clause-named
+run_frame-run_climb-requires-clause-named g t c κs within =
+    let x = c.args.context.now in
+    subst (λ s. AreReady x (step_hierarchies s)) (ap step_of c.in-Climb.is ∙ step_of-Climb c.in-Climb.climb) c.requires.named
+
+pub run_frame-returns-in-Climb-clause-mean : goal.run_frame-returns-in-Climb-clause-mean
+run_frame-returns-in-Climb-clause-mean g t c = λ S S' R.
+    let x = c.args.context.now in
+    let l = c.args.frame in
+    let e = ap step_of c.in-Climb.is ∙ step_of-Climb c.in-Climb.climb in
+    subst (GivesHeld c.run_climb.result) (sym (ap (λ s. step_mean x.world (readings x.customs) S s l) e)) (c.run_climb.ensures.mean S S' (subst (λ s. StepRunsFrom x c.args.root.now S S' s l) e R))
+
+pub run_frame-returns-in-Climb-clause-steps : goal.run_frame-returns-in-Climb-clause-steps
+run_frame-returns-in-Climb-clause-steps g t c = λ S S' R.
+    let x = c.args.context.now in
+    let l = c.args.frame in
+    let e = ap step_of c.in-Climb.is ∙ step_of-Climb c.in-Climb.climb in
+    let spent = c.run_climb.ensures.steps S S' (subst (λ s. StepRunsFrom x c.args.root.now S S' s l) e R) in
+    let whole = ap (λ s. step_cost x.world (readings x.customs) S s l) e in
+    omega (arith, spent, whole)
+
+pub run_frame-run_concat-requires-clause-ready : goal.run_frame-run_concat-requires-clause-ready
+run_frame-run_concat-requires-clause-ready g t c κs within =
+    let x = c.args.context.now in
+    subst (λ s. StepReadyFrom x c.args.root.now s c.args.frame) (ap step_of c.in-Concat.is ∙ step_of-Concat c.in-Concat.branches) c.requires.ready
+
+pub run_frame-run_concat-requires-clause-named : goal.run_frame-run_concat-requires-clause-named
+run_frame-run_concat-requires-clause-named g t c κs within =
+    let x = c.args.context.now in
+    subst (λ s. AreReady x (step_hierarchies s)) (ap step_of c.in-Concat.is ∙ step_of-Concat c.in-Concat.branches) c.requires.named
+
+pub run_frame-returns-in-Concat-clause-mean : goal.run_frame-returns-in-Concat-clause-mean
+run_frame-returns-in-Concat-clause-mean g t c = λ S S' R.
+    let x = c.args.context.now in
+    let l = c.args.frame in
+    let e = ap step_of c.in-Concat.is ∙ step_of-Concat c.in-Concat.branches in
+    subst (GivesHeld c.run_concat.result) (sym (ap (λ s. step_mean x.world (readings x.customs) S s l) e)) (c.run_concat.ensures.mean S S' (subst (λ s. StepRunsFrom x c.args.root.now S S' s l) e R))
+
+pub run_frame-returns-in-Concat-clause-steps : goal.run_frame-returns-in-Concat-clause-steps
+run_frame-returns-in-Concat-clause-steps g t c = λ S S' R.
+    let x = c.args.context.now in
+    let l = c.args.frame in
+    let e = ap step_of c.in-Concat.is ∙ step_of-Concat c.in-Concat.branches in
+    let spent = c.run_concat.ensures.steps S S' (subst (λ s. StepRunsFrom x c.args.root.now S S' s l) e R) in
+    let whole = ap (λ s. step_cost x.world (readings x.customs) S s l) e in
+    omega (arith, spent, whole)
+
+-- ---- a climb
+
+pub run_climb-held_after-requires-clause-ready : goal.run_climb-held_after-requires-clause-ready
+run_climb-held_after-requires-clause-ready g t c κs within =
+    let x = c.args.context.now in
+    let r = c.requires.ready in
+    let u = climb-of c.args.climb.now r.2 in
+    (r.0, u.shape, subst (RunsFrom x c.args.root.now r.0 u.shape (pipe_of c.args.climb.now.inner)) (sym c.in_ok-copy.ensures.value) u.runs)
+
+pub run_climb-held_after-requires-clause-named : goal.run_climb-held_after-requires-clause-named
+run_climb-held_after-requires-clause-named g t c κs within =
+    let x = c.args.context.now in
+    let k = c.args.climb.now in
+    ready-others x (hier_of k.hier) (hierarchies (pipe_of k.inner)) (subst (λ s. AreReady x (step_hierarchies s)) (climb_of-is k) c.requires.named)
+
+pub run_climb-frame_climbed-requires-clause-of : goal.run_climb-frame_climbed-requires-clause-of
+run_climb-frame_climbed-requires-clause-of g t c κs within = let r = c.requires.ready in all-fit-of c.args.context.now.world r.0 c.args.frame (r.2).runs.fit
+
+pub run_climb-frame_climbed-requires-clause-starts : goal.run_climb-frame_climbed-requires-clause-starts
+run_climb-frame_climbed-requires-clause-starts g t c κs within =
+    let x = c.args.context.now in
+    let k = c.args.climb.now in
+    let r = c.requires.ready in
+    let u = climb-of k r.2 in
+    let copied = c.in_ok-copy.ensures.value in
+    let runs = subst (RunsFrom x c.args.root.now r.0 u.shape (pipe_of k.inner)) (sym copied) u.runs in
+    let made = ap (mean x.world (readings x.customs) r.0 (pipe_of k.inner)) (sym copied) ∙ c.in_ok-starts.ensures.mean r.0 u.shape runs in
+    u.starts (rows_of c.in_ok-starts.starts) (subst IsLoaded c.store.ensures.value c.data_is_loaded.ensures.value) made
+
+pub run_climb-frame_climbed-requires-clause-there : goal.run_climb-frame_climbed-requires-clause-there
+run_climb-frame_climbed-requires-clause-there g t c κs within = (climb-of c.args.climb.now c.requires.ready.2).hierarchy
+
+pub run_climb-frame_climbed-requires-clause-ready : goal.run_climb-frame_climbed-requires-clause-ready
+run_climb-frame_climbed-requires-clause-ready g t c κs within =
+    let x = c.args.context.now in
+    let k = c.args.climb.now in
+    ready-first x (hier_of k.hier) (hierarchies (pipe_of k.inner)) (subst (λ s. AreReady x (step_hierarchies s)) (climb_of-is k) c.requires.named)
+
+pub run_climb-returns-in_err-starts-clause-mean : goal.run_climb-returns-in_err-starts-clause-mean
+run_climb-returns-in_err-starts-clause-mean g t c = λ S S' R.
+    let x = c.args.context.now in
+    let k = c.args.climb.now in
+    let l = c.args.frame in
+    let u = climb-of k R in
+    let copied = c.in_ok-copy.ensures.value in
+    let runs = subst (RunsFrom x c.args.root.now S u.shape (pipe_of k.inner)) (sym copied) u.runs in
+    let p = err_from_is_err_and c.from_residual-in_err-starts.result c.from_residual-in_err-starts.ensures.1 in
+    rw (p.1, p.2) (held-refused c.in_err-starts.field-0.0 (mean x.world (readings x.customs) S (pipe_of k.inner) c.in_ok-copy.field-0) (step_mean x.world (readings x.customs) S (climb_of k) l) (c.in_err-starts.ensures.mean S u.shape runs)
+    (λ n. climb-means x S k l ∙ u.refused (ap (mean x.world (readings x.customs) S (pipe_of k.inner)) (sym copied) ∙ n)))
+
+pub run_climb-returns-in_err-starts-clause-steps : goal.run_climb-returns-in_err-starts-clause-steps
+run_climb-returns-in_err-starts-clause-steps g t c = λ S S' R.
+    let x = c.args.context.now in
+    let k = c.args.climb.now in
+    let l = c.args.frame in
+    let u = climb-of k R in
+    let same = c.in_ok-copy.ensures.value in
+    let runs = subst (RunsFrom x c.args.root.now S u.shape (pipe_of k.inner)) (sym same) u.runs in
+    let long = ap length same in
+    let ran = c.held_after.ensures.steps S u.shape runs in
+    let costs = ap (cost x.world (readings x.customs) S (pipe_of k.inner)) same in
+    let least = u.costs in
+    let whole = climb-costs x S k l in
+    let p = err_from_is_err_and c.from_residual-in_err-starts.result c.from_residual-in_err-starts.ensures.1 in
+    rw p.1 (omega (arith, long, ran, costs, least, whole))
+
+pub run_climb-returns-clause-mean : goal.run_climb-returns-clause-mean
+run_climb-returns-clause-mean g t c = λ S S' R.
+    let x = c.args.context.now in
+    let k = c.args.climb.now in
+    let l = c.args.frame in
+    let u = climb-of k R in
+    let copied = c.in_ok-copy.ensures.value in
+    let runs = subst (RunsFrom x c.args.root.now S u.shape (pipe_of k.inner)) (sym copied) u.runs in
+    let made = ap (mean x.world (readings x.customs) S (pipe_of k.inner)) (sym copied) ∙ c.in_ok-starts.ensures.mean S u.shape runs in
+    let m = climb-means x S k l ∙ u.means (rows_of c.in_ok-starts.starts) made in
+    c.as_frame.ensures (step_mean x.world (readings x.customs) S (climb_of k) l) (subst (GivesFrame c.frame_climbed.result) (sym m) c.frame_climbed.ensures)
+
+pub run_climb-returns-clause-steps : goal.run_climb-returns-clause-steps
+run_climb-returns-clause-steps g t c = λ S S' R.
+    let x = c.args.context.now in
+    let k = c.args.climb.now in
+    let l = c.args.frame in
+    let u = climb-of k R in
+    let same = c.in_ok-copy.ensures.value in
+    let runs = subst (RunsFrom x c.args.root.now S u.shape (pipe_of k.inner)) (sym same) u.runs in
+    let made = ap (mean x.world (readings x.customs) S (pipe_of k.inner)) (sym same) ∙ c.in_ok-starts.ensures.mean S u.shape runs in
+    let m = climb-means x S k l ∙ u.means (rows_of c.in_ok-starts.starts) made in
+    let given = c.as_frame.ensures (step_mean x.world (readings x.customs) S (climb_of k) l) (subst (GivesFrame c.frame_climbed.result) (sym m) c.frame_climbed.ensures) in
+    let owes = owed-beside x.world (readings x.customs) S (climb_of k) l c.as_frame.result given in
+    let long = ap length same in
+    let ran = c.held_after.ensures.steps S u.shape runs in
+    let costs = ap (cost x.world (readings x.customs) S (pipe_of k.inner)) same in
+    let least = climb-inner x.world (readings x.customs) S k l in
+    omega (arith, long, ran, costs, least, owes)
+
+-- ---- a concatenation
+
+pub run_concat-run_branches-requires-clause-ready : goal.run_concat-run_branches-requires-clause-ready
+run_concat-run_branches-requires-clause-ready g t c κs within =
+    subst (λ bs. BranchesReady c.args.context.now c.args.root.now (map pipe_of bs) c.args.frame) (sym c.as_slice.ensures.value) c.branches_ready.ensures
+
+pub run_concat-run_branches-requires-clause-named : goal.run_concat-run_branches-requires-clause-named
+run_concat-run_branches-requires-clause-named g t c κs within =
+    subst (λ bs. (n : ℕ) (p : tree.Pipe) → slice_get (map pipe_of bs) n ≡ Some p → AreReady c.args.context.now (hierarchies p)) (sym c.as_slice.ensures.value)
+    (ready-branch c.args.context.now (map pipe_of (pipes_in c.args.branches.now)) (subst (λ ps. AreReady c.args.context.now (branch_hierarchies ps)) (pipes_of-is c.args.branches.now) c.requires.named))
+
+pub run_concat-returns-clause-mean : goal.run_concat-returns-clause-mean
+run_concat-returns-clause-mean g t c = λ S S' R.
+    let u = concat-run c.args.branches.now c.as_slice.result.now c.as_slice.ensures.value R in
+    subst (GivesHeld c.run_branches.result) (sym u.means) (c.run_branches.ensures.mean S u.runs)
+
+pub run_concat-returns-clause-steps : goal.run_concat-returns-clause-steps
+run_concat-returns-clause-steps g t c = λ S S' R.
+    let u = concat-run c.args.branches.now c.as_slice.result.now c.as_slice.ensures.value R in
+    let spent = c.run_branches.ensures.steps S u.runs in
+    let least = u.costs in
+    omega (arith, spent, least)
+
+-- ---- the branches
+
+pub run_branches-held_after-requires-clause-ready : goal.run_branches-held_after-requires-clause-ready
+run_branches-held_after-requires-clause-ready g t c κs within =
+    subst (λ l. ReadyFrom c.args.context.now c.args.root.now (pipe_of c.index-branches-k.result) l) (sym c.in_ok-copy.ensures.value) c.branch_ready.ensures
+
+pub run_branches-held_after-requires-clause-named : goal.run_branches-held_after-requires-clause-named
+run_branches-held_after-requires-clause-named g t c κs within =
+    c.requires.named c.loop-k.k (pipe_of c.index-branches-k.result) (branch-at c.args.branches.now c.loop-k.k c.index-branches-k.result c.loop-k-test.true c.index-branches-k.is)
+
+pub run_branches-returns-in_err-made-clause-mean : goal.run_branches-returns-in_err-made-clause-mean
+run_branches-returns-in_err-made-clause-mean g t c = λ S R.
+    let x = c.args.context.now in
+    let u = branch-turn x c.args.root.now S c.args.branches.now c.args.frame.now c.in_ok-copy.field-0 c.loop-k.k c.index-branches-k.result R c.loop-k-test.true c.index-branches-k.is c.in_ok-copy.ensures.value in
+    let p = err_from_is_err_and c.from_residual-in_err-made.result c.from_residual-in_err-made.ensures.1 in
+    rw (p.1, p.2) (held-refused c.in_err-made.field-0.0 _ _ (c.in_err-made.ensures.mean S u.shape u.runs)
+    (λ n. next-refused (λ p. mean x.world (readings x.customs) S p c.args.frame.now) (map pipe_of c.args.branches.now) c.loop-k.k (pipe_of c.index-branches-k.result) (rows_of c.loop-k.all) _ u.within u.here (c.loop-k.invariant.1 S R).0 (u.means ∙ n)))
+
+pub run_branches-returns-in_err-made-clause-steps : goal.run_branches-returns-in_err-made-clause-steps
+run_branches-returns-in_err-made-clause-steps g t c = λ S R.
+    let u = branch-turn c.args.context.now c.args.root.now S c.args.branches.now c.args.frame.now c.in_ok-copy.field-0 c.loop-k.k c.index-branches-k.result R c.loop-k-test.true c.index-branches-k.is c.in_ok-copy.ensures.value in
+    let ran = c.held_after.ensures.steps S u.shape u.runs in
+    let left = (c.loop-k.invariant.1 S R).1 in
+    let next = u.costs in
+    let long = ap length c.in_ok-copy.ensures.value in
+    let p = err_from_is_err_and c.from_residual-in_err-made.result c.from_residual-in_err-made.ensures.1 in
+    rw p.1 (omega (arith, left, next, long, ran))
+
+pub run_branches-returns-in_err-copy-clause-steps : goal.run_branches-returns-in_err-copy-clause-steps
+run_branches-returns-in_err-copy-clause-steps g t c = λ S R.
+    let left = (c.loop-k.invariant.1 S R).1 in
+    let p = err_from_is_err_and c.from_residual.result c.from_residual.ensures.1 in
+    rw p.1 (omega (arith, left))
+
+pub run_branches-returns-in_err-all-clause-steps : goal.run_branches-returns-in_err-all-clause-steps
+run_branches-returns-in_err-all-clause-steps g t c = λ S R.
+    let u = branch-turn c.args.context.now c.args.root.now S c.args.branches.now c.args.frame.now c.in_ok-copy.field-0 c.loop-k.k c.index-branches-k.result R c.loop-k-test.true c.index-branches-k.is c.in_ok-copy.ensures.value in
+    let ran = c.in_ok-made.ensures.steps S u.shape u.runs in
+    let left = (c.loop-k.invariant.1 S R).1 in
+    let next = u.costs in
+    let long = ap length c.in_ok-copy.ensures.value in
+    let both = c.joined_held.ensures.steps in
+    let p = err_from_is_err_and c.from_residual-in_err-all.result c.from_residual-in_err-all.ensures.1 in
+    rw p.1 (omega (arith, left, next, long, ran, both))
+
+pub run_branches-loop-k-init : goal.run_branches-loop-k-init
+run_branches-loop-k-init g t c = (
+  omega arith,
+  λ S R. (
+    begun _ ∙ ap (λ l. option_map (λ rest. l ++ rest) (joined (map (λ p. mean c.args.context.now.world (readings c.args.context.now.customs) S p c.args.frame.now) (map pipe_of c.args.branches.now)))) (sym c.none.ensures.value),
+    let nothing = ap length c.none.ensures.value in omega (arith, nothing),
+  ),
+)
+
+pub run_branches-loop-k-preserved : goal.run_branches-loop-k-preserved
+run_branches-loop-k-preserved g t c = (
+  omega (arith, c.held_after.ensures.grown, c.joined_held.ensures.grown, c.loop-k.invariant.0),
+  λ S R.
+      let x = c.args.context.now in
+      let f : Pipe → Outcome = λ p. mean x.world (readings x.customs) S p c.args.frame.now in
+      let u = branch-turn x c.args.root.now S c.args.branches.now c.args.frame.now c.in_ok-copy.field-0 c.loop-k.k c.index-branches-k.result R c.loop-k-test.true c.index-branches-k.is c.in_ok-copy.ensures.value in
+      let inv = c.loop-k.invariant.1 S R in
+      let ran = c.in_ok-made.ensures.steps S u.shape u.runs in
+      let left = inv.1 in
+      let next = u.costs in
+      let long = ap length c.in_ok-copy.ensures.value in
+      let joined_steps = c.in_ok-all.ensures.steps in (
+        next-joined f (map pipe_of c.args.branches.now) c.loop-k.k (pipe_of c.index-branches-k.result) (rows_of c.loop-k.all) _ (rows_of c.in_ok-made.made) u.within u.here inv.0 (u.means ∙ c.in_ok-made.ensures.mean S u.shape u.runs)
+            ∙ ap (λ xs. option_map (λ rest. xs ++ rest) (joined (map f (drop (c.loop-k.k + 1) (map pipe_of c.args.branches.now))))) (sym c.in_ok-all.ensures.rows),
+        omega (arith, left, next, long, ran, joined_steps),
+      ),
+)
+
+pub run_branches-returns-clause-mean : goal.run_branches-returns-clause-mean
+run_branches-returns-clause-mean g t c = λ S R.
+    let x = c.args.context.now in
+    let size = length-map c.args.branches.now pipe_of in
+    last-joined (λ p. mean x.world (readings x.customs) S p c.args.frame.now) (map pipe_of c.args.branches.now) c.loop-k.k (rows_of c.loop-k.all) _ (omega (arith, c.loop-k-test.false, size)) (c.loop-k.invariant.1 S R).0
+
+pub run_branches-returns-clause-steps : goal.run_branches-returns-clause-steps
+run_branches-returns-clause-steps g t c = λ S R.
+    let left = (c.loop-k.invariant.1 S R).1 in
+    omega (arith, left)

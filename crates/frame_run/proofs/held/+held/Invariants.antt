@@ -1,0 +1,33 @@
+use Rattle.std.proofs.Common.{◌≡◌, ◌+◌, ◌≤◌, ◌++◌, drop, map}
+use Rattle.std.specs.Prelude.{option_map, sum}
+use Rattle.apply_ast.specs.Trees.{pipe}
+use Rattle.apply_ast.specs.Views.{pipe_of, step_of}
+use Rattle.context_typing.specs.Readings.{readings}
+use Rattle.context_typing.specs.Shapes.{Shape}
+use Rattle.apply_meaning.specs.Meaning.{joined, mean}
+use Rattle.hier_states.specs.NamedHierarchies.{hierarchies}
+use Rattle.pipe_run.specs.Conditions.{AreReady, BranchesRun, RunsFrom}
+use Rattle.pipe_run.specs.Costs.{cost}
+use Rattle.pipe_run.proofs.ConcatLemmas.{branch_charge}
+use Rattle.frame_run.specs.HeldRows.{owed, rows_of}
+use Rattle.frame_run.proofs.held.+held.Given as goal
+
+-- the hierarchies of the rest are ready, for each shape on which the pipeline is typed there is one on which the rest is, with the same meaning and what is left to count, and the count has not fallen
+abbrev pub invariant-held_after-loop-i : goal.invariant-held_after-loop-i
+invariant-held_after-loop-i g l =
+    AreReady l.context (hierarchies (pipe (map step_of (drop l.i l.all))))
+    × ((S S' : Shape) → RunsFrom l.context l.fn.root S S' (pipe_of l.pipe) (rows_of l.fn.held)
+    → (T : Shape) × RunsFrom l.context l.root T S' (pipe (map step_of (drop l.i l.all))) (rows_of l.held)
+    × (mean l.context.world (readings l.context.customs) S (pipe_of l.pipe) (rows_of l.fn.held) ≡ mean l.context.world (readings l.context.customs) T (pipe (map step_of (drop l.i l.all))) (rows_of l.held))
+    × (l.steps + owed l.held + cost l.context.world (readings l.context.customs) T (pipe (map step_of (drop l.i l.all))) (rows_of l.held) ≤ l.fn.steps + owed l.fn.held + cost l.context.world (readings l.context.customs) S (pipe_of l.pipe) (rows_of l.fn.held)))
+    × (l.fn.steps ≤ l.steps)
+
+-- the count has not fallen, what was made and what the branches that are left give are what all give, and what is owed and what is left cost what all do
+abbrev pub invariant-run_branches-loop-k : goal.invariant-run_branches-loop-k
+invariant-run_branches-loop-k g l =
+    (l.fn.steps ≤ l.steps)
+    × ((S : Shape) → BranchesRun l.context l.root S (map pipe_of l.branches) l.frame
+    → (joined (map (λ p. mean l.context.world (readings l.context.customs) S p l.frame) (map pipe_of l.branches))
+    ≡ option_map (λ rest. rows_of l.all ++ rest) (joined (map (λ p. mean l.context.world (readings l.context.customs) S p l.frame) (drop l.k (map pipe_of l.branches)))))
+    × (l.steps + owed l.all + sum (map (branch_charge l.context.world (readings l.context.customs) S l.frame) (drop l.k (map pipe_of l.branches)))
+    ≤ l.fn.steps + sum (map (branch_charge l.context.world (readings l.context.customs) S l.frame) (map pipe_of l.branches))))

@@ -1,0 +1,8 @@
+use Rattle.std.proofs.Common.{◌≡◌, drop, map}
+use Rattle.std.specs.List.{list_any}
+use Rattle.edm_values.specs.Values.{is_beyond, seen_value}
+use Rattle.group_rollup.proofs.row_keys.column_has_beyond.Given as goal
+
+-- what is past its range is left
+abbrev pub invariant-loop-value : goal.invariant-loop-value
+invariant-loop-value l = list_any is_beyond (map seen_value l.column) ≡ list_any is_beyond (map seen_value (drop l.value-index l.column))

@@ -1,9 +1,0 @@
-use Rattle.std.proofs.Common.{arith}
-use Rattle.row_frames.specs.Frames.{IsKeyReaderOf}
-use Rattle.row_frames.proofs.FrameLemmas.{more-readers}
-use Rattle.row_frames.proofs.keys.key_readers_of.Goals as goal
-
-pub loop-table-preserved : goal.loop-table-preserved
-loop-table-preserved c =
-    more-readers _ (IsKeyReaderOf c.args.store.now c.args.paths.now) c.args.tables.now c.loop-table.readers.items c.push.new.self.items c.loop-table.table-index c.table-item.result c.in_ok-key_reader.field-0
-    c.loop-table.invariant (omega arith) c.table-item.is c.in_ok-key_reader.ensures.table c.in_ok-key_reader.ensures.bound c.in_ok-push.ensures.items

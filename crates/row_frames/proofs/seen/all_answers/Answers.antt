@@ -1,0 +1,15 @@
+use Rattle.std.proofs.Common.{◌≡◌, map, refl}
+use Rattle.std.proofs.lemmas.List.{map-append}
+use Rattle.std.proofs.lemmas.Result.{IfOk-weaker}
+use Rattle.edm_values.specs.declared.Seen.{Seen}
+use Rattle.row_frames.specs.Answers.{answer_of}
+use Rattle.row_frames.specs.Frames.{read_at, AreAnswers}
+use Rattle.row_frames.proofs.PartLemmas.{parts-whole}
+use Rattle.row_frames.proofs.seen.all_answers.Goals as goal
+
+pub returns : goal.returns
+returns g c =
+    let rs = c.args.readers.now in
+    let xs = c.args.picks.now in
+    IfOk-weaker c.whole.result _ (λ vs. AreAnswers rs xs (vs.items))
+    (λ vs h. record { answers = parts-whole _ (λ l. l) refl (λ a b. refl) (λ x. answer_of (read_at rs x)) (AreAnswers rs) (λ part ys p. p.answers) c.part_len-len.result xs c.in_ok-parts.parts.items h.0 vs.items c.part_len-len.ensures c.in_ok-parts.ensures h.1 h.2 }) c.whole.ensures

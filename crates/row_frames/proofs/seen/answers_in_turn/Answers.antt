@@ -1,0 +1,10 @@
+use Rattle.std.proofs.Common.{◌∙◌, ap, arith, map}
+use Rattle.std.proofs.lemmas.List.{take_all}
+use Rattle.row_frames.specs.Answers.{answer_of}
+use Rattle.row_frames.specs.Frames.{read_at}
+use Rattle.row_frames.proofs.seen.answers_in_turn.Goals as goal
+
+pub returns : goal.returns
+returns c =
+    let rs = c.args.readers.now in
+    record { answers = c.loop-pick.invariant ∙ ap (map (λ x. answer_of (read_at rs x))) (take_all c.loop-pick.pick-index c.args.picks.now (omega arith)) }

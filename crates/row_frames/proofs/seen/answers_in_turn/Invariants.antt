@@ -1,0 +1,8 @@
+use Rattle.std.proofs.Common.{◌≡◌, map, take}
+use Rattle.row_frames.specs.Answers.{answer_of}
+use Rattle.row_frames.specs.Frames.{read_at}
+use Rattle.row_frames.proofs.seen.answers_in_turn.Given as goal
+
+-- those so far
+abbrev pub invariant-loop-pick : goal.invariant-loop-pick
+invariant-loop-pick l = l.found.items ≡ map (λ x. answer_of (read_at l.readers x)) (take l.pick-index l.picks)

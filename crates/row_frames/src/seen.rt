@@ -1,0 +1,201 @@
+//! Values in the rows that are picked, and whether these are true, worked out by several threads.
+ghost use Rattle.std.specs.Prelude.{◌≡◌, ◌<◌, IfOk, map};
+ghost use Rattle.std.specs.List.{All, AllZip};
+ghost use Rattle.edm_values.specs.Values.{seen_value};
+ghost use Rattle.rayon.specs.Lists.{chunks_of};
+ghost use Rattle.row_frames.specs.Answers.{answer_of};
+ghost use Rattle.row_frames.specs.Frames as spec;
+
+use crate::parts::{is_one_part, part_len, whole};
+use crate::readers::{TableReader, value_of};
+use crate::tables::Pick;
+use edm_values::{Seen, Value};
+use rayon::prelude::*;
+use std::alloc::{AllocError, Global};
+use std::thread::Threads;
+
+/// The value in each row that is picked, one after the other.
+pub(crate) fn seen_in_turn<'a>(
+    alloc: Global,
+    readers: &[TableReader<'a>],
+    picks: &[Pick],
+) -> Result<Vec<Seen<'a>>, AllocError>
+    requires { All (spec.IsReadable readers.now) picks.now }
+    ensures { IfOk result (λ vs. spec.AreRead readers.now picks.now (map (λ v. seen_value v) vs.items)) }
+{
+    let mut found = Vec::with_capacity(alloc, picks.len())?;
+    for pick in picks {
+        found.push(value_of(readers, *pick))?;
+    }
+    Ok(found)
+}
+
+/// The same of each part of the picks, or that memory was wanting for it.
+fn seen_in_parts<'a, R: Threads + Sync>(
+    rt: &R,
+    alloc: Global,
+    readers: &[TableReader<'a>],
+    picks: &[Pick],
+    len: usize,
+) -> Result<Vec<Result<Vec<Seen<'a>>, AllocError>>, AllocError>
+    requires some { 0 < len }
+    requires readable { All (spec.IsReadable readers.now) picks.now }
+    ensures { IfOk result (λ rs. AllZip (λ part r. IfOk r (λ vs. spec.AreRead readers.now part (map (λ v. seen_value v) vs.items))) (chunks_of len picks.now) rs.items) }
+{
+    picks
+        .par_chunks(len)
+        .map(
+            |part: &[Pick]| -> Result<Vec<Seen>, AllocError>
+                requires { All (spec.IsReadable readers.now) part.now }
+                ensures { IfOk result (λ vs. spec.AreRead readers.entry.now part.now (map (λ v. seen_value v) vs.items)) }
+            { seen_in_turn(alloc, readers, part) },
+        )
+        .collect(rt, alloc)
+}
+
+/// The value in each row that is picked. The picks may be cut into so many parts, each for a thread of its own.
+pub(crate) fn all_seen<'a, R: Threads + Sync>(
+    rt: &R,
+    alloc: Global,
+    readers: &[TableReader<'a>],
+    picks: &[Pick],
+    workers: u32,
+) -> Result<Vec<Seen<'a>>, AllocError>
+    requires readable { All (spec.IsReadable readers.now) picks.now }
+    ensures { IfOk result (λ vs. spec.AreRead readers.now picks.now (map (λ v. seen_value v) vs.items)) }
+{
+    if is_one_part(picks.len(), workers) {
+        return seen_in_turn(alloc, readers, picks);
+    }
+    let len = part_len(picks.len(), workers);
+    let parts = seen_in_parts(rt, alloc, readers, picks, len)?;
+    whole(alloc, picks.len(), parts)
+}
+
+/// The value, with a copy of its text, in each row that is picked, one after the other.
+pub(crate) fn values_in_turn(
+    alloc: Global,
+    readers: &[TableReader<'_>],
+    picks: &[Pick],
+) -> Result<Vec<Value>, AllocError>
+    requires { All (spec.IsReadable readers.now) picks.now }
+    ensures { IfOk result (λ vs. spec.AreRead readers.now picks.now vs.items) }
+{
+    let mut found = Vec::with_capacity(alloc, picks.len())?;
+    for pick in picks {
+        found.push(value_of(readers, *pick).own(alloc)?)?;
+    }
+    Ok(found)
+}
+
+/// The same of each part of the picks, or that memory was wanting for it.
+fn values_in_parts<R: Threads + Sync>(
+    rt: &R,
+    alloc: Global,
+    readers: &[TableReader<'_>],
+    picks: &[Pick],
+    len: usize,
+) -> Result<Vec<Result<Vec<Value>, AllocError>>, AllocError>
+    requires some { 0 < len }
+    requires readable { All (spec.IsReadable readers.now) picks.now }
+    ensures { IfOk result (λ rs. AllZip (λ part r. IfOk r (λ vs. spec.AreRead readers.now part vs.items)) (chunks_of len picks.now) rs.items) }
+{
+    picks
+        .par_chunks(len)
+        .map(
+            |part: &[Pick]| -> Result<Vec<Value>, AllocError>
+                requires { All (spec.IsReadable readers.now) part.now }
+                ensures { IfOk result (λ vs. spec.AreRead readers.entry.now part.now vs.items) }
+            { values_in_turn(alloc, readers, part) },
+        )
+        .collect(rt, alloc)
+}
+
+/// The value, with a copy of its text, in each row that is picked. The picks may be cut into so many parts, each for a thread of its own.
+pub(crate) fn all_values<R: Threads + Sync>(
+    rt: &R,
+    alloc: Global,
+    readers: &[TableReader<'_>],
+    picks: &[Pick],
+    workers: u32,
+) -> Result<Vec<Value>, AllocError>
+    requires readable { All (spec.IsReadable readers.now) picks.now }
+    ensures { IfOk result (λ vs. spec.AreRead readers.now picks.now vs.items) }
+{
+    if is_one_part(picks.len(), workers) {
+        return values_in_turn(alloc, readers, picks);
+    }
+    let len = part_len(picks.len(), workers);
+    let parts = values_in_parts(rt, alloc, readers, picks, len)?;
+    whole(alloc, picks.len(), parts)
+}
+
+/// Whether the value in the row that is picked is true; none where it is past its range.
+fn answer(readers: &[TableReader<'_>], pick: Pick) -> Option<bool>
+    requires { spec.IsReadable readers.now pick }
+    ensures { result ≡ answer_of (spec.read_at readers.now pick) }
+{
+    match value_of(readers, pick) {
+        Seen::Beyond => None,
+        Seen::Bool(b) => Some(b),
+        _ => Some(false),
+    }
+}
+
+/// Whether the value is true, and none where it is past its range, in each row that is picked, one after the other.
+pub(crate) fn answers_in_turn(
+    alloc: Global,
+    readers: &[TableReader<'_>],
+    picks: &[Pick],
+) -> Result<Vec<Option<bool>>, AllocError>
+    requires { All (spec.IsReadable readers.now) picks.now }
+    ensures { IfOk result (λ vs. spec.AreAnswers readers.now picks.now vs.items) }
+{
+    let mut found = Vec::with_capacity(alloc, picks.len())?;
+    for pick in picks {
+        found.push(answer(readers, *pick))?;
+    }
+    Ok(found)
+}
+
+/// The same of each part of the picks, or that memory was wanting for it.
+fn answers_in_parts<R: Threads + Sync>(
+    rt: &R,
+    alloc: Global,
+    readers: &[TableReader<'_>],
+    picks: &[Pick],
+    len: usize,
+) -> Result<Vec<Result<Vec<Option<bool>>, AllocError>>, AllocError>
+    requires some { 0 < len }
+    requires readable { All (spec.IsReadable readers.now) picks.now }
+    ensures { IfOk result (λ rs. AllZip (λ part r. IfOk r (λ vs. spec.AreAnswers readers.now part vs.items)) (chunks_of len picks.now) rs.items) }
+{
+    picks
+        .par_chunks(len)
+        .map(
+            |part: &[Pick]| -> Result<Vec<Option<bool>>, AllocError>
+                requires { All (spec.IsReadable readers.now) part.now }
+                ensures { IfOk result (λ vs. spec.AreAnswers readers.entry.now part.now vs.items) }
+            { answers_in_turn(alloc, readers, part) },
+        )
+        .collect(rt, alloc)
+}
+
+/// Whether the value is true, and none where it is past its range, in each row that is picked. The picks may be cut into so many parts, each for a thread of its own.
+pub(crate) fn all_answers<R: Threads + Sync>(
+    rt: &R,
+    alloc: Global,
+    readers: &[TableReader<'_>],
+    picks: &[Pick],
+    workers: u32,
+) -> Result<Vec<Option<bool>>, AllocError>
+    requires readable { All (spec.IsReadable readers.now) picks.now }
+    ensures { IfOk result (λ vs. spec.AreAnswers readers.now picks.now vs.items) }
+{
+    if is_one_part(picks.len(), workers) {
+        return answers_in_turn(alloc, readers, picks);
+    }
+    let len = part_len(picks.len(), workers);
+    let parts = answers_in_parts(rt, alloc, readers, picks, len)?;
+    whole(alloc, picks.len(), parts)
+}
