@@ -2,8 +2,8 @@
 //!
 //! `worlds` has the files and lines that tests share, and `run_support` runs the service over them; `lines` has requests with their
 //! responses, `plans` requests for plans, `files` refused files with their lines, `words` the words of the command, `modes`
-//! what each mode writes, `sizes` requests over many rows, `deep` a hierarchy as deep as it has nodes, `workers` runs with several of them, `ends` how runs end, and `hostile` files
-//! and lines that are made to hurt.
+//! what each mode writes, `sizes` requests over many rows, `deep` a hierarchy as deep as it has nodes, `workers` runs with several of them, `ends` how runs end, `outside` the outside that
+//! fails while requests of every form are answered, and `hostile` files and lines that are made to hurt.
 #![tactic(auto)]
 
 #[cfg(test)]
@@ -18,6 +18,8 @@ mod hostile;
 mod lines;
 #[cfg(test)]
 mod modes;
+#[cfg(test)]
+mod outside;
 #[cfg(test)]
 mod plans;
 #[cfg(test)]

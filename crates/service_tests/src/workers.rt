@@ -1,5 +1,5 @@
 //! Runs with several workers.
-use crate::worlds::PLAIN;
+use crate::worlds::{DEFINITION, PLAIN};
 use apply_service::Status;
 use run_support::{Case, outcome, outcome_at, outcome_of, texts};
 use sample_data::gen_data;
@@ -7,18 +7,28 @@ use std::test::Fail;
 use test_support::meetings::Meeting;
 use test_support::samples::{SALES_DATA, SAMPLE};
 
-/// One request for each kind of stage that folds in pieces.
-const STAGES: [&str; 5] = [
-    "Sales?$apply=aggregate(Amount with sum as Total)\n",
-    "Sales?$apply=aggregate(Best)\n",
-    "Sales?$apply=groupby((OrgID))\n",
-    "Sales?$apply=groupby((rollup($all,OrgID)))\n",
-    "Sales?$apply=groupby((rolluprecursive($root/Orgs,OrgTree,OrgID)))\n",
+/// A request for each kind of stage that folds in pieces, and how many pieces of its folds are not alone with two workers: two of
+/// each fold, of which the custom aggregate has one by its customers and one over their totals.
+const STAGES: [(&str, u64); 8] = [
+    ("Sales?$apply=aggregate(Amount with sum as Total)\n", 2),
+    ("Sales?$apply=aggregate(Amount with min as Least)\n", 2),
+    ("Sales?$apply=aggregate(Amount with max as Most)\n", 2),
+    (
+        "Sales?$apply=aggregate(OrgID with countdistinct as Orgs)\n",
+        2,
+    ),
+    ("Sales?$apply=aggregate(Best)\n", 4),
+    ("Sales?$apply=groupby((OrgID))\n", 2),
+    ("Sales?$apply=groupby((rollup($all,OrgID)))\n", 2),
+    (
+        "Sales?$apply=groupby((rolluprecursive($root/Orgs,OrgTree,OrgID)))\n",
+        2,
+    ),
 ];
 
 #[test]
 fn two_pieces_of_each_stage_are_under_way_together(rt: HostRuntime) -> Result<(), Fail> {
-    for line in STAGES {
+    for (line, shared) in STAGES {
         let gate = Meeting::new();
         let case = Case {
             words: &["--workers", "2"],
@@ -30,7 +40,29 @@ fn two_pieces_of_each_stage_are_under_way_together(rt: HostRuntime) -> Result<()
         let ran = outcome_at(&rt, rt.alloc(), &case, &gate)?;
         assert_eq!(rt; ran.status, Status::Served);
         assert!(rt; gate.met(), "no two pieces of {line}");
+        assert_eq!(rt; gate.shared(), shared, "pieces of {line}");
     }
+    Ok(())
+}
+
+#[test]
+fn two_pieces_of_a_custom_aggregate_without_groups_are_under_way_together(
+    rt: HostRuntime,
+) -> Result<(), Fail> {
+    let alloc = rt.alloc();
+    let model = SAMPLE.replace(alloc, DEFINITION, "{\"Of\":\"Amount\",\"With\":\"sum\"}")?;
+    let gate = Meeting::new();
+    let case = Case {
+        words: &["--workers", "2"],
+        model: model.as_str(),
+        data: SALES_DATA,
+        input: b"Sales?$apply=aggregate(Best)\n",
+        ..PLAIN
+    };
+    let ran = outcome_at(&rt, alloc, &case, &gate)?;
+    assert_eq!(rt; ran.status, Status::Served);
+    assert!(rt; gate.met(), "a piece waited in vain for the other one");
+    assert_eq!(rt; gate.shared(), 2);
     Ok(())
 }
 
