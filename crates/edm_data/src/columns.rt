@@ -38,6 +38,7 @@ impl Column {
     }
 
     /// The value at a place, and null past the end.
+    #[inline(always)]
     pub(crate) fn get(&self, place: u32) -> Seen<'_>
         ensures { seen_value result ≡ value_in self.now place }
     {

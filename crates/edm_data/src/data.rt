@@ -1,15 +1,18 @@
 //! Loaded data and its readers.
-ghost use Rattle.std.specs.Prelude.{◌≡◌, map, IfOk, OnOk, IfErr};
+ghost use Rattle.std.specs.Prelude.{◌≡◌, ℕ, map, option_map, IfOk, OnOk, IfErr};
 ghost use Rattle.edm_model.specs.LookUps.{IsSet, IsNavigation, set_type};
-ghost use Rattle.edm_values.specs.Values.{seen_value};
+ghost use Rattle.edm_values.specs.Values.{seen_value, value_in};
 ghost use Rattle.edm_data.specs.DataFile.{keys_reading, references_reading, World'};
 ghost use Rattle.edm_data.specs.Fitting.{FitsModel};
+ghost use Rattle.edm_data.specs.LinkLists.{link_in};
 ghost use Rattle.edm_data.specs.Links.{IsGroup};
 ghost use Rattle.edm_data.specs.References as world;
 ghost use Rattle.edm_data.specs.Refusals.{Tells};
 ghost use Rattle.edm_data.specs.Worlds.{entity_at};
 
 use crate::keyed::Keyed;
+use crate::linked_places::LinkedPlaces;
+use crate::property_values::PropertyValues;
 use crate::references::all_relations;
 use crate::relations::{Relations, relation_of};
 use crate::{DataRefused, EntityRef};
@@ -69,6 +72,20 @@ impl Data {
         ensures value { seen_value result ≡ world.property self.now e p.at }
     {
         self.keyed.tables().value(e, p.place())
+    }
+
+    /// The values of a property of a set's entities. No value is copied.
+    pub fn values(&self, s: SetId, p: PropId) -> PropertyValues<'_>
+        ensures value { (k : ℕ) → value_in result k ≡ world.property self.now (entity_at s k) p.at }
+    {
+        PropertyValues::of(self.keyed.tables().column(s, p.place()))
+    }
+
+    /// What a set's entities refer to by a single-valued navigation property; by a collection-valued one, nothing.
+    pub fn linked_places(&self, s: SetId, n: NavId) -> LinkedPlaces<'_>
+        ensures value { (k : ℕ) → link_in result k ≡ option_map (λ e. e.at) (world.follow self.now (entity_at s k) n.at) }
+    {
+        LinkedPlaces::of(relation_of(&self.relations, s, n.place()))
     }
 
     /// What an entity refers to by a single-valued navigation property; by a collection-valued one, nothing.

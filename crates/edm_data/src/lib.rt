@@ -1,7 +1,9 @@
 //! Data files: the entities of a model's sets, and the references between them.
 //!
 //! `read_data` reads a JSON file over a model and gives its `Data`, or the first fault that the file has. `Data` answers
-//! which value an entity has, which entity has a key, what an entity refers to, and what it is related to.
+//! which value an entity has, which entity has a key, what an entity refers to, and what it is related to. `PropertyValues` has
+//! the values of one property of a set's entities, and `LinkedPlaces` what they refer to by one navigation property, for those who
+//! read many.
 //! `docs/data-file.md` states the form of a file.
 //!
 //! The crate stands on `edm_model` for models, on `edm_values` for values and their order, and on `serde_json`.
@@ -19,9 +21,11 @@ mod json_values;
 mod key_order;
 mod keyed;
 mod keys;
+mod linked_places;
 mod links;
 mod load;
 mod places;
+mod property_values;
 mod references;
 mod relations;
 mod table;
@@ -35,7 +39,9 @@ pub use data::Data;
 use edm_model::SetId;
 use edm_values::Text;
 pub use entities::{is_known_member, property_value, set_items};
+pub use linked_places::LinkedPlaces;
 pub use load::{DATA_LIMIT, read_data};
+pub use property_values::PropertyValues;
 use std::alloc::{AllocError, AllocFailed};
 use std::marker::Model;
 use thiserror::Error;

@@ -45,6 +45,7 @@ impl Links {
     }
 
     /// The place of what the entity at a place refers to.
+    #[inline(always)]
     pub(crate) fn get(&self, place: u32) -> Option<u32>
         ensures { result ≡ unwrap_or (slice_get self.now place) None }
     {

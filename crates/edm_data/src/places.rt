@@ -38,7 +38,19 @@ impl Places {
         self.list.len()
     }
 
+    /// Where this place stands among them, found in the halves of the list.
+    #[inline(never)]
+    fn searched(&self, place: u32) -> Option<usize>
+        ensures { result ≡ position (nat_eq place) self.now }
+    {
+        match self.list.as_slice().binary_search(&place) {
+            Ok(found) => Some(found),
+            Err(_) => None,
+        }
+    }
+
     /// Where this place stands among them. It is looked for first where it stands if no place before it is left out.
+    #[inline(always)]
     pub(crate) fn find(&self, place: u32) -> Option<usize>
         ensures { result ≡ position (nat_eq place) self.now }
     {
@@ -46,10 +58,7 @@ impl Places {
         if first < self.list.len() && self.list[first] == place {
             return Some(first);
         }
-        match self.list.as_slice().binary_search(&place) {
-            Ok(found) => Some(found),
-            Err(_) => None,
-        }
+        self.searched(place)
     }
 
     /// A copy that takes no more room than it needs.

@@ -59,6 +59,14 @@ impl Relation {
         self.property == property && self.target == target
     }
 
+    /// The place of what the entity at a place refers to.
+    #[inline(always)]
+    pub(crate) fn place(&self, at: u32) -> Option<u32>
+        ensures { result ≡ link_in self.now.links at }
+    {
+        self.links.get(at)
+    }
+
     /// What the entity at a place refers to.
     pub(crate) fn follow(&self, at: u32) -> Option<EntityRef>
         ensures { result ≡ option_map (entity_at self.now.target) (link_in self.now.links at) }

@@ -1,7 +1,8 @@
 //! The entities of a set, by column.
-ghost use Rattle.std.specs.Prelude.{◌≡◌, ◌<◌, ◌+◌, ◌^◌, [], ◌∷◌, ◌++◌, length, map, slice_get, unwrap_or, IfOk};
+ghost use Rattle.std.specs.Prelude.{◌≡◌, ℕ, ◌<◌, ◌+◌, ◌^◌, [], ◌∷◌, ◌++◌, length, map, option_map, slice_get, unwrap_or, IfOk};
 ghost use Rattle.edm_values.specs.Values.{seen_value, value_in};
 ghost use Rattle.edm_data.specs.Columns.{AreColumns};
+ghost use Rattle.edm_data.specs.Readers.{seen_column};
 
 use crate::columns::Column;
 use edm_values::Seen;
@@ -39,6 +40,17 @@ impl Table {
         ensures { result ≡ length self.now.rows }
     {
         self.count
+    }
+
+    /// The column at a place.
+    pub(crate) fn column(&self, place: usize) -> Option<&Column>
+        ensures { (k : ℕ) → value_in (seen_column (option_map (λ c. c.now) result)) k ≡ value_in (unwrap_or (slice_get self.now.rows k) []) place }
+    {
+        if place < self.columns.len() {
+            Some(&self.columns[place])
+        } else {
+            None
+        }
     }
 
     /// The value at a place of a row, and null where there is none.

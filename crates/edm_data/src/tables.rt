@@ -1,12 +1,15 @@
 //! The entities of the sets, as lists of values.
-ghost use Rattle.std.specs.Prelude.{◌≡◌, ◌<◌, ◌^◌, length, map, IfOk};
+ghost use Rattle.std.specs.Prelude.{◌≡◌, ℕ, ◌<◌, ◌^◌, length, map, option_map, IfOk};
 ghost use Rattle.edm_model.specs.LookUps.{IsSet, IsType, key_at, parts, navigations_of, set_type};
-ghost use Rattle.edm_values.specs.Values.{seen_value};
+ghost use Rattle.edm_values.specs.Values.{seen_value, value_in};
+ghost use Rattle.edm_data.specs.Readers.{seen_column};
 ghost use Rattle.edm_data.specs.Fitting.{FitsModel};
 ghost use Rattle.edm_data.specs.References as world;
 ghost use Rattle.edm_data.specs.Rows.{world_in};
+ghost use Rattle.edm_data.specs.Worlds.{entity_at};
 
 use crate::EntityRef;
+use crate::columns::Column;
 use crate::keys::Key;
 use crate::table::Table;
 use edm_model::{NavId, SetId};
@@ -82,6 +85,16 @@ impl Tables {
         match self.sets.get(e.set.place()) {
             Some(table) => table.value(e.at, place),
             None => Seen::Null,
+        }
+    }
+
+    /// The column of a set's values at a place.
+    pub(crate) fn column(&self, s: SetId, place: usize) -> Option<&Column>
+        ensures { (k : ℕ) → value_in (seen_column (option_map (λ c. c.now) result)) k ≡ world.property self.now (entity_at s k) place }
+    {
+        match self.sets.get(s.place()) {
+            Some(table) => table.column(place),
+            None => None,
         }
     }
 

@@ -47,6 +47,7 @@ impl Texts {
     }
 
     /// The text at a place.
+    #[inline(always)]
     pub(crate) fn get(&self, place: usize) -> &str
         requires { place < length self.now }
         ensures { result.now ≡ get_or self.now place [] }

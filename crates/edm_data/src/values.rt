@@ -63,6 +63,7 @@ impl Values {
     }
 
     /// The value at a place.
+    #[inline(always)]
     pub(crate) fn get(&self, place: usize) -> Seen<'_>
         requires { place < length self.now }
         ensures { seen_value result ≡ value_in self.now place }

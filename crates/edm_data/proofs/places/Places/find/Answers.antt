@@ -1,5 +1,5 @@
 use Rattle.std.proofs.Common.{◌≡◌, ◌<◌, length, get_or, sym, arith}
-use Rattle.edm_data.proofs.ColumnLemmas.{found-rising, found-search, none-search, read_at}
+use Rattle.edm_data.proofs.ColumnLemmas.{found-rising, read_at}
 use Rattle.edm_data.proofs.places.Places.find.Goals as goal
 
 pub returns-then-index-place : goal.returns-then-index-place
@@ -9,9 +9,3 @@ returns-then-index-place c =
     let within : k < length at = omega (arith, c.self.inside.list.ok.0) in
     let item : k ≡ get_or at k k = rw c.if-index-place.true at c.index.ensures in
     rw (← c.self.view_is) (sym (found-rising at k k c.self.invariant within (read_at at k k 0 within item)))
-
-pub returns-in-Ok : goal.returns-in-Ok
-returns-in-Ok c = rw (← c.self.view_is) (sym (found-search c.self.inside.list.items c.args.place c.in-Ok.found c.binary_search.result c.self.invariant c.in-Ok.is (rw c.as_slice.ensures.value at c.binary_search.ensures.position)))
-
-pub returns-in-Err : goal.returns-in-Err
-returns-in-Err c = rw (← c.self.view_is) (sym (none-search c.self.inside.list.items c.args.place c.in-Err.field-0 c.binary_search.result c.self.invariant c.in-Err.is (rw c.as_slice.ensures.value at c.binary_search.ensures.position)))
