@@ -1,9 +1,9 @@
 -- Picks at places.
-use Rattle.std.proofs.Common.{◌≡◌, ◌∙◌, ℕ, zero, suc, ◌+◌, ◌<◌, length, sym, refl, subst, ap, List, [], ◌∷◌, ◌++◌, map, get_or, take, drop, drop-cons, add-one, Option, Some, None, IsTrue, arith}
+use Rattle.std.proofs.Common.{◌≡◌, ◌∙◌, ℕ, suc, ◌+◌, ◌<◌, length, sym, refl, subst, ap, List, [], ◌∷◌, map, get_or, drop, drop-cons, add-one, Option, Some, None, IsTrue}
 use Rattle.std.specs.Prelude.{slice_get, option_map, nat_lt}
 use Rattle.std.specs.List.{All, list_all, cons_option}
 use Rattle.std.proofs.lemmas.Bool.{ltb-true}
-use Rattle.std.proofs.lemmas.List.{length-map, append_assoc}
+use Rattle.std.proofs.lemmas.List.{length-map}
 use Rattle.std.proofs.lemmas.List.Elements.{All-cons, All-nil, All-same, All-get_or}
 use Rattle.std.proofs.lemmas.Option.{slice_get-get_or, slice_get-map, slice_get_within, get_or_from_slice_get}
 use Rattle.edm_values.specs.Lists.{at_places}

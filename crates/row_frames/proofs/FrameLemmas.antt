@@ -1,24 +1,17 @@
 -- Picks of rows, and readers of tables.
-use Rattle.std.proofs.Common.{◌≡◌, ℕ, zero, suc, ◌+◌, ◌<◌, length, sym, refl, subst, ◌∙◌, ap, List, [], ◌∷◌, ◌++◌, map, take, get_or, arith, Option, Some, None, true, false, Bool, drop, add-one}
-use Rattle.std.specs.Prelude.{slice_get, filter, if◌then◌else◌, ◌||◌}
-use Rattle.std.proofs.Math.Seq.{drop-cons}
-use Rattle.edm_values.specs.Values.{is_value, is_beyond}
-use Rattle.apply_meaning.specs.Meaning.{key_list, values}
-use Rattle.apply_meaning.specs.Instances.{Instance}
-use Rattle.std.specs.List.{All, list_all, list_any}
+use Rattle.std.proofs.Common.{◌≡◌, ℕ, zero, suc, ◌+◌, ◌<◌, length, sym, refl, subst, ◌∙◌, ap, List, [], ◌∷◌, ◌++◌, map, take, get_or, arith, Some, true, drop}
+use Rattle.std.specs.Prelude.{slice_get}
+use Rattle.std.specs.List.{All, list_all}
 use Rattle.std.proofs.lemmas.Bool.{and_parts}
-use Rattle.std.proofs.lemmas.List.{length-map, map_more, take_more, map-append, take-map, drop-map}
-use Rattle.std.proofs.lemmas.List.Elements.{All-push, All-cons, All-nil, All-map, All-get_or, All-same, All-append, All-take, All-drop}
+use Rattle.std.proofs.lemmas.List.{length-map, take_more, map-append, take-map, drop-map}
+use Rattle.std.proofs.lemmas.List.Elements.{All-push, All-cons, All-nil, All-map, All-get_or, All-same, All-take, All-drop}
 use Rattle.edm_values.specs.Lists.{places}
-use Rattle.edm_values.specs.Names.{Path}
 use Rattle.edm_data.specs.Worlds.{World, entity_at}
-use Rattle.apply_ast.specs.Trees.{Expr}
-use Rattle.apply_meaning.specs.Instances.{entity_instance, lookup, val}
+use Rattle.apply_meaning.specs.Instances.{entity_instance}
 use Rattle.apply_meaning.specs.RowViews.{is_of}
 use Rattle.row_frames.specs.declared.tables.Table.{Table}
 use Rattle.row_frames.specs.declared.tables.Pick.{Pick}
-use Rattle.row_frames.specs.declared.readers.TableReader.{TableReader}
-use Rattle.row_frames.specs.Frames.{instance_at, picked, picked_in, first_pick, all_picked, IsTable, IsReader, IsReaderOf, bound_value}
+use Rattle.row_frames.specs.Frames.{instance_at, picked, picked_in, first_pick, all_picked, IsTable}
 
 -- one reader more
 pub more-readers : {R : Type 0} (table_of : R → Table) (IsOf : R → Type 0) (ts : List Table) (rs rs' : List R) (n : ℕ) (t : Table) (r : R)

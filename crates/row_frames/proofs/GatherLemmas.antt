@@ -1,5 +1,5 @@
 -- Tables that are made of rows of other tables, and picks in order.
-use Rattle.std.proofs.Common.{◌≡◌, ◌∙◌, ℕ, zero, suc, ◌+◌, ◌<◌, length, sym, refl, subst, ap, List, [], ◌∷◌, ◌++◌, map, get_or, drop, take, add-zero, Option, Some, None, IsTrue, true, arith}
+use Rattle.std.proofs.Common.{◌≡◌, ◌∙◌, ℕ, zero, suc, ◌+◌, ◌<◌, length, sym, refl, subst, ap, List, [], ◌∷◌, ◌++◌, map, get_or, drop, take, add-zero, Option, Some, None, true, arith}
 use Rattle.std.specs.Prelude.{slice_get, option_map, unwrap_or}
 use Rattle.std.specs.Arc.{arc_value}
 use Rattle.std.specs.List.{All, AllZip, list_all}
@@ -12,7 +12,7 @@ use Rattle.edm_values.specs.Lists.{is_nonempty, are_distinct}
 use Rattle.edm_values.specs.Names.{Path}
 use Rattle.edm_data.specs.Worlds.{Entity}
 use Rattle.context_typing.specs.Paths.{same_path}
-use Rattle.apply_meaning.specs.RowViews.{IsRow, columns_differ, have_paths, row_instance}
+use Rattle.apply_meaning.specs.RowViews.{IsRow, columns_differ, row_instance}
 use Rattle.row_frames.specs.declared.tables.Prefix.{Prefix}
 use Rattle.row_frames.specs.declared.tables.Column.{Column}
 use Rattle.row_frames.specs.declared.tables.Table.{Table}

@@ -1,19 +1,18 @@
 -- Names of navigation properties, from the entities of a set.
 use Rattle.std.proofs.Common.{◌≡◌, ℕ, zero, suc, ◌+◌, ◌<◌, refl, sym, ◌∙◌, ap, subst, List, [], ◌∷◌, ◌++◌, Option, Some, None, length, drop, drop-cons, take, get_or, add-one, arith, true, false, Bool}
-use Rattle.std.specs.Prelude.{IfSome, option_and_then, option_map, position, unwrap_or, if◌then◌else◌}
-use Rattle.edm_values.specs.declared.Value.{Value}
-use Rattle.edm_values.specs.Values.{is_null, same_value}
+use Rattle.std.specs.Prelude.{IfSome, option_and_then, option_map, if◌then◌else◌}
+use Rattle.edm_values.specs.Values.{is_null}
 use Rattle.edm_values.specs.Names.{Name, Path}
 use Rattle.edm_values.proofs.OptionFacts.{mapped}
-use Rattle.edm_model.specs.Models.{Model, Navigation, Part}
+use Rattle.edm_model.specs.Models.{Navigation, Part}
 use Rattle.edm_model.specs.LookUps.{IsSet, found_part, navigation_at, navigation_named, navigation_on, set_of_type, set_type}
 use Rattle.edm_data.specs.Worlds.{World, Entity, entity_at}
 use Rattle.edm_data.specs.References.{by_key, follow, property, referred}
 use Rattle.edm_data.proofs.ReferenceLemmas.{nav_same}
 use Rattle.context_typing.specs.Paths.{at_path}
-use Rattle.apply_meaning.specs.Instances.{Instance, named_reference, named_value, prefix_value, root_of, value_behind}
+use Rattle.apply_meaning.specs.Instances.{Instance, named_reference, prefix_value, value_behind}
 use Rattle.apply_meaning.proofs.LookupForms.{follow-named, front_value, front-root, front-shorter, fronts-whole}
-use Rattle.row_frames.specs.Hops.{IsHop, Lead, one_hop, property_in, reached}
+use Rattle.row_frames.specs.Hops.{IsHop, Lead, one_hop, reached}
 
 -- ---- one name
 

@@ -4,7 +4,6 @@ use Rattle.std.specs.Prelude.{slice_get}
 use Rattle.std.specs.List.{All, AllZip}
 use Rattle.std.proofs.lemmas.List.{map-append}
 use Rattle.std.proofs.lemmas.List.Elements.{All-append, All-cons, All-head, All-map, All-nil, All-same, All-tail, All-weaker, length_all_zip}
-use Rattle.apply_meaning.specs.Instances.{Instance}
 use Rattle.apply_meaning.specs.RowViews.{row_instance, IsRow}
 use Rattle.row_frames.specs.declared.tables.Table.{Table}
 use Rattle.row_frames.specs.declared.tables.Pick.{Pick}

@@ -1,14 +1,14 @@
 -- Elements of lists at places, and picks at places.
-use Rattle.std.proofs.Common.{◌≡◌, ℕ, zero, suc, ◌+◌, ◌<◌, true, refl, sym, ◌∙◌, ap, List, [], ◌∷◌, ◌++◌, Option, Some, None, length, map, drop, drop-cons, get_or, add-one, arith, IsTrue, append_assoc, subst}
+use Rattle.std.proofs.Common.{◌≡◌, ℕ, zero, suc, ◌+◌, ◌<◌, refl, sym, ◌∙◌, ap, List, [], ◌∷◌, ◌++◌, Option, Some, None, length, map, drop, drop-cons, get_or, add-one, arith, IsTrue, append_assoc, subst}
 use Rattle.std.specs.Prelude.{nat_lt, option_map, slice_get}
 use Rattle.std.specs.List.{All, cons_option, list_all}
 use Rattle.std.proofs.lemmas.Bool.{and_parts, ltb-true}
 use Rattle.std.proofs.lemmas.List.{get_or_default, length-map}
 use Rattle.std.proofs.lemmas.List.Elements.{All-cons, All-nil, All-get_or}
-use Rattle.std.proofs.lemmas.Option.{get_or_from_slice_get, slice_get-get_or, slice_get-map}
+use Rattle.std.proofs.lemmas.Option.{slice_get-get_or, slice_get-map}
 use Rattle.edm_values.specs.Lists.{at_places}
 use Rattle.edm_values.proofs.ListFacts.{all-at}
-use Rattle.apply_meaning.specs.Instances.{Instance, no_instance}
+use Rattle.apply_meaning.specs.Instances.{no_instance}
 use Rattle.row_frames.specs.declared.tables.Table.{Table}
 use Rattle.row_frames.specs.declared.tables.Pick.{Pick}
 use Rattle.row_frames.specs.Frames.{all_picked, picked}

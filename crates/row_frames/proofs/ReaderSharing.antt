@@ -11,8 +11,11 @@ use denote.Hole.Fix.{holes}
 use denote.Hole.FixLaws.{layer_row}
 use denote.Hole.FixSend.{fix_sync}
 use Rattle.edm_values.specs.contracts.Seen as seen_type
-use Rattle.row_frames.proofs.Sharing.{data-sync, path-sync, text-sync}
+use Rattle.edm_data.specs.contracts.linked_places.LinkedPlaces as links_type
+use Rattle.edm_data.specs.contracts.property_values.PropertyValues as values_type
+use Rattle.row_frames.proofs.Sharing.{column-sync, data-sync, path-sync, relation-sync, text-sync}
 use Rattle.row_frames.specs.contracts.tables.Table as table_type
+use Rattle.row_frames.specs.contracts.readers.Leaf as leaf_type
 use Rattle.row_frames.specs.contracts.readers.Bound as bound_type
 use Rattle.row_frames.specs.contracts.readers.Bound.TheKnot as knot
 use Rattle.row_frames.specs.contracts.readers.TableReader as reader_type
@@ -24,8 +27,17 @@ table-sync = search (sendable, crosses, maps.crosses, text-sync, path-sync) dept
 pub seen-sync : (a : NamedLft) → IsSync (seen_type.the_row a)
 seen-sync a = search (sendable, crosses, maps.crosses) depth 60 fits 20000
 
+pub values-sync : (a : NamedLft) → IsSync (values_type.the_row a)
+values-sync a = search (sendable, crosses, maps.crosses, column-sync) depth 60 fits 20000
+
+pub links-sync : (a : NamedLft) → IsSync (links_type.the_row a)
+links-sync a = search (sendable, crosses, maps.crosses, relation-sync) depth 60 fits 20000
+
+pub leaf-sync : (a : NamedLft) → IsSync (leaf_type.the_row a)
+leaf-sync a = search (sendable, crosses, maps.crosses, path-sync, seen-sync, values-sync, links-sync) depth 60 fits 20000
+
 layer-sync : (a : NamedLft) (h : the_members → RattleType) → ((j : the_members) → IsSync (h j)) → (i : the_members) → IsSync (layer_row (knot.ring a) i h)
-layer-sync a h all member-Bound = variants_sync (knot.type-Bound a (h member-Bound) (h member-Bound) (h member-Bound) (h member-Bound) (h member-Bound) (h member-Bound)) (search (sendable, crosses, maps.crosses, as_row_sync, variants_sync, path-sync, seen-sync, all) depth 60 fits 20000)
+layer-sync a h all member-Bound = variants_sync (knot.type-Bound a (h member-Bound) (h member-Bound) (h member-Bound) (h member-Bound) (h member-Bound) (h member-Bound)) (search (sendable, crosses, maps.crosses, as_row_sync, variants_sync, leaf-sync, all) depth 60 fits 20000)
 
 hole-sync : (a : NamedLft) (i : the_members) → IsSync (holes (knot.ring a) i)
 hole-sync a = fix_sync (knot.ring a) (λ i. record { sync = λ h all. layer-sync a h all i })

@@ -6,9 +6,10 @@ use Rattle.std.specs.Global.{Vec}
 use Rattle.std.specs.List.{All}
 use Rattle.edm_values.specs.declared.Value.{Value}
 use Rattle.edm_values.specs.declared.refusals.Refused.{Refused}
-use Rattle.edm_values.specs.Values.{seen_value, negated, negation}
+use Rattle.edm_values.specs.Values.{seen_value, negated, negation, value_in}
 use Rattle.edm_values.specs.Names.{Path}
 use Rattle.edm_values.specs.Refusals.{Returns}
+use Rattle.edm_data.specs.LinkLists.{link_in}
 use Rattle.edm_data.specs.Worlds.{World, Entity, entity_at}
 use Rattle.apply_ast.specs.declared.expressions.UnOp.TheVariants as UnOp
 use Rattle.apply_ast.specs.Trees.{Expr}
@@ -23,6 +24,8 @@ use Rattle.row_frames.specs.declared.tables.Prefix.{Prefix}
 use Rattle.row_frames.specs.declared.tables.Column.{Column}
 use Rattle.row_frames.specs.declared.tables.Table.{Table}
 use Rattle.row_frames.specs.declared.tables.Pick.{Pick}
+use Rattle.row_frames.specs.declared.readers.Leaf.{Leaf}
+use Rattle.row_frames.specs.declared.readers.Leaf.TheVariants as leaf
 use Rattle.row_frames.specs.declared.readers.Bound as of_bound
 use Rattle.row_frames.specs.declared.readers.Bound.TheVariants as bound
 use Rattle.row_frames.specs.declared.readers.TableReader.{TableReader}
@@ -92,12 +95,23 @@ abbrev pub cell_in : Option Column → ℕ → Value
 cell_in None k = Value.Null
 cell_in (Some c) k = (column_at k c).1
 
+-- the value of an entity that may be there, among those of its set
+abbrev pub value_at : List Value → Option ℕ → Value
+value_at vs None = Value.Null
+value_at vs (Some k) = value_in vs k
+
+-- the value of a leaf in a row of a table
+abbrev pub leaf_value : World → Table → ℕ → Leaf → Value
+leaf_value w t k (leaf.Literal v) = seen_value v
+leaf_value w t k (leaf.Column c) = cell_in (slice_get t.columns.items c) k
+leaf_value w t k (leaf.Own values) = value_in values (place_in t.roots k)
+leaf_value w t k (leaf.Linked links values) = value_at values (link_in links (place_in t.roots k))
+leaf_value w t k (leaf.Property hops p) = property_in w (reached w (root_at t.roots k) hops.items) p.at
+leaf_value w t k (leaf.Path p) = lookup w (instance_at t k) p.now
+
 -- the value of a bound expression in a row of a table
 abbrev pub bound_value : World → Table → ℕ → of_bound.Bound → Value
-bound_value w t k (bound.Literal v) = seen_value v
-bound_value w t k (bound.Column c) = cell_in (slice_get t.columns.items c) k
-bound_value w t k (bound.Property hops p) = property_in w (reached w (root_at t.roots k) hops.items) p.at
-bound_value w t k (bound.Path p) = lookup w (instance_at t k) p.now
+bound_value w t k (bound.Leaf l) = leaf_value w t k l
 bound_value w t k (bound.Unary' UnOp.Neg p a) = negated (bound_value w t k a)
 bound_value w t k (bound.Unary' UnOp.Not p a) = negation (bound_value w t k a)
 bound_value w t k (bound.Binary' op p a q b) = binary op (bound_value w t k a) (bound_value w t k b)

@@ -8,9 +8,11 @@
 //! new columns behind those of a table (`computed`), which first is made of the rows that are picked, where these are not all in
 //! their order (`gathered`). `copy` has the same tables, with the same lists, and `append` puts one frame behind another
 //! (`joined`). `readers` binds an expression or a path to each table once, so that its names are looked up once a table and not
-//! once a row, also those of navigation properties (`hops`); `lookups` finds a path's value name by name where that cannot be. What
-//! is bound is read in the rows that are picked by the thread that calls, or in parts of them by threads (`seen`, `parts`), which
-//! `rayon` starts: threads read the data, the tables and what is bound, and write nothing that is shared.
+//! once a row, also those of navigation properties (`hops`); `lookups` finds a path's value name by name where that cannot be. A
+//! property of a set's entities, or of what these refer to by one navigation property, is bound to its values, so that set and
+//! column are not looked up once a row either. What is bound is read in the rows that are picked by the thread that calls, or in
+//! parts of them by threads (`seen`, `parts`), which `rayon` starts: threads read the data, the tables and what is bound, and write
+//! nothing that is shared.
 //!
 //! The crate stands on `apply_meaning` for rows, the values of expressions and what a run returns, on `context_typing` and
 //! `apply_ast` for paths and expressions, and on `edm_data`, `edm_model` and `edm_values` for the data.

@@ -65,6 +65,18 @@ pub(crate) fn place_at(places: &[u32], k: u32) -> u32
     }
 }
 
+/// The place of a row's entity in its set.
+#[inline(always)]
+pub(crate) fn place_in(roots: &Roots, k: u32) -> u32
+    ensures { result ≡ spec.place_in roots.now k }
+{
+    match roots {
+        Roots::Without => k,
+        Roots::Whole(_) => k,
+        Roots::Listed(_, places) => place_at(places.as_slice(), k),
+    }
+}
+
 /// The entity at the empty prefix of a row.
 pub(crate) fn root_at(roots: &Roots, k: u32) -> Option<EntityRef>
     ensures { result ≡ spec.root_at roots.now k }

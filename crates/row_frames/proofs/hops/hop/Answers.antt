@@ -1,4 +1,4 @@
-use Rattle.std.proofs.Common.{◌≡◌, ◌∙◌, ap, sym}
+use Rattle.std.proofs.Common.{◌∙◌, ap, sym}
 use Rattle.std.specs.Prelude.{option_map}
 use Rattle.edm_model.specs.Models.{Navigation}
 use Rattle.edm_model.specs.LookUps.{found_part, navigation_named, navigation_on, set_of_type, set_type}

@@ -1,7 +1,5 @@
-use Rattle.std.proofs.Common.{◌≡◌, map, refl}
-use Rattle.std.proofs.lemmas.List.{map-append}
+use Rattle.std.proofs.Common.{refl}
 use Rattle.std.proofs.lemmas.Result.{IfOk-weaker}
-use Rattle.edm_values.specs.declared.Seen.{Seen}
 use Rattle.row_frames.specs.Frames.{read_at, AreRead}
 use Rattle.row_frames.proofs.PartLemmas.{parts-whole}
 use Rattle.row_frames.proofs.seen.all_values.Goals as goal

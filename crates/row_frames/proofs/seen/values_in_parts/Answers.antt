@@ -1,4 +1,4 @@
-use Rattle.std.proofs.Common.{◌≡◌, ◌∙◌, List, ap, arith, map, max, subst, sym}
+use Rattle.std.proofs.Common.{◌≡◌, ◌∙◌, List, ap, arith, max, subst, sym}
 use Rattle.std.specs.List.{AllZip}
 use Rattle.std.specs.Prelude.{IfOk}
 use Rattle.std.proofs.Crossing.{crosses, frees}

@@ -1,4 +1,4 @@
-use Rattle.std.proofs.Common.{◌≡◌, ◌∙◌, ◌∷◌, [], ◌<◌, List, ap, sym, subst, length, map, IsTrue, true}
+use Rattle.std.proofs.Common.{◌≡◌, ◌∙◌, ◌∷◌, [], ◌<◌, List, ap, sym, subst, map, true}
 use Rattle.std.specs.List.{All}
 use Rattle.apply_ast.specs.Views.{expr_of, named_of}
 use Rattle.apply_ast.specs.declared.items.Named as of_named
