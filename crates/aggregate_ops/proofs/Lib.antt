@@ -9,5 +9,6 @@ pub mod KindLemmas
 pub mod MergeLemmas
 pub mod NumberLemmas
 pub mod PartialLemmas
+pub mod PlacedLemmas
 pub mod SameLemmas
 pub mod SpanLemmas

@@ -189,6 +189,19 @@ fn spanned(alloc: Global, values: Vec<Value>, spans: Vec<Span>) -> Result<Vec<Gr
     Ok(groups)
 }
 
+/// The group of these places whose key has no values.
+fn whole_group(alloc: Global, places: Vec<usize>) -> Result<Group, AllocError>
+    ensures { IfOk result (λ g. g ≡ ([], places.items)) }
+{
+    let values = Arc::new(alloc, Vec::new(alloc))?;
+    let key = SharedKey {
+        values,
+        begin: 0,
+        end: 0,
+    };
+    Ok(Group { key, places })
+}
+
 /// The groups of a list of key lists: the distinct keys in order of first appearance, each with its places.
 #[derive(Drop)]
 pub struct Groups {
@@ -240,6 +253,19 @@ impl Groups {
             groups: spanned(alloc, values, spans)?,
             seed,
         })
+    }
+
+    /// The groups of key lists without values, which have these places: one of all places, or none where there is no place. No
+    /// list of places is copied.
+    pub fn whole(alloc: Global, places: Vec<usize>, seed: Seed) -> Result<Groups, AllocError>
+        ensures value { IfOk result (λ g. g ≡ groups_of (map (λ p. ([], p)) places.items)) }
+    {
+        let mut groups = Vec::new(alloc);
+        if places.is_empty() {
+            return Ok(Groups { groups, seed });
+        }
+        groups.push(whole_group(alloc, places)?)?;
+        Ok(Groups { groups, seed })
     }
 
     /// The groups of so many rows by the first values of their keys, made from these, their groups by all of them. Values of keys

@@ -2,12 +2,13 @@
 //!
 //! `SumOf`, `MinOf`, `MaxOf`, `DistinctOf` and `CountOf` are each a `Partial` over values: made for a type by `new`, given one
 //! value at a time or those of a later part, and ended by `finish`. `aggregate_values` folds a list of values by the partial of
-//! a method. `KeyPlaces` is a `Partial` over key lists with their hashes, which are borrowed from lists or from columns (`hashed`):
-//! by these it finds a key (`key_maps`). `KeyTable` is the same over plain key lists. `groups` and `into_groups` give its `Groups`,
-//! and `by_front` and `by_fronts` those by the first values of their keys (`fronts`), which share the keys. `DistinctValues` is to
-//! `DistinctOf` what `KeyPlaces` is to `KeyTable`. The hashes of a table begin with a `Seed` of the list that it is made for, so
-//! that no list of keys can be chosen whose hashes are all one (`seeds`). `sameness` tells whether values are the same, and
-//! `values` has what is asked of a single value, and copies of values.
+//! a method, and `aggregate_places` those of a list that stand at some places, where they stand (`placed_folds`). `KeyPlaces` is
+//! a `Partial` over key lists with their hashes, which are borrowed from lists or from columns (`hashed`): by these it finds a key
+//! (`key_maps`). `KeyTable` is the same over plain key lists. `groups` and `into_groups` give its `Groups`, `Groups::whole` has
+//! those of key lists without values, and `by_front` and `by_fronts` those by the first values of their keys (`fronts`), which
+//! share the keys. `DistinctValues` is to `DistinctOf` what `KeyPlaces` is to `KeyTable`. The hashes of a table begin with a
+//! `Seed` of the list that it is made for, so that no list of keys can be chosen whose hashes are all one (`seeds`). `sameness`
+//! tells whether values are the same, and `values` has what is asked of a single value, and copies of values.
 //!
 //! The crate stands on `par_stages` for folds, on `apply_meaning` for the meaning of aggregates and of groups, and on
 //! `edm_values` for values and their order.
@@ -29,6 +30,7 @@ mod key_maps;
 mod key_places;
 mod key_steps;
 mod key_tables;
+mod placed_folds;
 mod sameness;
 mod seeds;
 mod sums;
@@ -42,6 +44,7 @@ pub use groups::Groups;
 pub use hashed::{HashedKey, HashedValue, hashed_columns, hashed_keys, hashed_values};
 pub use key_places::KeyPlaces;
 pub use key_tables::KeyTable;
+pub use placed_folds::aggregate_places;
 pub use seeds::Seed;
 pub use sums::SumOf;
 pub use values::copies;

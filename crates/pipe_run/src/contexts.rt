@@ -19,7 +19,7 @@ ghost use Rattle.group_rollup.specs.Groupings.{groups, level_groups, GivesFor};
 ghost use Rattle.hier_states.specs.States.{IsReadyAt};
 ghost use Rattle.rollup_rec.specs.Rollups.{rolled, width_of};
 
-use aggregate_ops::{Groups, aggregate_values};
+use aggregate_ops::{Groups, aggregate_places, aggregate_values};
 use apply_ast::{Expr, HierName, Named, Path};
 use apply_meaning::{Row, RunRefused, Steps};
 use context_typing::Customs;
@@ -113,12 +113,14 @@ impl<'a, R: Threads + Sync, G: Gate> Context<'a, R, G> {
         self.workers == 1
     }
 
-    /// How many of the workers a list of n items is worth: two at least, where there are two.
+    /// How many of the workers a list of n items is worth. Of two workers both are asked for, however short the list, so that
+    /// it can be seen that a fold is cut; more of them leave a short list to one, since a thread costs more than it saves there.
     fn hands(&self, n: usize) -> u32
         ensures some { 0 < result }
         ensures few { result ≤ 64 }
     {
-        workers_for(n, 2, self.workers)
+        let least = if self.workers == 2 { 2 } else { 1 };
+        workers_for(n, least, self.workers)
     }
 
     /// What starts threads.
@@ -176,6 +178,9 @@ impl<'a, R: Threads + Sync, G: Gate> Context<'a, R, G> {
         requires kind { AreFoldable method (at_places values.now places.now) }
         ensures { IfOk result (λ v. v ≡ aggregates.aggregate method (at_places values.now places.now)) }
     {
+        if self.hands(places.len()) == 1 {
+            return aggregate_places(self.rt, alloc, method, values, places, self.gate);
+        }
         let own = copies_at(alloc, values, places)?;
         self.aggregate(alloc, method, own.as_slice())
     }
