@@ -1,13 +1,14 @@
 -- The groups at a node are those of its rows' key lists, the rows in their order.
-use Rattle.std.proofs.Common.{◌≡◌, ℕ, zero, suc, ◌+◌, ◌≤◌, Bool, true, false, cond, List, [], ◌∷◌, ◌++◌, length, filter, take, get_or, refl, sym, ap, ◌∙◌, arith, Option}
+use Rattle.std.proofs.Common.{◌≡◌, ℕ, zero, suc, ◌+◌, ◌≤◌, Bool, true, false, cond, List, [], ◌∷◌, ◌++◌, length, filter, map, take, get_or, refl, sym, ap, ◌∙◌, arith, Option}
 use Rattle.std.proofs.lemmas.List.{get_or_default, map-append, take_all}
-use Rattle.std.proofs.lemmas.List.Elements.{filter-append}
+use Rattle.std.specs.List.{All}
+use Rattle.std.proofs.lemmas.List.Elements.{All-head, All-tail, filter-append}
 use Rattle.edm_values.specs.declared.Value.{Value}
 use Rattle.edm_values.specs.Lists.{places}
 use Rattle.edm_data.specs.Hierarchies.{rows_under}
 use Rattle.par_stages.specs.Placed.{placed}
 use Rattle.par_stages.proofs.Places.{placed-more}
-use Rattle.aggregate_ops.specs.KeyTables.{groups_of}
+use Rattle.aggregate_ops.specs.KeyTables.{IsWide, groups_of}
 use Rattle.rollup_rec.specs.Rollups.{groups_under, is_row_under}
 use Rattle.rollup_rec.specs.RowTables.{keyed_rows}
 
@@ -37,3 +38,19 @@ groups-of_rows_under parents nodes keys x size =
     ∙ sym (passing-rows (is_row_under parents nodes x) keys (length keys) (omega arith))
     ∙ ap (λ l. filter (λ k. is_row_under parents nodes x k.1) (placed 0 l)) (take_all (length keys) keys (omega arith))
     )
+
+-- ---- key lists without values
+
+bare : (k : List Value) → length k ≡ 0 → k ≡ []
+bare [] e = refl
+bare (v ∷ k) e = absurd (omega arith)
+
+bare-at : (keys : List (List Value)) (r : ℕ) → All (IsWide 0) keys → get_or keys r [] ≡ []
+bare-at [] zero a = refl
+bare-at [] (suc r) a = refl
+bare-at (k ∷ keys) zero a = bare k (All-head (IsWide 0) k keys a)
+bare-at (k ∷ keys) (suc r) a = bare-at keys r (All-tail (IsWide 0) k keys a)
+
+pub keyless-rows : (keys : List (List Value)) (rows : List ℕ) → All (IsWide 0) keys → keyed_rows keys rows ≡ map (λ r. ([], r)) rows
+keyless-rows keys [] a = refl
+keyless-rows keys (r ∷ rows) a = λ i. (bare-at keys r a i, r) ∷ keyless-rows keys rows a i
