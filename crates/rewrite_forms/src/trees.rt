@@ -1,19 +1,29 @@
 //! Copies of steps, and of trees with one part changed.
-ghost use Rattle.std.specs.Prelude.{◌≡◌, ◌++◌, IfOk, OnOk, map, option_map};
+ghost use Rattle.std.specs.Prelude.{◌≡◌, ◌++◌, IfOk, OnErr, OnOk, map, option_map};
 ghost use Rattle.apply_ast.specs.Trees.{Step as tree};
 ghost use Rattle.apply_ast.specs.Views.{hier_of, pipe_of, step_of};
 
 use apply_ast::{ClimbStep, Pipe, Step};
 use std::alloc::{AllocError, Global};
 
-/// Puts copies of steps at the end of a list.
+/// Copies of steps.
+fn copies(alloc: Global, steps: &[Step]) -> Result<Vec<Step>, AllocError>
+    ensures { IfOk result (λ made. map step_of made.items ≡ map step_of steps.now) }
+{
+    let mut made = Vec::with_capacity(alloc, steps.len())?;
+    for step in steps {
+        made.push(step.copy(alloc)?)?;
+    }
+    Ok(made)
+}
+
+/// Puts copies of steps at the end of a list. After an `Err` the list is as before.
 pub fn put_copies(out: &mut Vec<Step>, alloc: Global, steps: &[Step]) -> Result<(), AllocError>
     ensures steps { OnOk result (map step_of out.new.items ≡ map step_of out.old.items ++ map step_of steps.now) }
+    ensures same { OnErr result (out.new.items ≡ out.old.items) }
 {
-    for step in steps {
-        out.push(step.copy(alloc)?)?;
-    }
-    Ok(())
+    let mut made = copies(alloc, steps)?;
+    out.append(&mut made)
 }
 
 /// The climb with another pipeline.
