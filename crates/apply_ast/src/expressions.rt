@@ -109,7 +109,7 @@ impl Fun2 {
 }
 
 /// An expression. Literals of the grammar have no sign: a number below zero is a `Neg` of one.
-#[derive(Debug, Drop)]
+#[derive(Drop)]
 #[cycle(expr)]
 pub enum Expr {
     Null,

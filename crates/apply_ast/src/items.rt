@@ -7,14 +7,14 @@ use edm_values::{Dec, Method};
 use std::marker::Model;
 
 /// An expression with the name that it gets.
-#[derive(Debug, Drop)]
+#[derive(Drop)]
 pub struct Named {
     pub expr: Expr,
     pub name: Name,
 }
 
 /// The items of a `compute`.
-#[derive(Debug, Drop)]
+#[derive(Drop)]
 pub struct NamedList {
     pub(crate) all: Vec<Named>,
 }
@@ -56,14 +56,14 @@ impl NamedList {
 }
 
 /// An item of an order: ascending, or descending where `desc` is true.
-#[derive(Debug, Drop)]
+#[derive(Drop)]
 pub struct OrderItem {
     pub expr: Expr,
     pub desc: bool,
 }
 
 /// The items of an `orderby` or a `traverse`, from the first that decides to the last.
-#[derive(Debug, Drop)]
+#[derive(Drop)]
 pub struct OrderList {
     pub(crate) all: Vec<OrderItem>,
 }
@@ -106,7 +106,7 @@ impl OrderList {
 
 /// An item of an aggregation. The last name is the result's; a custom aggregate without a name of its own has the
 /// aggregate's name twice.
-#[derive(Debug, Drop)]
+#[derive(Drop)]
 pub enum AggItem {
     Count(Name),
     Standard(Expr, Method, Name),
@@ -114,7 +114,7 @@ pub enum AggItem {
 }
 
 /// The items of an `aggregate`.
-#[derive(Debug, Drop)]
+#[derive(Drop)]
 pub struct AggList {
     pub(crate) all: Vec<AggItem>,
 }
@@ -179,7 +179,7 @@ pub enum Limit {
 }
 
 /// A selection of the instances with the greatest values of an expression, or the least where `bottom` is true.
-#[derive(Debug, Drop)]
+#[derive(Drop)]
 pub struct TopStep {
     pub bottom: bool,
     pub limit: Limit,
@@ -187,7 +187,7 @@ pub struct TopStep {
 }
 
 /// A walk over a hierarchy: in preorder, or in postorder where `post` is true, with siblings in the order of the items.
-#[derive(Debug, Drop)]
+#[derive(Drop)]
 pub struct TraverseStep {
     pub hier: HierName,
     pub path: Path,

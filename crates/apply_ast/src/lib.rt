@@ -3,7 +3,8 @@
 //! `names` has names and paths, `expressions` the expressions of filters and computations, `items` what stands in the
 //! parentheses of steps and holds no pipeline, `non_empty` lists that are not empty, and `steps` the pipelines themselves. A
 //! list inside a public type is a small type over `Vec`: made from one, read as a slice, and taken apart again without
-//! memory. `copies` copies each tree, and `expression_texts`, `item_texts` and `step_texts` print them.
+//! memory. `copies` copies each tree, and `expression_texts`, `item_texts` and `step_texts` print them. What holds an
+//! expression or a pipeline has no `Debug`: its printed text shows it.
 //!
 //! The crate stands on `edm_values` for literals, their plain texts and simple identifiers. Definitions are over the
 //! mathematical trees of `specs/Trees`; `specs/Views` leads from a value of the program to its tree, and two values are

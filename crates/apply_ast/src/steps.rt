@@ -10,7 +10,7 @@ use crate::non_empty::NonEmpty;
 
 /// A join with the entities that a collection-valued navigation property leads to. With `outer`, an instance without
 /// any is kept.
-#[derive(Debug, Drop)]
+#[derive(Drop)]
 #[cycle(trees)]
 pub struct JoinStep {
     pub outer: bool,
@@ -21,7 +21,7 @@ pub struct JoinStep {
 
 /// The instances at the ancestors of the nodes that a pipeline gives, or at their descendants where `up` is false; at most
 /// `distance` steps away, and with the start nodes where `keep` is true.
-#[derive(Debug, Drop)]
+#[derive(Drop)]
 #[cycle(trees)]
 pub struct ClimbStep {
     pub up: bool,
@@ -34,7 +34,7 @@ pub struct ClimbStep {
 
 /// A key of a grouping: a path, the levels of a rollup (with the grand total last where the flag is true), or a recursive
 /// rollup.
-#[derive(Debug, Drop)]
+#[derive(Drop)]
 #[cycle(trees)]
 pub enum KeyItem {
     Plain(Path),
@@ -43,7 +43,7 @@ pub enum KeyItem {
 }
 
 /// The keys of a grouping.
-#[derive(Debug, Drop)]
+#[derive(Drop)]
 #[cycle(trees)]
 pub struct KeyList {
     pub(crate) all: Vec<KeyItem>,
@@ -73,7 +73,7 @@ impl KeyList {
 }
 
 /// A transformation.
-#[derive(Debug, Drop)]
+#[derive(Drop)]
 #[cycle(trees)]
 pub enum Step {
     Identity,
@@ -92,7 +92,7 @@ pub enum Step {
 }
 
 /// The branches of a concatenation.
-#[derive(Debug, Drop)]
+#[derive(Drop)]
 #[cycle(trees)]
 pub struct PipeList {
     pub(crate) all: Vec<Pipe>,
@@ -122,7 +122,7 @@ impl PipeList {
 }
 
 /// A pipeline of at least one step.
-#[derive(Debug, Drop)]
+#[derive(Drop)]
 #[cycle(trees)]
 pub struct Pipe {
     pub(crate) steps: NonEmpty<Step>,
@@ -152,7 +152,7 @@ impl Pipe {
 
 /// A request: the entity set that it addresses and the pipeline for it. Where `explain` is true it asks for the plan and
 /// not for the result.
-#[derive(Debug, Drop)]
+#[derive(Drop)]
 pub struct Request {
     pub explain: bool,
     pub set: Name,

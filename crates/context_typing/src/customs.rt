@@ -11,7 +11,7 @@ use edm_model::{CustomId, TypeId};
 use edm_values::{EdmType, Text};
 
 /// The definition of a custom aggregate as it was read: its expression, and the paths that it groups by.
-#[derive(Debug, Drop)]
+#[derive(Drop)]
 pub struct ReadCustom {
     pub id: CustomId,
     pub of: Expr,
@@ -20,7 +20,7 @@ pub struct ReadCustom {
 
 /// A custom aggregate that has a typing: its reading, its name, the type of its value, and whether this may be past
 /// its range.
-#[derive(Debug, Drop)]
+#[derive(Drop)]
 pub(crate) struct TypedCustom {
     pub(crate) read: ReadCustom,
     pub(crate) owner: TypeId,
@@ -30,7 +30,7 @@ pub(crate) struct TypedCustom {
 }
 
 /// The custom aggregates of a model, or the first of them, each with its typing.
-#[derive(Debug, Drop)]
+#[derive(Drop)]
 pub struct Customs {
     pub(crate) all: Vec<TypedCustom>,
 }

@@ -66,7 +66,7 @@ fn table_of_columns(alloc: Global, shapes: &[Shape]) -> Result<Option<ColumnList
 
 /// How branches have a column: whether each that has it declares it, whether one lacks it or may, and whether its
 /// values in one may be past their range.
-#[derive(Clone, Copy, Debug, Drop)]
+#[derive(Clone, Copy, Drop)]
 struct Joined {
     declared: bool,
     absent: bool,

@@ -19,7 +19,7 @@ use std::alloc::{AllocError, Global};
 use thiserror::Error;
 
 /// A pipeline over an entity set, and the shape of its result.
-#[derive(Debug, Drop)]
+#[derive(Drop)]
 pub struct Typed {
     pub set: SetId,
     pub pipe: Pipe,

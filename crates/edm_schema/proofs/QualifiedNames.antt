@@ -1,6 +1,6 @@
 -- Qualified names: a namespace, a point and a name.
 use Rattle.std.proofs.Common.{◌≡◌, ℕ, ◌+◌, Bool, true, false, List, [], ◌∷◌, ◌++◌, map, length, take, drop, Some, None, refl, sym, ◌∙◌, ap, arith, nat_eq, codes}
-use Rattle.std.specs.Prelude.{◌&&◌, Option, MatchOption, position, if◌then◌else◌}
+use Rattle.std.specs.Prelude.{◌&&◌, ◌||◌, not, Option, MatchOption, position, if◌then◌else◌}
 use Rattle.std.specs.List.{starts_with, position_from}
 use Rattle.std.proofs.lemmas.Bool.Decides.{nat_tests}
 use Rattle.std.proofs.lemmas.Iterator.Adapters.{position_from-zero}
@@ -67,3 +67,12 @@ place_is s n text h is =
     ap (λ t. position (λ (m : tree.Member). same_text t (namespace d ++ 46 ∷ m.0)) (type_members d)) (sym is)
     ∙ (ap (λ ns. position (λ (m : tree.Member). same_text text (ns ++ 46 ∷ m.0)) (type_members d)) (sym h.namespace)
     ∙ (ap (position (λ (m : tree.Member). same_text text (s.namespace.now ++ 46 ∷ m.0))) (sym h.types) ∙ qualified_place s.namespace.now text s.types.items))
+
+-- a test of what is chosen, and of nothing
+pub some_tested : (p : List ℕ → Bool) (b : Bool) (q x : List ℕ) → Some q ≡ (if b then Some x else None) → p q ≡ (not b || p x)
+some_tested p true q x e = ap p (same_Some q x e)
+some_tested p false q x e = cc
+
+pub none_tested : (p : List ℕ → Bool) (b : Bool) (x : List ℕ) → None ≡ (if b then Some x else None) → true ≡ (not b || p x)
+none_tested p true x e = cc
+none_tested p false x e = refl

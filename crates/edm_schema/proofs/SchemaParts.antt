@@ -9,10 +9,10 @@ use Rattle.std.proofs.lemmas.Simd.{map-map}
 use Rattle.serde_json.specs.Data.{Data, null}
 use Rattle.serde_json.specs.Find.{get}
 use Rattle.serde_json.specs.View.{view}
-use Rattle.edm_values.specs.Lists.{same_text}
+use Rattle.edm_values.specs.Lists.{same_text, is_some_and}
 use Rattle.edm_schema.specs.JsonTrees as tree
-use Rattle.edm_schema.specs.JsonTrees.{members_in, only}
-use Rattle.edm_schema.specs.ModelTrees.{is_unread, is_object_of_kind, namespace, schema, type_tree, members_besides_kind, is_own, is_property, is_navigation, is_of_term, qualifier, hierarchy_term, aggregate_term, definition_term, key_name, own_members, property_members, navigation_members, term_members}
+use Rattle.edm_schema.specs.JsonTrees.{members_in, only, lacks}
+use Rattle.edm_schema.specs.ModelTrees.{is_unread, is_object_of_kind, namespace, schema, type_tree, members_besides_kind, is_own, is_property, is_navigation, is_of_term, qualifier, hierarchy_term, aggregate_term, definition_term, key_name, own_members, property_members, navigation_members, term_members, type_place, is_navigable, is_constrained, has_partner}
 use Rattle.edm_schema.specs.MemberLists.{member_seen, tree_of, type_seen, root_of, qualified_members, AreInOrder, IsTypeTree, IsSchema}
 use Rattle.edm_schema.specs.NameOrders.{AreOrdered}
 use Rattle.edm_schema.specs.declared.members.Member.{Member}
@@ -138,3 +138,23 @@ tree_at s h k t is within =
     sym (ap (λ (ms : List tree.Member). unwrap_or (option_map (λ m. m.1) (slice_get ms k)) null) (sym h.types)
     ∙ (ap (λ (o : Option tree.Member). unwrap_or (option_map (λ m. m.1) o) null) (slice_get-map type_seen s.types.items k ∙ ap (option_map type_seen) (slice_get-get_or s.types.items k t within))
     ∙ ap tree_of (sym is)))
+
+-- ---- navigation properties that lead to an entity type
+
+-- one that leads nowhere
+pub leads_nowhere : (d t n : Data) (k : ℕ) → None ≡ type_place d n → false ≡ is_navigable d k t n
+leads_nowhere d t n k h = ap (is_some_and (λ p. if lacks (codes "$Collection") n then is_constrained t (type_tree d p) n else has_partner d k (type_tree d p) n)) h
+
+-- one to a single entity
+pub leads_to_one : (d t n target : Data) (k p : ℕ) → Some p ≡ type_place d n → target ≡ type_tree d p → true ≡ lacks (codes "$Collection") n → is_constrained t target n ≡ is_navigable d k t n
+leads_to_one d t n target k p h e l =
+    ap (λ x. is_constrained t x n) e
+    ∙ (ap (λ b. if b then is_constrained t (type_tree d p) n else has_partner d k (type_tree d p) n) l
+    ∙ ap (is_some_and (λ q. if lacks (codes "$Collection") n then is_constrained t (type_tree d q) n else has_partner d k (type_tree d q) n)) h)
+
+-- one to a collection
+pub leads_to_many : (d t n target : Data) (k p : ℕ) → Some p ≡ type_place d n → target ≡ type_tree d p → false ≡ lacks (codes "$Collection") n → has_partner d k target n ≡ is_navigable d k t n
+leads_to_many d t n target k p h e l =
+    ap (λ x. has_partner d k x n) e
+    ∙ (ap (λ b. if b then is_constrained t (type_tree d p) n else has_partner d k (type_tree d p) n) l
+    ∙ ap (is_some_and (λ q. if lacks (codes "$Collection") n then is_constrained t (type_tree d q) n else has_partner d k (type_tree d q) n)) h)

@@ -190,30 +190,37 @@ fn texts_that_are_no_objects(rt: HostRuntime) -> Result<(), Fail> {
     Ok(())
 }
 
-/// Compares what is listed of a file: its namespace, how many types and entity sets it has, and whether it is a model.
+/// What is listed of a file: its namespace, how many types and entity sets it has, and whether it is a model.
+type Listed = (&'static str, usize, usize, bool);
+
+/// Compares what is listed of a tree.
 fn expect_tree(
     rt: &impl Abort,
     alloc: Global,
-    file: &str,
-    namespace: &str,
-    counts: (usize, usize),
-    accepted: bool,
+    root: &Value,
+    expected: &Listed,
 ) -> Result<(), Fail> {
-    let root = Value::from_slice(alloc, file.as_bytes())?;
-    let schema = read_schema(alloc, &root)?;
-    assert_eq!(rt; schema.namespace, namespace);
-    assert_eq!(rt; (schema.types.len(), schema.sets.len()), counts);
-    assert_eq!(rt; is_model(alloc, &schema)?, accepted);
+    let schema = read_schema(alloc, root)?;
+    let (namespace, types, sets, accepted) = *expected;
+    let counts = (schema.types.len(), schema.sets.len());
+    assert_eq!(rt; (schema.namespace, counts), (namespace, (types, sets)));
+    assert_eq!(rt; is_model(alloc, &schema).ok(), Some(accepted));
     Ok(())
+}
+
+/// Compares what is listed of a file.
+fn expect_file(rt: &impl Abort, alloc: Global, file: &str, expected: &Listed) -> Result<(), Fail> {
+    let root = Value::from_slice(alloc, file.as_bytes())?;
+    expect_tree(rt, alloc, &root, expected)
 }
 
 #[test]
 fn trees_of_files_are_listed_and_judged(rt: HostRuntime) -> Result<(), Fail> {
     let alloc = rt.alloc();
+    expect_file(&rt, alloc, SAMPLE, &("W", 3, 3, true))?;
+    expect_file(&rt, alloc, "{}", &("", 0, 0, false))?;
     let partnerless = SAMPLE.replace(alloc, "\"$Partner\":\"Customer\"", "\"$Partner\":\"Org\"")?;
-    expect_tree(&rt, alloc, SAMPLE, "W", (3, 3), true)?;
-    expect_tree(&rt, alloc, partnerless.as_str(), "W", (3, 3), false)?;
-    expect_tree(&rt, alloc, "{}", "", (0, 0), false)
+    expect_file(&rt, alloc, partnerless.as_str(), &("W", 3, 3, false))
 }
 
 /// The set of this name, which is there.

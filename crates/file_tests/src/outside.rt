@@ -3,7 +3,7 @@ use apply_io::{
     DiskFolder, Failed, Folder, MemFolder, MemSink, MemSource, Sink, Source, StdSink, StdSource,
 };
 use std::alloc::{AllocError, Global};
-use std::io::{Read, Write};
+use std::io::{PipeWriter, Read, Write};
 use std::os::fd::AsRawFd;
 use std::process::Abort;
 use std::test::Fail;
@@ -73,106 +73,165 @@ impl Write for Device {
     }
 }
 
-/// A read with room for so many bytes, the bytes that it gives, or nothing where it fails, and the count of faults behind it.
-type SourceRow = (usize, Option<&'static [u8]>, u64);
+/// The bytes that a read gives, or nothing where it fails, and the count of faults behind it.
+type Found<'a> = (Option<&'a [u8]>, u64);
+
+/// Compares what a read gives; its number says which read it is.
+fn expect_found(rt: &impl Abort, found: Found<'_>, expected: Found<'_>, of: &str, number: u64) {
+    assert_eq!(rt; found, expected, "{of} {number}");
+}
+
+/// A read with room for so many bytes, and what it gives.
+type SourceRow = (usize, Found<'static>);
+
+/// What a source gives.
+fn given<'a>(source: &mut impl Source, buf: &'a mut [u8]) -> Option<&'a [u8]> {
+    let count = source.read(buf).ok()?;
+    buf.get(..count)
+}
+
+/// Reads a source as the row says.
+fn expect_given(rt: &impl Abort, source: &mut impl Source, row: &SourceRow) {
+    let mut buf = [0u8; 8];
+    let room = row.0.min(8);
+    let bytes = given(source, &mut buf[..room]);
+    let found = (bytes, source.faults());
+    expect_found(rt, found, row.1, "a read with room for", room as u64);
+}
 
 /// Reads a source row by row.
 fn expect_reads(rt: &impl Abort, source: &mut impl Source, rows: &[SourceRow]) {
-    let mut buf = [0u8; 8];
-    for (room, expected, faults) in rows {
-        let room = (*room).min(8);
-        let found = match source.read(&mut buf[..room]) {
-            Ok(count) => buf.get(..count),
-            Err(Failed) => None,
-        };
-        assert_eq!(rt; found, *expected, "a read with room for {room}");
-        assert_eq!(rt; source.faults(), *faults, "a read with room for {room}");
+    for row in rows {
+        expect_given(rt, source, row);
     }
 }
 
-/// A piece that is written, how many of its bytes are taken, or nothing where the write fails, and the count of faults behind
-/// it.
-type SinkRow = (&'static [u8], Option<usize>, u64);
+/// A piece that is written, and how much of it is taken.
+type SinkRow = (&'static [u8], Taken);
+
+/// How many bytes of a piece are taken, or nothing where the write fails, and the count of faults behind it.
+type Taken = (Option<usize>, u64);
+
+/// Compares how much of a piece is taken.
+fn expect_taken(rt: &impl Abort, piece: &[u8], found: Taken, expected: Taken) {
+    assert_eq!(rt; found, expected, "writing {piece:?}");
+}
+
+/// Writes to a sink as the row says.
+fn expect_write(rt: &impl Abort, sink: &mut impl Sink, row: &SinkRow) {
+    let (piece, expected) = *row;
+    let taken = sink.write(piece).ok();
+    expect_taken(rt, piece, (taken, sink.faults()), expected);
+}
 
 /// Writes to a sink row by row.
 fn expect_writes(rt: &impl Abort, sink: &mut impl Sink, rows: &[SinkRow]) {
-    for (piece, expected, faults) in rows {
-        assert_eq!(rt; sink.write(piece).ok(), *expected, "writing {piece:?}");
-        assert_eq!(rt; sink.faults(), *faults, "writing {piece:?}");
+    for row in rows {
+        expect_write(rt, sink, row);
     }
 }
 
-/// A read of a file from a place, with room for so many bytes, the bytes that it gives, or nothing where it fails, and the
-/// count of faults behind it.
-type FileRow = (u64, usize, Option<&'static [u8]>, u64);
+/// A read of a file from a place, with room for so many bytes, and what it gives.
+type FileRow = (u64, usize, Found<'static>);
+
+/// What a file of a folder gives from a place on.
+fn given_from<'a>(
+    folder: &mut impl Folder,
+    name: &str,
+    at: u64,
+    buf: &'a mut [u8],
+) -> Option<&'a [u8]> {
+    let count = folder.read(name, at, buf).ok()?;
+    buf.get(..count)
+}
+
+/// Reads a file of a folder as the row says.
+fn expect_read(rt: &impl Abort, folder: &mut impl Folder, name: &str, row: &FileRow) {
+    let (at, room, expected) = *row;
+    let mut buf = [0u8; 8];
+    let bytes = given_from(folder, name, at, &mut buf[..room.min(8)]);
+    let found = (bytes, folder.faults());
+    expect_found(rt, found, expected, name, at);
+}
 
 /// Reads a file of a folder row by row.
 fn expect_file(rt: &impl Abort, folder: &mut impl Folder, name: &str, rows: &[FileRow]) {
-    let mut buf = [0u8; 8];
-    for (at, room, expected, faults) in rows {
-        let room = (*room).min(8);
-        let found = match folder.read(name, *at, &mut buf[..room]) {
-            Ok(count) => buf.get(..count),
-            Err(Failed) => None,
-        };
-        assert_eq!(rt; found, *expected, "{name} from {at}");
-        assert_eq!(rt; folder.faults(), *faults, "{name} from {at}");
+    for row in rows {
+        expect_read(rt, folder, name, row);
     }
 }
 
 /// Five bytes, at most two in a call, where the second call fails.
 const IN_MEMORY: &[SourceRow] = &[
-    (4, Some(b"ab"), 0),
-    (4, None, 1),
-    (0, Some(b""), 1),
-    (4, Some(b"cd"), 1),
-    (4, Some(b"e"), 1),
-    (4, Some(b""), 1),
+    (4, (Some(b"ab"), 0)),
+    (4, (None, 1)),
+    (0, (Some(b""), 1)),
+    (4, (Some(b"cd"), 1)),
+    (4, (Some(b"e"), 1)),
+    (4, (Some(b""), 1)),
 ];
 
-const OVER_A_READER: &[SourceRow] = &[(2, Some(b"ab"), 0), (2, Some(b"c"), 0), (2, Some(b""), 0)];
+const OVER_A_READER: &[SourceRow] = &[
+    (2, (Some(b"ab"), 0)),
+    (2, (Some(b"c"), 0)),
+    (2, (Some(b""), 0)),
+];
 
-const OVER_A_BROKEN_READER: &[SourceRow] = &[(0, Some(b""), 0), (2, None, 1), (2, None, 2)];
+const OVER_A_BROKEN_READER: &[SourceRow] = &[(0, (Some(b""), 0)), (2, (None, 1)), (2, (None, 2))];
 
 /// What a signal interrupts is done again, and is no fault.
-const OVER_AN_INTERRUPTED_READER: &[SourceRow] = &[(2, Some(b"\0"), 0), (2, Some(b"\0"), 0)];
+const OVER_AN_INTERRUPTED_READER: &[SourceRow] = &[(2, (Some(b"\0"), 0)), (2, (Some(b"\0"), 0))];
+
+/// A source in memory, whose second call fails.
+fn source_in_memory(alloc: Global) -> Result<MemSource, AllocError> {
+    let bytes = b"abcde".to_vec(alloc)?;
+    Ok(MemSource::new(bytes, 2, vec![in alloc; 2u64]?))
+}
+
+/// Readers outside of the program: how often each call is interrupted, whether it is broken, and what is read.
+const DEVICES: &[(u32, bool, &[SourceRow])] = &[
+    (0, true, OVER_A_BROKEN_READER),
+    (3, false, OVER_AN_INTERRUPTED_READER),
+];
 
 #[test]
 fn sources_give_their_bytes_and_count_their_faults(rt: HostRuntime) -> Result<(), Fail> {
-    let alloc = rt.alloc();
-    let mut source = MemSource::new(b"abcde".to_vec(alloc)?, 2, vec![in alloc; 2u64]?);
-    expect_reads(&rt, &mut source, IN_MEMORY);
+    expect_reads(&rt, &mut source_in_memory(rt.alloc())?, IN_MEMORY);
     expect_reads(&rt, &mut StdSource::new(b"abc".as_slice()), OVER_A_READER);
-    let broken = Device::new(alloc, 0, true);
-    expect_reads(&rt, &mut StdSource::new(broken), OVER_A_BROKEN_READER);
-    let interrupted = Device::new(alloc, 3, false);
-    expect_reads(
-        &rt,
-        &mut StdSource::new(interrupted),
-        OVER_AN_INTERRUPTED_READER,
-    );
+    for (interruptions, is_broken, rows) in DEVICES {
+        let device = Device::new(rt.alloc(), *interruptions, *is_broken);
+        expect_reads(&rt, &mut StdSource::new(device), rows);
+    }
     Ok(())
 }
 
 /// Room for three bytes, at most two in a call, where the second call fails.
 const WITH_ROOM: &[SinkRow] = &[
-    (b"abcd", Some(2), 0),
-    (b"cd", None, 1),
-    (b"", Some(0), 1),
-    (b"cd", Some(1), 1),
-    (b"d", None, 2),
+    (b"abcd", (Some(2), 0)),
+    (b"cd", (None, 1)),
+    (b"", (Some(0), 1)),
+    (b"cd", (Some(1), 1)),
+    (b"d", (None, 2)),
 ];
 
-const OVER_A_SLICE: &[SinkRow] = &[(b"abcd", Some(3), 0), (b"d", None, 1)];
+const OVER_A_SLICE: &[SinkRow] = &[(b"abcd", (Some(3), 0)), (b"d", (None, 1))];
 
-const OVER_A_WRITER: &[SinkRow] = &[(b"abc", Some(2), 0), (b"", Some(0), 0), (b"c", Some(1), 0)];
+const OVER_A_WRITER: &[SinkRow] = &[
+    (b"abc", (Some(2), 0)),
+    (b"", (Some(0), 0)),
+    (b"c", (Some(1), 0)),
+];
 
-const OVER_A_BROKEN_WRITER: &[SinkRow] = &[(b"abc", None, 1)];
+const OVER_A_BROKEN_WRITER: &[SinkRow] = &[(b"abc", (None, 1))];
+
+/// A sink in memory, whose second call fails.
+fn sink_in_memory(alloc: Global) -> Result<MemSink, AllocError> {
+    MemSink::new(alloc, 3, 2, vec![in alloc; 2u64]?)
+}
 
 #[test]
 fn sinks_take_what_they_have_room_for(rt: HostRuntime) -> Result<(), Fail> {
-    let alloc = rt.alloc();
-    let mut sink = MemSink::new(alloc, 3, 2, vec![in alloc; 2u64]?)?;
+    let mut sink = sink_in_memory(rt.alloc())?;
     expect_writes(&rt, &mut sink, WITH_ROOM);
     assert_eq!(rt; sink.bytes(), b"abc".as_slice());
     let mut room = [0u8; 3];
@@ -215,36 +274,65 @@ fn named(alloc: Global, name: &str, content: &[u8]) -> Result<(String, Vec<u8>),
     Ok((name, Vec::from_slice(alloc, content)?))
 }
 
-/// A read that fails, the first fault of its folder or the second.
-const FIRST_FAULT: &[FileRow] = &[(0, 4, None, 1)];
+/// What the files of one name hold.
+const TWICE_NAMED: &[&[u8]] = &[b"first", b"second"];
 
-const SECOND_FAULT: &[FileRow] = &[(0, 4, None, 2)];
+/// A folder in memory with files of one name, whose third read fails.
+fn folder_in_memory(alloc: Global) -> Result<MemFolder, AllocError> {
+    let mut files = Vec::new(alloc);
+    for content in TWICE_NAMED {
+        files.push(named(alloc, "a", content)?)?;
+    }
+    Ok(MemFolder::new(files, vec![in alloc; 3u64]?))
+}
 
-/// The end of the first file of a name, and behind it, once two reads have failed.
-const FIRST_FILE: &[FileRow] = &[(3, 3, Some(b"st"), 0)];
+/// Reads of that folder by name: a file that is named twice is the first of them.
+const FIRST_OF_A_NAME: &[(&str, FileRow)] = &[
+    ("a", (3, 3, (Some(b"st"), 0))),
+    ("b", (0, 4, (None, 1))),
+    ("a", (0, 4, (None, 2))),
+    ("a", (5, 3, (Some(b""), 2))),
+];
 
-const BEHIND_IT: &[FileRow] = &[(5, 3, Some(b""), 2)];
-
-/// A file that is named twice is the first of them; the third read of the folder fails.
 #[test]
 fn a_folder_in_memory_has_the_first_file_of_a_name(rt: HostRuntime) -> Result<(), Fail> {
-    let alloc = rt.alloc();
-    let mut files = Vec::new(alloc);
-    files.push(named(alloc, "a", b"first")?)?;
-    files.push(named(alloc, "a", b"second")?)?;
-    let mut folder = MemFolder::new(files, vec![in alloc; 3u64]?);
-    expect_file(&rt, &mut folder, "a", FIRST_FILE);
-    expect_file(&rt, &mut folder, "b", FIRST_FAULT);
-    expect_file(&rt, &mut folder, "a", SECOND_FAULT);
-    expect_file(&rt, &mut folder, "a", BEHIND_IT);
+    let mut folder = folder_in_memory(rt.alloc())?;
+    for (name, row) in FIRST_OF_A_NAME {
+        expect_read(&rt, &mut folder, name, row);
+    }
     Ok(())
+}
+
+/// Reads of files that are not there by name, and the file that the folder then names; a read without room asks for nothing.
+const FAILED_NAMES: &[(&str, FileRow, Option<&str>)] = &[
+    ("outside-missing-test", (0, 0, (Some(b""), 0)), None),
+    (
+        "outside-missing-test",
+        (0, 4, (None, 1)),
+        Some("outside-missing-test"),
+    ),
+    ("/", (0, 4, (None, 2)), Some("/")),
+];
+
+/// Compares the name that a folder gives behind a read.
+fn expect_name(rt: &impl Abort, found: Option<&str>, expected: Option<&str>, name: &str) {
+    assert_eq!(rt; found, expected, "{name}");
+}
+
+#[test]
+fn a_folder_on_disk_names_the_file_that_a_read_failed_of(rt: HostRuntime) {
+    let mut folder = DiskFolder::new(&rt);
+    for (name, row, failed) in FAILED_NAMES {
+        expect_read(&rt, &mut folder, name, row);
+        expect_name(&rt, folder.failed_name(), *failed, name);
+    }
 }
 
 /// A file of seven bytes.
 const CONTENT: &[FileRow] = &[
-    (5, 4, Some(b"nt"), 0),
-    (7, 4, Some(b""), 0),
-    (0, 4, Some(b"cont"), 0),
+    (5, 4, (Some(b"nt"), 0)),
+    (7, 4, (Some(b""), 0)),
+    (0, 4, (Some(b"cont"), 0)),
 ];
 
 #[test]
@@ -256,26 +344,12 @@ fn a_folder_on_disk_reads_its_files(rt: HostRuntime) -> Result<(), Fail> {
     Ok(())
 }
 
-/// A read without room, which asks for nothing.
-const NO_ROOM: &[FileRow] = &[(0, 0, Some(b""), 0)];
+/// A file before and after another takes its place, in the folder that read it before and in a new one.
+const BEFORE: &[FileRow] = &[(0, 8, (Some(b"first ve"), 0))];
 
-#[test]
-fn a_folder_on_disk_names_the_file_that_a_read_failed_of(rt: HostRuntime) {
-    let mut folder = DiskFolder::new(&rt);
-    expect_file(&rt, &mut folder, "outside-missing-test", NO_ROOM);
-    assert_eq!(rt; folder.failed_name(), None);
-    expect_file(&rt, &mut folder, "outside-missing-test", FIRST_FAULT);
-    assert_eq!(rt; folder.failed_name(), Some("outside-missing-test"));
-    expect_file(&rt, &mut folder, "/", SECOND_FAULT);
-    assert_eq!(rt; folder.failed_name(), Some("/"));
-}
+const STILL_BEFORE: &[FileRow] = &[(8, 8, (Some(b"rsion"), 0)), (13, 8, (Some(b""), 0))];
 
-/// A file before and after another takes its place.
-const BEFORE: &[FileRow] = &[(0, 8, Some(b"first ve"), 0)];
-
-const STILL_BEFORE: &[FileRow] = &[(8, 8, Some(b"rsion"), 0), (13, 8, Some(b""), 0)];
-
-const AFTER: &[FileRow] = &[(0, 8, Some(b"SECOND V"), 0)];
+const AFTER: &[FileRow] = &[(0, 8, (Some(b"SECOND V"), 0))];
 
 #[test]
 fn a_file_that_is_replaced_between_two_reads_gives_one_version(
@@ -284,11 +358,13 @@ fn a_file_that_is_replaced_between_two_reads_gives_one_version(
     let name = "outside-replaced-test";
     let other = "outside-replacing-test";
     fs::write(&rt, name, "first version")?;
+    fs::write(&rt, other, "SECOND VERSION, WHICH IS LONGER")?;
     let mut folder = DiskFolder::new(&rt);
     expect_file(&rt, &mut folder, name, BEFORE);
-    fs::write(&rt, other, "SECOND VERSION, WHICH IS LONGER")?;
-    fs::rename(&rt, other, name)?;
+    let replaced = fs::rename(&rt, other, name);
     expect_file(&rt, &mut folder, name, STILL_BEFORE);
+    drop(folder);
+    replaced?;
     expect_file(&rt, &mut DiskFolder::new(&rt), name, AFTER);
     fs::remove_file(&rt, name)?;
     Ok(())
@@ -296,17 +372,21 @@ fn a_file_that_is_replaced_between_two_reads_gives_one_version(
 
 /// A pipe gives its bytes once, and fails where it is read from its front again.
 const PIPE: &[FileRow] = &[
-    (0, 4, Some(b"cont"), 0),
-    (4, 4, Some(b"ent"), 0),
-    (7, 4, Some(b""), 0),
-    (0, 4, None, 1),
+    (0, 4, (Some(b"cont"), 0)),
+    (4, 4, (Some(b"ent"), 0)),
+    (7, 4, (Some(b""), 0)),
+    (0, 4, (None, 1)),
 ];
+
+/// Writes seven bytes to a pipe, and closes it.
+fn fill(mut writer: PipeWriter) -> io::Result<()> {
+    writer.write_all(b"content")
+}
 
 #[test]
 fn a_pipe_is_read_from_its_front_to_its_end(rt: HostRuntime) -> Result<(), Fail> {
-    let (reader, mut writer) = io::pipe(&rt)?;
-    writer.write_all(b"content")?;
-    drop(writer);
+    let (reader, writer) = io::pipe(&rt)?;
+    fill(writer)?;
     let name = format!(in rt.alloc(); "/dev/fd/{}", reader.as_raw_fd())?;
     expect_file(&rt, &mut DiskFolder::new(&rt), name.as_str(), PIPE);
     Ok(())

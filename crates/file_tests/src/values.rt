@@ -238,7 +238,7 @@ fn value_of(alloc: Global, word: &str) -> Result<Value, Fail> {
     Ok(read_value(alloc, word, EdmType::Text)?)
 }
 
-/// Sums, differences, products and negatives, and of two values how they compare and how they are ordered.
+/// Sums, differences, products and negatives, and of two values how they compare and which order they have.
 const COMPUTED: &str = r"
 1 add 0.25 => 1.25
 9223372036854775807 add 1 => Beyond
@@ -259,17 +259,28 @@ null add 1 => null
 9223372036854775807 neg => -9223372036854775807
 0.05 neg => -0.05
 null neg => null
-1 and 1.00 => equal less
-1.00 and 1.0 => equal greater
-0.5 and 0.49 => greater greater
--9223372036854775808 and -999999999999999999. => less less
-false and true => less less
-Z and a => less less
-ab and a => greater greater
-2020-12-31 and 2021-01-01 => less less
-null and 1 => none less
-Beyond and z => none greater
-null and null => none equal
+1 compares 1.00 => equal
+1 orders 1.00 => less
+1.00 compares 1.0 => equal
+1.00 orders 1.0 => greater
+0.5 compares 0.49 => greater
+0.5 orders 0.49 => greater
+-9223372036854775808 compares -999999999999999999. => less
+-9223372036854775808 orders -999999999999999999. => less
+false compares true => less
+false orders true => less
+Z compares a => less
+Z orders a => less
+ab compares a => greater
+ab orders a => greater
+2020-12-31 compares 2021-01-01 => less
+2020-12-31 orders 2021-01-01 => less
+null compares 1 => none
+null orders 1 => less
+Beyond compares z => none
+Beyond orders z => greater
+null compares null => none
+null orders null => equal
 ";
 
 fn name_of(found: Option<Ordering>) -> &'static [u8] {
@@ -281,14 +292,6 @@ fn name_of(found: Option<Ordering>) -> &'static [u8] {
     }
 }
 
-/// How two values compare, and how they are ordered.
-fn compared(alloc: Global, a: Seen<'_>, b: Seen<'_>) -> Result<Vec<u8>, AllocError> {
-    let mut out = Vec::from_slice(alloc, name_of(compare(a, b)))?;
-    out.extend_from_slice(b" ")?;
-    out.extend_from_slice(name_of(Some(order(a, b))))?;
-    Ok(out)
-}
-
 /// What is done with two values by the word between them, or with one before the word.
 fn done(alloc: Global, a: Seen<'_>, word: &str, b: Seen<'_>) -> Result<Vec<u8>, AllocError> {
     match word {
@@ -296,17 +299,23 @@ fn done(alloc: Global, a: Seen<'_>, word: &str, b: Seen<'_>) -> Result<Vec<u8>, 
         "sub" => shown(alloc, sub(a, b)),
         "mul" => shown(alloc, mul(a, b)),
         "neg" => shown(alloc, neg(a)),
-        _ => compared(alloc, a, b),
+        "compares" => Vec::from_slice(alloc, name_of(compare(a, b))),
+        _ => Vec::from_slice(alloc, name_of(Some(order(a, b)))),
     }
+}
+
+/// What is done with a value by a word, and with another value behind it.
+fn with_value(alloc: Global, a: &Value, rest: &str) -> Result<Vec<u8>, Fail> {
+    let (word, second) = rest.split_once(' ').unwrap_or((rest, "null"));
+    let b = value_of(alloc, second)?;
+    Ok(done(alloc, a.seen(), word, b.seen())?)
 }
 
 /// The text of what a row asks.
 fn answer(alloc: Global, asked: &str) -> Result<Vec<u8>, Fail> {
     let (first, rest) = asked.split_once(' ').unwrap_or((asked, ""));
-    let (word, second) = rest.split_once(' ').unwrap_or((rest, "null"));
     let a = value_of(alloc, first)?;
-    let b = value_of(alloc, second)?;
-    Ok(done(alloc, a.seen(), word, b.seen())?)
+    with_value(alloc, &a, rest)
 }
 
 #[test]
@@ -371,33 +380,42 @@ fn decimals_and_days_are_made_of_their_parts(rt: HostRuntime) {
 /// Keys, of which the first and the last are one.
 const KEYS: &[&str] = &["x", "1.0", "1.00", "x"];
 
-#[test]
-fn equal_values_are_one_key(rt: HostRuntime) -> Result<(), Fail> {
-    let alloc = rt.alloc();
+/// The last place of each key.
+fn last_places(alloc: Global) -> Result<IndexMap<Value, usize>, Fail> {
     let mut places = IndexMap::new(alloc);
     for (place, word) in KEYS.iter().enumerate() {
         places.insert(value_of(alloc, word)?, place)?;
     }
-    let last = places.get(&value_of(alloc, "x")?).copied();
-    assert_eq!(rt; (places.len(), last), (3, Some(3)));
+    Ok(places)
+}
+
+#[test]
+fn equal_values_are_one_key(rt: HostRuntime) -> Result<(), Fail> {
+    let key = value_of(rt.alloc(), "x")?;
+    let places = last_places(rt.alloc())?;
+    assert_eq!(rt; (places.len(), places.get(&key).copied()), (3, Some(3)));
     Ok(())
 }
 
-/// Keys whose order is that of the places 1, 2, 0.
-const SORTED_KEYS: &[&str] = &["1.00", "null", "1"];
+/// Keys in another order than theirs, each with its place among them.
+const SORTED_KEYS: &[(&str, usize)] = &[("1.00", 2), ("null", 0), ("1", 1)];
+
+/// The places of keys by these.
+fn sorted_places(alloc: Global) -> Result<BTreeMap<Value, usize>, Fail> {
+    let mut sorted = BTreeMap::new(alloc);
+    for (word, place) in SORTED_KEYS {
+        sorted.insert(value_of(alloc, word)?, *place)?;
+    }
+    Ok(sorted)
+}
 
 #[test]
 fn keys_are_sorted(rt: HostRuntime) -> Result<(), Fail> {
-    let alloc = rt.alloc();
-    let mut sorted = BTreeMap::new(alloc);
-    for (place, word) in SORTED_KEYS.iter().enumerate() {
-        sorted.insert(value_of(alloc, word)?, place)?;
+    let sorted = sorted_places(rt.alloc())?;
+    assert_eq!(rt; sorted.len(), SORTED_KEYS.len());
+    for (place, found) in sorted.values().enumerate() {
+        assert_eq!(rt; *found, place);
     }
-    let mut found = Vec::new(alloc);
-    for place in sorted.values() {
-        found.push(*place)?;
-    }
-    assert_eq!(rt; found.as_slice(), [1, 2, 0].as_slice());
     Ok(())
 }
 

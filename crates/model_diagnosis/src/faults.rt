@@ -3,7 +3,7 @@
 //! The tests of a part stand in the order in which they are made. One is named where those before it hold and it does not.
 
 /// What the root of a file has.
-#[derive(Clone, Copy, Debug, Drop)]
+#[derive(Clone, Copy, Drop)]
 pub enum RootTest {
     /// It is an object.
     Object,
@@ -18,7 +18,7 @@ pub enum RootTest {
 }
 
 /// What the containers of a schema are.
-#[derive(Clone, Copy, Debug, Drop)]
+#[derive(Clone, Copy, Drop)]
 pub enum ContainerTest {
     /// There is one.
     One,
@@ -27,7 +27,7 @@ pub enum ContainerTest {
 }
 
 /// What a property has.
-#[derive(Clone, Copy, Debug, Drop)]
+#[derive(Clone, Copy, Drop)]
 pub enum PropertyTest {
     /// `$Type` is a string where it stands.
     TypeText,
@@ -46,7 +46,7 @@ pub enum PropertyTest {
 }
 
 /// What the key of an entity type is.
-#[derive(Clone, Copy, Debug, Drop)]
+#[derive(Clone, Copy, Drop)]
 pub enum KeyTest {
     /// `$Key` is an array of one string.
     Text,
@@ -59,7 +59,7 @@ pub enum KeyTest {
 }
 
 /// What a single-valued navigation property has.
-#[derive(Clone, Copy, Debug, Drop)]
+#[derive(Clone, Copy, Drop)]
 pub enum ReferenceTest {
     /// `$ReferentialConstraint` is an object.
     Constraint,
@@ -74,7 +74,7 @@ pub enum ReferenceTest {
 }
 
 /// What a collection-valued navigation property has.
-#[derive(Clone, Copy, Debug, Drop)]
+#[derive(Clone, Copy, Drop)]
 pub enum CollectionTest {
     /// `$Collection` is true.
     Flag,
@@ -87,7 +87,7 @@ pub enum CollectionTest {
 }
 
 /// What a recursive hierarchy has.
-#[derive(Clone, Copy, Debug, Drop)]
+#[derive(Clone, Copy, Drop)]
 pub enum HierarchyTest {
     /// It is an object.
     Object,
@@ -100,7 +100,7 @@ pub enum HierarchyTest {
 }
 
 /// What the definition of a custom aggregate has.
-#[derive(Clone, Copy, Debug, Drop)]
+#[derive(Clone, Copy, Drop)]
 pub enum DefinitionTest {
     /// It is an object.
     Object,
@@ -117,7 +117,7 @@ pub enum DefinitionTest {
 }
 
 /// What an entity set has.
-#[derive(Clone, Copy, Debug, Drop)]
+#[derive(Clone, Copy, Drop)]
 pub enum SetTest {
     /// It is an object.
     Object,
@@ -129,7 +129,7 @@ pub enum SetTest {
 
 /// A part of an entity type that is at fault, by its name; hierarchies, custom aggregates and their definitions by their
 /// qualifiers. Where two names stand, the second is of a member of the part that no rule names.
-#[derive(Clone, Copy, Debug, Drop)]
+#[derive(Clone, Copy, Drop)]
 pub enum TypeFault<'v> {
     /// A member is neither a property nor a navigation property.
     Member(&'v str),
@@ -153,7 +153,7 @@ pub enum TypeFault<'v> {
 }
 
 /// A part of a model file that is at fault.
-#[derive(Clone, Copy, Debug, Drop)]
+#[derive(Clone, Copy, Drop)]
 pub enum Fault<'v> {
     Root(RootTest),
     /// The root has a member that no rule names.

@@ -28,7 +28,7 @@ use walk_laws::{
 };
 
 /// A pipeline that was written, and the pipeline that is run in its place. Where nothing is in its place, it is run itself.
-#[derive(Debug, Drop)]
+#[derive(Drop)]
 pub struct Plan {
     written: Typed,
     own: Option<Typed>,

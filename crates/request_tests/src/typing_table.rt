@@ -119,6 +119,15 @@ fn is_copy(a: &Typed, b: &Typed) -> bool {
     a.set == b.set && a.pipe.steps().len() == b.pipe.steps().len()
 }
 
+/// The shape of a copy of what is typed, and a word behind it.
+fn typed_text(alloc: Global, m: &Model, typed: &Typed, word: &str) -> Result<String, Fail> {
+    let copy = typed.copy(alloc)?;
+    let mut text = shape_text(alloc, m, &copy.shape)?;
+    text.push_str(word)?;
+    push_if(&mut text, !is_copy(typed, &copy), " (no copy)")?;
+    Ok(text)
+}
+
 /// What typing says of a pipeline over a set. The shape is that of a copy.
 pub(crate) fn typing_of(
     alloc: Global,
@@ -132,13 +141,10 @@ pub(crate) fn typing_of(
 {
     match type_pipe(alloc, m, c, set, pipe) {
         Ok(typed) => {
-            let copy = typed.copy(alloc)?;
-            let mut text = shape_text(alloc, m, &copy.shape)?;
             let own = own_shape(alloc, m.set_type(set));
             let quiet = is_quiet(alloc, m, c, &own, pipe)?;
-            push_if(&mut text, !quiet, " (may be refused)")?;
-            push_if(&mut text, !is_copy(&typed, &copy), " (no copy)")?;
-            Ok(text)
+            let word = if quiet { "" } else { " (may be refused)" };
+            typed_text(alloc, m, &typed, word)
         }
         Err(TypeRefused::At(k)) => Ok(format!(in alloc; "at {k}")?),
         Err(TypeRefused::Memory) => Ok(String::from_str(alloc, "no memory")?),
@@ -159,22 +165,34 @@ fn answer(alloc: Global, m: &Model, c: &Customs, line: &str) -> Result<String, F
     }
 }
 
-/// Compares what is said of each line of a table over a model. A row has a line, an arrow and what is said; other lines of the
-/// table are blank or headings.
-fn expect_rows(rt: &impl Abort, alloc: Global, model: &str, table: &str) -> Result<(), Fail> {
-    let m = read_model(alloc, model.as_bytes())?;
-    let list = read_customs(alloc, &m)?;
-    let c = type_customs(alloc, &m, list)?;
+/// Compares what is said of each line of a table over a model and its custom aggregates. A row has a line, an arrow and what is said;
+/// other lines of the table are blank or headings.
+fn expect_rows(
+    rt: &impl Abort,
+    alloc: Global,
+    m: &Model,
+    c: &Customs,
+    table: &str,
+) -> Result<(), Fail>
+    requires { AreTypedOver m.now c.now }
+{
     for row in table.lines() {
         match row.split_once(" =>") {
             Some((line, wanted)) => {
-                let said = answer(alloc, &m, &c, line)?;
+                let said = answer(alloc, m, c, line)?;
                 assert_eq!(rt; said.as_str(), wanted.trim_start(), "{line}");
             }
             None => assert!(rt; row.is_empty() || row.starts_with("//"), "no row: {row}"),
         }
     }
     Ok(())
+}
+
+/// Compares what is said of each line of a table over the model of a file.
+fn expect_table(rt: &impl Abort, alloc: Global, model: &str, table: &str) -> Result<(), Fail> {
+    let m = read_model(alloc, model.as_bytes())?;
+    let c = type_customs(alloc, &m, read_customs(alloc, &m)?)?;
+    expect_rows(rt, alloc, &m, &c, table)
 }
 
 /// Models, and tables over them.
@@ -194,7 +212,7 @@ const TABLES: &[(&str, &str)] = &[
 #[test]
 fn requests_have_the_typing_of_the_tables(rt: HostRuntime) -> Result<(), Fail> {
     for (model, table) in TABLES {
-        expect_rows(&rt, rt.alloc(), model, table)?;
+        expect_table(&rt, rt.alloc(), model, table)?;
     }
     Ok(())
 }
