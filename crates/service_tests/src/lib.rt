@@ -2,8 +2,9 @@
 //!
 //! `worlds` has the files and lines that tests share, and `run_support` runs the service over them; `lines` has requests with their
 //! responses, `plans` requests for plans, `files` refused files with their lines, `words` the words of the command, `modes`
-//! what each mode writes, `sizes` requests over many rows, `deep` a hierarchy as deep as it has nodes, `workers` runs with several of them, `ends` how runs end, `outside` the outside that
-//! fails while requests of every form are answered, and `hostile` files and lines that are made to hurt.
+//! what each mode writes, `sizes` requests over many rows, `deep` a hierarchy as deep as it has nodes, `workers` runs with several of
+//! them, `pieces` for how many of them a list is cut, `ends` how runs end, `outside` the outside that fails while requests of every
+//! form are answered, and `hostile` files and lines that are made to hurt.
 #![tactic(auto)]
 
 #[cfg(test)]
@@ -20,6 +21,8 @@ mod lines;
 mod modes;
 #[cfg(test)]
 mod outside;
+#[cfg(test)]
+mod pieces;
 #[cfg(test)]
 mod plans;
 #[cfg(test)]
