@@ -5,6 +5,7 @@ pub mod FitRows
 pub mod Grouping
 pub mod ItemDepths
 pub mod KeptEntries
+pub mod PartLemmas
 pub mod PatternLemmas
 pub mod PlaceItems
 pub mod PlaceMembers
@@ -14,6 +15,7 @@ pub mod RowParts
 pub mod RowSeen
 pub mod Runs
 pub mod SegmentLemmas
+pub mod Sharing
 pub mod SlotLemmas
 pub mod SortedEntries
 pub mod TemplateLemmas

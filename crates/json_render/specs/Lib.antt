@@ -4,6 +4,7 @@ pub use Rattle.apply_meaning.specs.Instances
 pub use Rattle.apply_meaning.specs.MeaningLaws
 pub mod Bodies
 pub mod ItemTexts
+pub mod PartTexts
 pub mod Places
 pub mod PlainTexts
 pub mod RowRuns

@@ -15,6 +15,7 @@ ghost use Rattle.edm_values.specs.declared.refusals.Refused.TheVariants as Rende
 use crate::RenderRefused;
 use crate::context::context;
 use crate::members::row_template;
+use crate::parts::push_in_parts;
 use crate::patterns::same_pattern;
 use crate::templates::Template;
 use crate::texts::push_text;
@@ -23,7 +24,9 @@ use context_typing::Shape;
 use edm_data::Data;
 use edm_model::SetId;
 use edm_values::Value;
+use par_stages::workers_for;
 use std::alloc::{AllocError, Global};
+use std::thread::Threads;
 
 /// How many templates are kept at a time.
 const TEMPLATES_MAX: usize = 64;
@@ -147,7 +150,7 @@ fn push_row(
 }
 
 /// Appends the rows with a comma between.
-fn push_rows(
+pub(crate) fn push_rows(
     alloc: Global,
     store: &Data,
     shape: &Shape,
@@ -188,6 +191,38 @@ pub fn render(
     push_text(alloc, context.as_str(), &mut body)?;
     body.extend_from_slice(b",\"value\":[")?;
     push_rows(alloc, store, shape, rows, &mut body)?;
+    body.extend_from_slice(b"]}")?;
+    Ok(body)
+}
+
+/// The same body, whose rows may be rendered in parts, each by a thread of its own, as many as there are workers. A list of
+/// few rows is not cut.
+pub fn render_in_parts<R: Threads + Sync>(
+    rt: &R,
+    alloc: Global,
+    store: &Data,
+    set: SetId,
+    shape: &Shape,
+    rows: &[Row],
+    workers: u32,
+) -> Result<Vec<u8>, RenderRefused>
+    requires set { IsSet store.now.model set }
+    requires rows { AllFit store.now shape.now rows.now }
+    requires some { 0 < workers }
+    ensures ok { IfOk result (λ b. spec.body store.now (set_name store.now.model set) shape.now rows.now ≡ Some b.items) }
+    ensures range { result ≡ Err RenderRefused.Range → spec.body store.now (set_name store.now.model set) shape.now rows.now ≡ None }
+{
+    let parts = workers_for(rows.len(), 1, workers);
+    if parts == 1 {
+        return render(alloc, store, set, shape, rows);
+    }
+    let len = rows.len().div_ceil(parts as usize).max(1);
+    let mut body = Vec::new(alloc);
+    body.extend_from_slice(b"{\"@context\":")?;
+    let context = context(alloc, store.model().set_name(set), shape)?;
+    push_text(alloc, context.as_str(), &mut body)?;
+    body.extend_from_slice(b",\"value\":[")?;
+    push_in_parts(rt, alloc, store, shape, rows, len, &mut body)?;
     body.extend_from_slice(b"]}")?;
     Ok(body)
 }
