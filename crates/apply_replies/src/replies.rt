@@ -36,7 +36,7 @@ use apply_store::{Store, identifier};
 use context_typing::{TypeRefused, Typed, type_pipe};
 use edm_data::EntityRef;
 use hier_states::first_cycle;
-use json_render::render;
+use json_render::render_in_parts;
 use line_stream::Output;
 use optimiser::{Plan, optimise};
 use par_stages::Gate;
@@ -111,6 +111,7 @@ fn body_of<R: Threads + Sync, G: Gate, L: Ledger>(
         steps.new ≤ steps.old + total_cost store.now.world (readings store.now.customs) t.set (pipe_of t.pipe) }
     ensures grown { steps.old ≤ steps.new }
 {
+    let workers = workers.min(MOST).max(1);
     let rows = run(
         rt,
         alloc,
@@ -118,18 +119,20 @@ fn body_of<R: Threads + Sync, G: Gate, L: Ledger>(
         store.customs(),
         store.hiers(),
         plan,
-        workers.min(MOST).max(1),
+        workers,
         gate,
         steps,
     )?;
     rows_fit(store, plan, &rows);
     let typed = plan.typed();
-    render(
+    render_in_parts(
+        rt,
         alloc,
         store.data(),
         typed.set,
         &typed.shape,
         rows.as_slice(),
+        workers,
     )
 }
 

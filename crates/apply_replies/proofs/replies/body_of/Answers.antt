@@ -15,10 +15,10 @@ returns-clause-ok g c =
     let t = c.typed-typed.result.now in
     let P : Option (List ℕ) → World → Type 0 = λ b x. body x (set_name x.model t.set) t.shape c.as_slice.result.now ≡ b in
     let Q : Option (List ℕ) → List Instance → Type 0 = λ b l. body w (set_name w.model t.set) t.shape l ≡ b in
-    IfOk-weaker c.render.result _ _ (λ b h.
+    IfOk-weaker c.render_in_parts.result _ _ (λ b h.
     body-of_plan w (readings c.args.store.now.customs) c.args.plan.now t c.in_ok-rows.rows.items (Some b.items) c.requires.plan c.typed-typed.ensures.value
     (rw (c.data.ensures.value, c.customs.ensures.value) at c.in_ok-rows.ensures.mean) (subst (Q (Some b.items)) c.as_slice.ensures.value (subst (P (Some b.items)) c.data-2.ensures.value h)))
-    c.render.ensures.ok
+    c.render_in_parts.ensures.ok
 
 pub returns-clause-range : goal.returns-clause-range
 returns-clause-range g c = λ refused.
@@ -27,4 +27,4 @@ returns-clause-range g c = λ refused.
     let P : World → Type 0 = λ x. body x (set_name x.model t.set) t.shape c.as_slice.result.now ≡ None in
     let Q : List Instance → Type 0 = λ l. body w (set_name w.model t.set) t.shape l ≡ None in
     body-of_plan w (readings c.args.store.now.customs) c.args.plan.now t c.in_ok-rows.rows.items None c.requires.plan c.typed-typed.ensures.value
-    (rw (c.data.ensures.value, c.customs.ensures.value) at c.in_ok-rows.ensures.mean) (subst Q c.as_slice.ensures.value (subst P c.data-2.ensures.value (c.render.ensures.range refused)))
+    (rw (c.data.ensures.value, c.customs.ensures.value) at c.in_ok-rows.ensures.mean) (subst Q c.as_slice.ensures.value (subst P c.data-2.ensures.value (c.render_in_parts.ensures.range refused)))
