@@ -34,14 +34,14 @@ use clap::error::ErrorKind;
 use std::alloc::{AllocError, Global};
 
 /// The names of the model file and of the data file.
-#[derive(Debug, Drop)]
+#[derive(Drop)]
 pub struct FileNames {
     pub model: String,
     pub entities: String,
 }
 
 /// What a run is to do.
-#[derive(Debug, Drop)]
+#[derive(Drop)]
 pub enum Mode {
     /// Answer requests over two files.
     Serve(FileNames),
@@ -52,7 +52,7 @@ pub enum Mode {
 }
 
 /// The options of a run.
-#[derive(Debug, Drop)]
+#[derive(Drop)]
 pub struct Options {
     pub mode: Mode,
     /// How many threads work on a request.
