@@ -15,7 +15,7 @@ use edm_model::{Custom, Model};
 use std::alloc::Global;
 
 /// What the service answers where the custom aggregates of a model are not typed.
-#[derive(Debug, Drop)]
+#[derive(Drop)]
 pub enum CustomStop {
     /// Memory ran out.
     Memory,

@@ -8,7 +8,7 @@ use apply_io::{Failed, Folder};
 use std::alloc::Global;
 
 /// Why a file was not read.
-#[derive(Clone, Copy, Debug, PartialEq, Eq)]
+#[derive(Clone, Copy)]
 pub enum FileFault {
     /// A read failed.
     Fault,

@@ -20,14 +20,14 @@ use line_stream::Output;
 use std::alloc::Global;
 
 /// The names of the model file and of the data file.
-#[derive(Clone, Copy, Debug)]
+#[derive(Clone, Copy)]
 pub struct FileNames<'a> {
     pub model: &'a str,
     pub entities: &'a str,
 }
 
 /// Why there is no model.
-#[derive(Debug, Drop)]
+#[derive(Drop)]
 pub enum ModelStop {
     /// A read of the folder failed.
     Fault,
@@ -38,7 +38,7 @@ pub enum ModelStop {
 }
 
 /// Why there is no data.
-#[derive(Debug, Drop)]
+#[derive(Drop)]
 pub enum DataStop {
     /// A read of the folder failed.
     Fault,
@@ -49,7 +49,7 @@ pub enum DataStop {
 }
 
 /// Why the files make no store.
-#[derive(Debug, Drop)]
+#[derive(Drop)]
 pub enum LoadStop {
     /// A read of the folder failed.
     Fault,
