@@ -1,26 +1,36 @@
 -- From what was done in a mode to what a run says.
-use Rattle.std.proofs.Common.{◌≡◌, ℕ, Bool, List, None, Some, sym, subst, inl, inr}
+use Rattle.std.proofs.Common.{◌≡◌, ℕ, Bool, List, None, Some, refl, sym, subst, inl, inr}
 use Rattle.std.specs.declared.option.Option.{Option}
 use Rattle.serve_options.specs.Options.{Mode, Settings, Serve, Check, Gen}
 use Rattle.serve_options.specs.Command.{settings_in}
 use Rattle.edm_data.specs.Worlds.{World}
 use Rattle.sample_data.specs.Generator.{generated_world}
 use Rattle.context_typing.specs.Readings.{readings}
-use Rattle.line_stream.specs.Costs.{Rises}
-use Rattle.line_stream.specs.Answers as stream
+use Rattle.line_stream.specs.Outputs.{bytes_of}
 use Rattle.apply_load.specs.Loads.{FileNames, Loaded, FilesMake}
 use Rattle.apply_load.specs.Generated.{IsGenerated}
+use Rattle.apply_load.specs.LoadStops.{LoadStopSays}
+use Rattle.apply_load.specs.declared.loading.LoadStop.{LoadStop}
+use Rattle.apply_load.specs.declared.loading.LoadStop.TheVariants as load_stop
+use Rattle.apply_store.specs.CustomReadings.{AreCustoms}
 use Rattle.apply_store.specs.Stores.{Store}
-use Rattle.apply_replies.specs.Costs.{BoundsLine, BoundsLineOf}
-use Rattle.apply_replies.specs.Replies.{IsReply, IsReplyOf}
 use Rattle.apply_service.specs.Runs.{Run, FolderSeen, SourceSeen, SinkSeen, StepsSeen}
-use Rattle.apply_service.specs.Outcomes.{Answers, BreaksOffInReplies, BreaksOffInSamples, Generates, StandsStill, read_limit, LoadSays, ServeSays, CheckSays, GenSays}
-use Rattle.apply_service.specs.Samples.{sample_lines}
+use Rattle.apply_service.specs.Outcomes.{FolderFailed, LoadSays, StandsStill, ServeSays, CheckSays, GenSays, in_data_line, in_model_line}
+use Rattle.apply_service.specs.Parts.{InputSays, SamplesSay, StopSays, ToldSays, no_read, no_memory, model_told, model_broken, data_told, data_broken}
 use Rattle.apply_service.specs.Service.{Ends, ModeSays, names_of}
 use Rattle.apply_service.specs.declared.status.Status.{Status}
 use Rattle.apply_service.specs.declared.status.Status.TheVariants as status
 
 -- ---- files that were not loaded
+
+-- what was said of the stop, of these files
+pub load-said : (f : FolderSeen) (o : SinkSeen) (names : FileNames) (is_steady same_output : Type 0) (stop : LoadStop) (s : Status) → StopSays o same_output stop s → LoadStopSays f.files names stop → (stop ≡ load_stop.Fault → FolderFailed f names is_steady) → LoadSays f o names is_steady same_output s
+load-said f o names is_steady same_output stop s (no_read same) says failed = (failed refl, same)
+load-said f o names is_steady same_output stop s (no_memory same) says failed = same
+load-said f o names is_steady same_output stop s (model_told line written) says failed = record { line = bytes_of line; judged = says; written = written }
+load-said f o names is_steady same_output stop s (model_broken line rose front) says failed = (rose, in_model_line says front)
+load-said f o names is_steady same_output stop s (data_told line written) says failed = record { line = line.items; judged = says; written = written }
+load-said f o names is_steady same_output stop s (data_broken line rose front) says failed = (rose, in_data_line says front)
 
 pub serve-refused : (optimised : Bool) (f : FolderSeen) (i : SourceSeen) (o : SinkSeen) (t : StepsSeen) (names : FileNames) (limit : ℕ) (is_steady same_input same_output : Type 0) (s : Status) → same_input → StandsStill t → LoadSays f o names is_steady same_output s → ServeSays optimised f i o t names limit is_steady same_input same_output s
 serve-refused optimised f i o t names limit is_steady same_input same_output status.Served same still h = absurd h
@@ -42,65 +52,63 @@ check-refused f o names is_steady same_output status.WriteFault h = (h.0, inr h.
 check-refused f o names is_steady same_output status.Memory h = h
 check-refused f o names is_steady same_output status.InputLimit h = absurd h
 
--- ---- replies over what was loaded
+-- ---- what was done over loaded data
 
-module _ (optimised given : Bool) (chosen : given ≡ optimised) (f : FolderSeen) (i : SourceSeen) (o : SinkSeen) (t : StepsSeen) (names : FileNames) where
-  pub answers-of : (lines : List ℕ → List (List ℕ)) (P : List ℕ → Type 0) (store over : Store) (held : Option (List ℕ)) → over ≡ store → held ≡ o.held → FilesMake f.files names (Loaded store.world (readings store.customs)) → stream.Responds (IsReplyOf over) (BoundsLineOf given over) lines P i.left i.left_after held o.held_after t.count t.count_after → Answers optimised f i o t names lines P
-  answers-of lines P store over held same at made h = record {
-    world = store.world;
-    customs = readings store.customs;
-    loaded = made;
-    answered =
-        let Q : Store → Type 0 = λ s. stream.Responds (IsReplyOf s) (BoundsLineOf given s) lines P i.left i.left_after held o.held_after t.count t.count_after in
-        let R : Option (List ℕ) → Type 0 = λ x. stream.Responds (IsReplyOf store) (BoundsLineOf given store) lines P i.left i.left_after x o.held_after t.count t.count_after in
-        let S : Bool → Type 0 = λ b. stream.Responds (IsReplyOf store) (BoundsLineOf b store) lines P i.left i.left_after o.held o.held_after t.count t.count_after in
-        subst S chosen (subst R at (subst Q same h));
-  }
+-- what is said of the answers to the input, with what they are over replaced by its equals
+pub input-over : (optimised given : Bool) (store over : Store) (i : SourceSeen) (o : SinkSeen) (t : StepsSeen) (limit : ℕ) (s : Status) → given ≡ optimised → over ≡ store → InputSays given over i o t limit s → InputSays optimised store i o t limit s
+input-over optimised given store over i o t limit s chosen same h =
+    let P : Bool → Type 0 = λ b. InputSays b over i o t limit s in
+    let Q : Store → Type 0 = λ x. InputSays optimised x i o t limit s in
+    subst Q same (subst P chosen h)
 
-  pub breaks-of : (limit room : ℕ) (store over : Store) (held : Option (List ℕ)) → room ≡ read_limit → over ≡ store → held ≡ o.held → FilesMake f.files names (Loaded store.world (readings store.customs)) → stream.RespondsInPart (IsReplyOf over) (BoundsLineOf given over) i.ends_in_one_read room limit i.left i.left_after held o.held_after t.count t.count_after → BreaksOffInReplies optimised f i o t names limit
-  breaks-of limit room store over held most same at made h = record {
-    world = store.world;
-    customs = readings store.customs;
-    loaded = made;
-    front =
-        let Q : Store → Type 0 = λ s. stream.RespondsInPart (IsReplyOf s) (BoundsLineOf given s) i.ends_in_one_read room limit i.left i.left_after held o.held_after t.count t.count_after in
-        let R : Option (List ℕ) → Type 0 = λ x. stream.RespondsInPart (IsReplyOf store) (BoundsLineOf given store) i.ends_in_one_read room limit i.left i.left_after x o.held_after t.count t.count_after in
-        let S : ℕ → Type 0 = λ n. stream.RespondsInPart (IsReplyOf store) (BoundsLineOf given store) i.ends_in_one_read n limit i.left i.left_after o.held o.held_after t.count t.count_after in
-        let T : Bool → Type 0 = λ b. stream.RespondsInPart (IsReplyOf store) (BoundsLineOf b store) i.ends_in_one_read read_limit limit i.left i.left_after o.held o.held_after t.count t.count_after in
-        subst T chosen (subst S most (subst R at (subst Q same h)));
-  }
+-- the input was answered over what the files make
+pub serve-said : (optimised : Bool) (f : FolderSeen) (i : SourceSeen) (o : SinkSeen) (t : StepsSeen) (names : FileNames) (limit : ℕ) (is_steady same_input same_output : Type 0) (store : Store) (s : Status) → FilesMake f.files names (Loaded store.world (readings store.customs))
+    → InputSays optimised store i o t limit s → ServeSays optimised f i o t names limit is_steady same_input same_output s
+serve-said optimised f i o t names limit is_steady same_input same_output store status.Served made h = (record { world = store.world; customs = readings store.customs; loaded = made; answered = h.0 }, h.1)
+serve-said optimised f i o t names limit is_steady same_input same_output store status.Usage made h = absurd h
+serve-said optimised f i o t names limit is_steady same_input same_output store status.ModelRefused made h = absurd h
+serve-said optimised f i o t names limit is_steady same_input same_output store status.DataRefused made h = absurd h
+serve-said optimised f i o t names limit is_steady same_input same_output store status.ReadFault made h = inl (h.0, record { world = store.world; customs = readings store.customs; loaded = made; answered = h.1 })
+serve-said optimised f i o t names limit is_steady same_input same_output store status.WriteFault made h = (h.0, inl (record { world = store.world; customs = readings store.customs; loaded = made; front = h.1 }))
+serve-said optimised f i o t names limit is_steady same_input same_output store status.Memory made h = absurd h
+serve-said optimised f i o t names limit is_steady same_input same_output store status.InputLimit made h = record { world = store.world; customs = readings store.customs; loaded = made; answered = h }
 
-module _ (optimised given : Bool) (chosen : given ≡ optimised) (o : SinkSeen) (t : StepsSeen) (count : ℕ) (store over : Store) (same : over ≡ store) (made : IsGenerated count store.world (readings store.customs)) where
-  counted-of : Rises (BoundsLineOf given over) sample_lines t.count t.count_after → Rises (BoundsLine optimised (generated_world count) (readings store.customs)) sample_lines t.count t.count_after
-  counted-of h =
-      let Q : Store → Type 0 = λ s. Rises (BoundsLineOf given s) sample_lines t.count t.count_after in
-      let R : World → Type 0 = λ w. Rises (BoundsLine given w (readings store.customs)) sample_lines t.count t.count_after in
-      let S : Bool → Type 0 = λ b. Rises (BoundsLine b (generated_world count) (readings store.customs)) sample_lines t.count t.count_after in
-      subst S chosen (subst R made.world (subst Q same h))
+-- what the files make was told
+pub check-said : (f : FolderSeen) (o : SinkSeen) (names : FileNames) (is_steady same_output : Type 0) (store : Store) (s : Status) → FilesMake f.files names (Loaded store.world (readings store.customs)) → ToldSays store o same_output s → CheckSays f o names is_steady same_output s
+check-said f o names is_steady same_output store status.Served made h = record { world = store.world; customs = readings store.customs; loaded = made; written = h }
+check-said f o names is_steady same_output store status.Usage made h = absurd h
+check-said f o names is_steady same_output store status.ModelRefused made h = absurd h
+check-said f o names is_steady same_output store status.DataRefused made h = absurd h
+check-said f o names is_steady same_output store status.ReadFault made h = absurd h
+check-said f o names is_steady same_output store status.WriteFault made h = (h.0, inl (record { world = store.world; customs = readings store.customs; loaded = made; front = h.1 }))
+check-said f o names is_steady same_output store status.Memory made h = h
+check-said f o names is_steady same_output store status.InputLimit made h = absurd h
 
-  -- the replies to the sample requests were written
-  pub generates-of : stream.Writes (IsReplyOf over) sample_lines o.held o.held_after → Rises (BoundsLineOf given over) sample_lines t.count t.count_after → Generates optimised o t count
-  generates-of h r = record {
-    customs = readings store.customs;
-    typed = made.customs;
-    answered =
-        let Q : Store → Type 0 = λ s. stream.Writes (IsReplyOf s) sample_lines o.held o.held_after in
-        let R : World → Type 0 = λ w. stream.Writes (IsReply w (readings store.customs)) sample_lines o.held o.held_after in
-        subst R made.world (subst Q same h);
-    counted = counted-of r;
-  }
+-- what is said of the answers to the sample requests, over a world that is equal
+samples-over : (optimised given : Bool) (o : SinkSeen) (t : StepsSeen) (store over : Store) (w : World) (s : Status) → given ≡ optimised → over ≡ store → store.world ≡ w
+    → SamplesSay given over o t s → SamplesSay optimised (record store { world = w }) o t s
+samples-over optimised given o t store over w s chosen same are h =
+    let P : Bool → Type 0 = λ b. SamplesSay b over o t s in
+    let Q : Store → Type 0 = λ x. SamplesSay optimised x o t s in
+    let R : World → Type 0 = λ w. SamplesSay optimised (record store { world = w }) o t s in
+    subst R are (subst Q same (subst P chosen h))
 
-  -- the writing broke off in the replies to the sample requests
-  pub samples-of : stream.WritesPart (IsReplyOf over) sample_lines o.held o.held_after → Rises (BoundsLineOf given over) sample_lines t.count t.count_after → BreaksOffInSamples optimised o t count
-  samples-of h r = record {
-    customs = readings store.customs;
-    typed = made.customs;
-    front =
-        let Q : Store → Type 0 = λ s. stream.WritesPart (IsReplyOf s) sample_lines o.held o.held_after in
-        let R : World → Type 0 = λ w. stream.WritesPart (IsReply w (readings store.customs)) sample_lines o.held o.held_after in
-        subst R made.world (subst Q same h);
-    counted = counted-of r;
-  }
+samples_said : (optimised : Bool) (o : SinkSeen) (t : StepsSeen) (count : ℕ) (same_output : Type 0) (store : Store) (s : Status) → AreCustoms (generated_world count).model (readings store.customs)
+    → SamplesSay optimised (record store { world = generated_world count }) o t s → GenSays optimised o t count same_output s
+samples_said optimised o t count same_output store status.Served typed h = record { customs = readings store.customs; typed = typed; answered = h.0; counted = h.1 }
+samples_said optimised o t count same_output store status.Usage typed h = absurd h
+samples_said optimised o t count same_output store status.ModelRefused typed h = absurd h
+samples_said optimised o t count same_output store status.DataRefused typed h = absurd h
+samples_said optimised o t count same_output store status.ReadFault typed h = absurd h
+samples_said optimised o t count same_output store status.WriteFault typed h = (h.0, record { customs = readings store.customs; typed = typed; front = h.1; counted = h.2 })
+samples_said optimised o t count same_output store status.Memory typed h = absurd h
+samples_said optimised o t count same_output store status.InputLimit typed h = absurd h
+
+-- the sample requests were answered over the generated world
+pub gen-said : (optimised given : Bool) (o : SinkSeen) (t : StepsSeen) (count : ℕ) (same_output : Type 0) (store over : Store) (s : Status) → given ≡ optimised → over ≡ store → IsGenerated count store.world (readings store.customs)
+    → SamplesSay given over o t s → GenSays optimised o t count same_output s
+gen-said optimised given o t count same_output store over s chosen same made h =
+    samples_said optimised o t count same_output store s made.customs (samples-over optimised given o t store over (generated_world count) s chosen same made.world h)
 
 -- ---- modes
 

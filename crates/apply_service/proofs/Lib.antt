@@ -4,3 +4,4 @@ mod Ends
 mod Folders
 mod Sampled
 mod Saying
+mod Stops

@@ -1,11 +1,12 @@
 //! What each mode does.
-ghost use Rattle.std.specs.Prelude.{◌≡◌, ℕ, ◌<◌, ◌≤◌, ◌^◌, length, IfErr, IfOk};
+ghost use Rattle.std.specs.Prelude.{◌≡◌, ℕ, ◌<◌, ◌≤◌, ◌^◌, length};
 ghost use Rattle.apply_io.specs.Files.{KeepsFiles};
 ghost use Rattle.apply_io.specs.Reads.{EndsInOneRead};
-ghost use Rattle.apply_load.specs.Loads.{FilesMake, Loaded};
-ghost use Rattle.context_typing.specs.Readings.{readings};
+ghost use Rattle.apply_grammar.specs.Frames.{line_limit};
+ghost use Rattle.line_stream.specs.Buffers.{nothing_kept};
 ghost use Rattle.apply_service.specs.Runs.{FolderSeen, SourceSeen, SinkSeen, StepsSeen};
-ghost use Rattle.apply_service.specs.Outcomes.{LoadSays, ServeSays, CheckSays, GenSays};
+ghost use Rattle.apply_service.specs.Outcomes.{ServeSays, CheckSays, GenSays, read_limit};
+ghost use Rattle.apply_service.specs.Parts.{InputSays, SamplesSay, StopSays, ToldSays};
 
 use crate::samples::answer_samples;
 use crate::status::Status;
@@ -25,39 +26,53 @@ use std::thread::Threads;
 /// How many bytes a read offers.
 const BUFFER: usize = 4096;
 
-/// Loads the two files, and writes the line of one that is refused.
-fn load_or_refuse<F: Folder, K: Sink>(
-    alloc: Global,
-    names: FileNames<'_>,
-    buffer: &mut [u8],
-    folder: &mut F,
-    output: &mut K,
-) -> Result<Store, Status>
-    requires { 0 < length buffer.old }
-    ensures keeps { KeepsFiles (F.files folder.old) (F.files folder.new) }
-    ensures steady_still { F.is_steady folder.old → F.is_steady folder.new }
-    ensures later_folder { F.fault_count folder.old ≤ F.fault_count folder.new }
+/// Writes the line of a file that is refused, and says how that ended.
+fn tell_stop<K: Sink>(stop: &LoadStop, output: &mut K) -> Status
     ensures later_out { K.fault_count output.old ≤ K.fault_count output.new }
-    ensures ok { IfOk result (λ s. FilesMake (F.files folder.old) (record { model = names.entry.model.now; entities = names.entry.entities.now }) (Loaded s.world (readings s.customs))) }
-    ensures same { IfOk result (λ s. output.new ≡ output.old) }
-    ensures room { length buffer.new ≡ length buffer.old }
-    ensures stop { IfErr result (LoadSays
-        (record { files = F.files folder.old; faults = F.fault_count folder.old; faults_after = F.fault_count folder.new })
+    ensures says { StopSays
         (record { held = K.held output.old; held_after = K.held output.new; faults = K.fault_count output.old; faults_after = K.fault_count output.new })
-        (record { model = names.entry.model.now; entities = names.entry.entities.now }) (F.is_steady folder.old) (output.new ≡ output.old)) }
+        (output.new ≡ output.old) stop.now result }
 {
-    match load(alloc, folder, names, buffer) {
-        Ok(store) => Ok(store),
-        Err(LoadStop::Fault) => Err(Status::ReadFault),
-        Err(LoadStop::Memory) => Err(Status::Memory),
-        Err(LoadStop::Model(line)) => match write_output(output, &line) {
-            Ok(()) => Err(Status::ModelRefused),
-            Err(_) => Err(Status::WriteFault),
+    match stop {
+        LoadStop::Fault => Status::ReadFault,
+        LoadStop::Memory => Status::Memory,
+        LoadStop::Model(line) => match write_output(output, line) {
+            Ok(()) => Status::ModelRefused,
+            Err(_) => Status::WriteFault,
         },
-        Err(LoadStop::Data(line)) => match write_whole(output, line.as_slice()) {
-            Ok(()) => Err(Status::DataRefused),
-            Err(_) => Err(Status::WriteFault),
+        LoadStop::Data(line) => match write_whole(output, line.as_slice()) {
+            Ok(()) => Status::DataRefused,
+            Err(_) => Status::WriteFault,
         },
+    }
+}
+
+/// Answers the lines of the input, at most `limit` bytes, and says how that ended.
+fn serve_input<R: Threads + Sync, G: Gate, L: Ledger, S: Source, K: Sink>(
+    replies: &Replies<'_, R, G>,
+    steps: &mut Steps<L>,
+    limit: u64,
+    buffer: &mut [u8],
+    line: &mut LineBuffer,
+    input: &mut S,
+    output: &mut K,
+) -> Status
+    requires room { length buffer.old ≡ read_limit }
+    requires limit { line.old.limit ≡ line_limit }
+    requires empty { line.old ≡ nothing_kept line.old.limit }
+    ensures later_in { S.fault_count input.old ≤ S.fault_count input.new }
+    ensures later_out { K.fault_count output.old ≤ K.fault_count output.new }
+    ensures says { InputSays replies.now.is_optimised replies.now.store.now
+        (record { left = S.left input.old; left_after = S.left input.new; faults = S.fault_count input.old; faults_after = S.fault_count input.new; ends_in_one_read = EndsInOneRead S.left S.reads_once input.old input.new })
+        (record { held = K.held output.old; held_after = K.held output.new; faults = K.fault_count output.old; faults_after = K.fault_count output.new })
+        (record { count = steps.old; count_after = steps.new })
+        limit result }
+{
+    match answer_stream(replies, steps, limit, buffer, line, input, output) {
+        Ok(()) => Status::Served,
+        Err(Stop::Read) => Status::ReadFault,
+        Err(Stop::Write) => Status::WriteFault,
+        Err(Stop::Limit) => Status::InputLimit,
     }
 }
 
@@ -94,12 +109,12 @@ pub(crate) fn serve_files<R: Threads + Sync, F: Folder, S: Source, K: Sink, G: G
     let Ok(mut buffer) = vec![in alloc; 0u8; BUFFER] else {
         return Status::Memory;
     };
-    let store = match load_or_refuse(alloc, names, buffer.as_mut_slice(), folder, output) {
+    let store = match load(alloc, folder, names, buffer.as_mut_slice()) {
         Ok(store) => store,
-        Err(status) => return status,
+        Err(stop) => return tell_stop(&stop, output),
     };
     let replies = Replies::new(rt, alloc, &store, is_optimised, workers, gate);
-    match answer_stream(
+    serve_input(
         &replies,
         steps,
         limit,
@@ -107,11 +122,22 @@ pub(crate) fn serve_files<R: Threads + Sync, F: Folder, S: Source, K: Sink, G: G
         &mut line,
         input,
         output,
-    ) {
+    )
+}
+
+/// Writes what is told of loaded data, and says how that ended.
+fn tell_store<K: Sink>(alloc: Global, store: &Store, output: &mut K) -> Status
+    ensures later_out { K.fault_count output.old ≤ K.fault_count output.new }
+    ensures says { ToldSays store.now
+        (record { held = K.held output.old; held_after = K.held output.new; faults = K.fault_count output.old; faults_after = K.fault_count output.new })
+        (output.new ≡ output.old) result }
+{
+    let Ok(text) = check(alloc, store) else {
+        return Status::Memory;
+    };
+    match write_whole(output, text.as_slice()) {
         Ok(()) => Status::Served,
-        Err(Stop::Read) => Status::ReadFault,
-        Err(Stop::Write) => Status::WriteFault,
-        Err(Stop::Limit) => Status::InputLimit,
+        Err(_) => Status::WriteFault,
     }
 }
 
@@ -135,14 +161,26 @@ pub(crate) fn check_files<F: Folder, K: Sink>(
     let Ok(mut buffer) = vec![in alloc; 0u8; BUFFER] else {
         return Status::Memory;
     };
-    let store = match load_or_refuse(alloc, names, buffer.as_mut_slice(), folder, output) {
+    let store = match load(alloc, folder, names, buffer.as_mut_slice()) {
         Ok(store) => store,
-        Err(status) => return status,
+        Err(stop) => return tell_stop(&stop, output),
     };
-    let Ok(text) = check(alloc, &store) else {
-        return Status::Memory;
-    };
-    match write_whole(output, text.as_slice()) {
+    tell_store(alloc, &store, output)
+}
+
+/// Answers the sample requests, and says how that ended.
+fn serve_samples<R: Threads + Sync, G: Gate, L: Ledger, K: Sink>(
+    replies: &Replies<'_, R, G>,
+    steps: &mut Steps<L>,
+    output: &mut K,
+) -> Status
+    ensures later_out { K.fault_count output.old ≤ K.fault_count output.new }
+    ensures says { SamplesSay replies.now.is_optimised replies.now.store.now
+        (record { held = K.held output.old; held_after = K.held output.new; faults = K.fault_count output.old; faults_after = K.fault_count output.new })
+        (record { count = steps.old; count_after = steps.new })
+        result }
+{
+    match answer_samples(replies, steps, output) {
         Ok(()) => Status::Served,
         Err(_) => Status::WriteFault,
     }
@@ -171,8 +209,5 @@ pub(crate) fn answer_generated<R: Threads + Sync, K: Sink, G: Gate, L: Ledger>(
         return Status::Memory;
     };
     let replies = Replies::new(rt, alloc, &store, is_optimised, workers, gate);
-    match answer_samples(&replies, steps, output) {
-        Ok(()) => Status::Served,
-        Err(_) => Status::WriteFault,
-    }
+    serve_samples(&replies, steps, output)
 }

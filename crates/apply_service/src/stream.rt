@@ -21,7 +21,7 @@ use std::sync::ledger::Ledger;
 use std::thread::Threads;
 
 /// Why the stream was not read to its end.
-#[derive(Clone, Copy, Debug, PartialEq, Eq)]
+#[derive(Clone, Copy)]
 pub(crate) enum Stop {
     /// A read failed.
     Read,

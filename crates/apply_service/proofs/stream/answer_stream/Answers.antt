@@ -9,6 +9,7 @@ use Rattle.apply_replies.specs.Costs.{BoundsLineOf}
 use Rattle.apply_replies.specs.Replies.{IsReplyOf}
 use Rattle.apply_replies.specs.ReplyLaws.{long_costs, long_lines}
 use Rattle.context_typing.specs.Readings.{readings}
+use Rattle.apply_service.proofs.Stops.{ok-no_stop, write-no_limit, write-no_read}
 use Rattle.apply_service.proofs.stream.answer_stream.Goals as goal
 
 pub loop-count-init : goal.loop-count-init
@@ -67,3 +68,29 @@ returns-in-Err-answer_line-clause-write g c = λ _.
     let long = subst (LongLines (IsReplyOf c.args.replies.now.store.now)) (sym c.in-Ok-eq0.ensures.limit) (long_lines c.args.replies.now.store.now.world (readings c.args.replies.now.store.now.customs)) in
     let bound = subst (LongBounds (BoundsLineOf c.args.replies.now.is_optimised c.args.replies.now.store.now)) (sym c.in-Ok-eq0.ensures.limit) (long_costs c.args.replies.now.store.now.world (readings c.args.replies.now.store.now.customs) c.args.replies.now.is_optimised) in
     RespondsInPart-last _ _ g.S.Source.left g.S.Source.reads_once _ _ c.loop-count.input _ _ _ _ _ _ _ _ _ _ _ _ _ _ _ c.loop-count.invariant.within (omega arith) (c.in-Ok-eq0.ensures.end (omega arith)) long bound c.loop-count.invariant.advanced c.in-Ok-eq0.ensures.ok c.answer_piece.ensures.once (rw c.whole.ensures.value at c.in-Err-answer_line.ensures.err) (rw c.whole.ensures.value at c.answer_line.ensures.counted)
+
+-- ---- what is said of the other stops
+
+pub returns-in-Ok-answer_line-clause-read_cause : goal.returns-in-Ok-answer_line-clause-read_cause
+returns-in-Ok-answer_line-clause-read_cause g c = λ h. ok-no_stop h
+
+pub returns-in-Ok-answer_line-clause-read : goal.returns-in-Ok-answer_line-clause-read
+returns-in-Ok-answer_line-clause-read g c = λ h. ok-no_stop h
+
+pub returns-in-Ok-answer_line-clause-limit_passed : goal.returns-in-Ok-answer_line-clause-limit_passed
+returns-in-Ok-answer_line-clause-limit_passed g c = λ h. ok-no_stop h
+
+pub returns-in-Ok-answer_line-clause-write_cause : goal.returns-in-Ok-answer_line-clause-write_cause
+returns-in-Ok-answer_line-clause-write_cause g c = λ h. ok-no_stop h
+
+pub returns-in-Ok-answer_line-clause-write : goal.returns-in-Ok-answer_line-clause-write
+returns-in-Ok-answer_line-clause-write g c = λ h. ok-no_stop h
+
+pub returns-in-Err-answer_line-clause-read_cause : goal.returns-in-Err-answer_line-clause-read_cause
+returns-in-Err-answer_line-clause-read_cause g c = λ h. write-no_read h
+
+pub returns-in-Err-answer_line-clause-read : goal.returns-in-Err-answer_line-clause-read
+returns-in-Err-answer_line-clause-read g c = λ h. write-no_read h
+
+pub returns-in-Err-answer_line-clause-limit_passed : goal.returns-in-Err-answer_line-clause-limit_passed
+returns-in-Err-answer_line-clause-limit_passed g c = λ h. write-no_limit h
