@@ -6,7 +6,7 @@ use Rattle.std.proofs.lemmas.List.{take_all, length-take}
 use Rattle.std.proofs.lemmas.Bool.Decides.{nat_tests}
 use Rattle.apply_io.specs.Files.{Files, content, KeepsFiles}
 use Rattle.edm_model.specs.Models.{Model}
-use Rattle.edm_model.specs.ModelFile.{ModelReading}
+use Rattle.edm_model.specs.ModelFile.{ModelReading, model_limit, model_reading}
 use Rattle.edm_values.specs.declared.Value.{Value}
 use Rattle.edm_model.specs.JsonTrees.{Member, json_of, is_object, members_in}
 use Rattle.serde_json.specs.Data.{Data}
@@ -21,6 +21,34 @@ use Rattle.apply_load.proofs.Fronts.{kept_files}
 -- ---- a file that was read up to its limit is judged as the whole file
 
 module _ (limit : ℕ) where
+  long_model : (file : List ℕ) → limit ≡ model_limit → limit < length file → model_reading file ≡ ModelReading.TooLong
+  long_model file is long =
+      let past : nat_lt model_limit (length file) ≡ true = grind (arith, nat_tests) in rw past refl
+
+  same_model : (t : Bool) (bytes file : List ℕ) → limit ≡ model_limit → nat_lt limit (length file) ≡ t → bytes ≡ take (limit + 1) file → model_reading file ≡ model_reading bytes
+  same_model false bytes file is short e =
+      let within : length file ≤ limit + 1 = grind (arith, nat_tests) in
+      ap model_reading (sym (e ∙ take_all (limit + 1) file within))
+  same_model true bytes file is long e =
+      let past : limit < length file = grind (arith, nat_tests) in
+      let size : length bytes ≡ length (take (limit + 1) file) = ap length e in
+      long_model file is past ∙ sym (long_model bytes is (omega (arith, length-take (limit + 1) file)))
+
+  pub MakesModel-read : (told : Option Files) (name bytes : List ℕ) (m : Model) → limit ≡ model_limit → IsRead limit told name bytes → model_reading bytes ≡ ModelReading.Model' m → MakesModel told name m
+  MakesModel-read told name bytes m is h e = record {
+    makes = λ files t.
+        let f = h.whole files t in
+        (f.0, f.1, same_model (nat_lt limit (length f.0)) bytes f.0 is refl f.2 ∙ e);
+  }
+
+  pub RefusesModel-read : (told : Option Files) (name bytes line : List ℕ) (reading : ModelReading) → limit ≡ model_limit → IsRead limit told name bytes → model_reading bytes ≡ reading → ((entities : Option (List ℕ)) → IsReadingOutcome reading entities (RefusedModel line)) → RefusesModel told name line
+  RefusesModel-read told name bytes line reading is h e judged = record {
+    refuses = λ files entities t.
+        let f = h.whole files t in
+        let P : ModelReading → Type 0 = λ r. IsReadingOutcome r entities (RefusedModel line) in
+        (f.0, f.1, subst P (sym (same_model (nat_lt limit (length f.0)) bytes f.0 is refl f.2 ∙ e)) (judged entities));
+  }
+
   long_data : (m : Model) (file : List ℕ) → limit ≡ data_limit → limit < length file → data_reading m file ≡ DataReading.TooLong
   long_data m file is long =
       let past : nat_lt data_limit (length file) ≡ true = grind (arith, nat_tests) in rw past refl
