@@ -1,8 +1,11 @@
 -- From the response that was made to the response to a request.
-use Rattle.std.proofs.Common.{◌≡◌, ◌∙◌, ℕ, ◌+◌, ◌≤◌, Bool, false, true, List, None, Some, Ok, Err, IfOk, arith, sym, ap, ap₂, subst}
+use Rattle.std.proofs.Common.{◌≡◌, ◌∙◌, ℕ, ◌+◌, ◌≤◌, Bool, false, true, List, None, Some, Ok, Err, IfOk, arith, refl, sym, ap, ap₂, subst}
 use Rattle.std.specs.Prelude.{option_and_then}
 use Rattle.std.specs.declared.option.Option.{Option}
+use Rattle.std.specs.Global.{Vec}
 use Rattle.std.specs.declared.result.Result.{Result}
+use Rattle.edm_values.specs.declared.refusals.Refused.{Refused}
+use Rattle.edm_values.specs.declared.refusals.Refused.TheVariants as refusal
 use Rattle.line_stream.specs.Outputs.{bytes_of}
 use Rattle.line_stream.specs.declared.output.Output.{Output}
 use Rattle.edm_model.specs.Models.{Model}
@@ -28,7 +31,7 @@ use Rattle.optimiser.specs.declared.plans.Plan.{Plan}
 use Rattle.pipe_run.specs.Costs.{total_cost}
 use Rattle.rewrite_laws.specs.Rewrites.{IsPlanOf}
 use Rattle.apply_replies.specs.Costs.{BoundsRequest, IsRunFor}
-use Rattle.apply_replies.specs.Replies.{IsResponse, IsTyped, answer_body, plan}
+use Rattle.apply_replies.specs.Replies.{IsOfBody, IsResponse, IsTyped, answer, answer_body, plan, range}
 use Rattle.apply_replies.specs.Responses.{answered, plan_body}
 
 -- a response with other bytes that are the same
@@ -62,6 +65,14 @@ told-plan (Err x) P q text h e k = tt
 pub one-body : (w : World) (cs : Customs) (t u : Typed) (p : Pipe) → AreOneTyping u t → pipe_of t.pipe ≡ p → answer_body w cs t.set p t.shape ≡ answer_body w cs u.set (pipe_of u.pipe) u.shape
 one-body w cs t u p one pipe =
     ap (λ n. answer_body w cs n p t.shape) (sym one.set) ∙ ap (λ x. answer_body w cs u.set x t.shape) (sym (one.pipe ∙ pipe)) ∙ ap (answer_body w cs u.set (pipe_of u.pipe)) (sym one.shape)
+
+-- the response of a run, over what was asked
+pub respond-run : {E : Type 0} (made : Result Output E) (ran : Result (Vec ℕ) Refused) (w : World) (cs : Customs) (asked : Asked) (set : ℕ) (s : Shape) (body : Option (List ℕ)) → IsTyped w cs asked set s → asked.0 ≡ false → first_cycle w (hierarchies asked.2) ≡ None
+    → answer_body w cs set asked.2 s ≡ body → IfOk ran (λ b. body ≡ Some b.items) → (ran ≡ Err refusal.Range → body ≡ None) → IfOk made (λ x. IsOfBody ran (bytes_of x)) → IfOk made (λ x. IsResponse w cs asked (bytes_of x))
+respond-run (Ok x) (Ok b) w cs asked set s body typed plain no_cycle means some none h = respond w cs asked (bytes_of x) _ (answer set s b.items typed plain no_cycle (means ∙ some)) h
+respond-run (Ok x) (Err refusal.Range) w cs asked set s body typed plain no_cycle means some none h = respond w cs asked (bytes_of x) _ (range set s typed plain no_cycle (means ∙ none refl)) h
+respond-run (Ok x) (Err refusal.Memory) w cs asked set s body typed plain no_cycle means some none h = absurd h
+respond-run (Err x) ran w cs asked set s body typed plain no_cycle means some none h = tt
 
 -- the body of the rows that a plan gives
 pub body-of_plan : (w : World) (cs : Customs) (x : Plan) (t : Typed) (l : List Instance) (b : Option (List ℕ)) → IsPlan w.model cs x → t ≡ own_of x

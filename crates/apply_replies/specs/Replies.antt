@@ -1,5 +1,10 @@
 -- The reply to a line of the input.
 use Rattle.std.specs.Prelude.{◌≡◌, ℕ, ◌<◌, ◌≤◌, true, false, List, length, Option, Some, None, option_and_then}
+use Rattle.std.specs.Global.{Vec}
+use Rattle.std.specs.declared.result.Result as result
+use Rattle.std.specs.declared.result.Result.TheVariants.{Ok, Err}
+use Rattle.edm_values.specs.declared.refusals.Refused.{Refused}
+use Rattle.edm_values.specs.declared.refusals.Refused.TheVariants as refusal
 use Rattle.edm_values.specs.Literals.{plain_text}
 use Rattle.apply_ast.specs.Printing.{print}
 use Rattle.apply_ast.specs.Trees.{Pipe}
@@ -28,6 +33,12 @@ pub record IsTyped (w : World) (c : Customs) (asked : Asked) (set : ℕ) (s : Sh
 -- the body of what the pipeline means on the instances of its set, or none where it is refused or a value to be printed is `Beyond`
 abbrev pub answer_body : World → Customs → ℕ → Pipe → Shape → Option (List ℕ)
 answer_body w c set p s = option_and_then (body w (set_name w.model set) s) (mean w c (shape_of_set w.model set) p (rows w set))
+
+-- the response of a run that came to this body, or that was refused; none where memory was wanting
+abbrev pub IsOfBody : result.Result (Vec ℕ) Refused → List ℕ → Type 0
+IsOfBody (Ok body) response = response ≡ answered body.items
+IsOfBody (Err refusal.Range) response = response ≡ refused Range
+IsOfBody (Err refusal.Memory) response = ⊥
 
 -- The response to a request: the first that holds of no such set, no type from this transformation on, the text of the pipeline's plan where that was asked for, a cyclic hierarchy in the pipeline's text, told by its node's identifier, and a number past its range; else the body.
 pub data IsResponse (w : World) (c : Customs) (asked : Asked) : List ℕ → Type 0 where

@@ -136,6 +136,17 @@ fn body_of<R: Threads + Sync, G: Gate, L: Ledger>(
     )
 }
 
+/// The response to a request whose run came to this body, or to none.
+fn run_response(alloc: Global, body: Result<Vec<u8>, RunRefused>) -> Result<Output, AllocError>
+    ensures { IfOk result (λ r. spec.IsOfBody body (bytes_of r)) }
+{
+    match body {
+        Ok(body) => answered(alloc, body),
+        Err(RunRefused::Range) => Ok(Output::Made(past_range(alloc)?)),
+        Err(RunRefused::Memory) => Err(AllocError),
+    }
+}
+
 /// The response to a request that names a cyclic hierarchy with this node.
 fn cycle_response(alloc: Global, store: &Store, node: EntityRef) -> Result<Output, AllocError>
     requires { IsSet store.now.world.model node.set }
@@ -183,11 +194,8 @@ fn typed_response<R: Threads + Sync, G: Gate, L: Ledger>(
         return cycle_response(alloc, store, node);
     }
     let plan = plan_for(alloc, store, typed, is_optimised)?;
-    match body_of(rt, alloc, store, &plan, workers, gate, steps) {
-        Ok(body) => answered(alloc, body),
-        Err(RunRefused::Range) => Ok(Output::Made(past_range(alloc)?)),
-        Err(RunRefused::Memory) => Err(AllocError),
-    }
+    let body = body_of(rt, alloc, store, &plan, workers, gate, steps);
+    run_response(alloc, body)
 }
 
 /// The response to a request.

@@ -9,6 +9,33 @@ use Rattle.json_render.specs.Bodies.{body}
 use Rattle.apply_replies.proofs.Responding.{body-of_plan}
 use Rattle.apply_replies.proofs.replies.body_of.Goals as goal
 
+pub run-requires-clause-typed : goal.run-requires-clause-typed
+run-requires-clause-typed g c = λ _ _. rw c.data.ensures.value c.customs.ensures.typed
+
+pub run-requires-clause-customs : goal.run-requires-clause-customs
+run-requires-clause-customs g c = λ _ _. rw c.data.ensures.value c.customs.ensures.whole
+
+pub run-requires-clause-plan : goal.run-requires-clause-plan
+run-requires-clause-plan g c = λ _ _. rw (c.data.ensures.value, c.customs.ensures.value) c.requires.plan
+
+pub run-requires-clause-set : goal.run-requires-clause-set
+run-requires-clause-set g c = λ _ _. rw c.data.ensures.value c.requires.set
+
+pub run-requires-clause-ready : goal.run-requires-clause-ready
+run-requires-clause-ready g c = λ _ _. rw (c.data.ensures.value, c.hiers.ensures.value) c.requires.ready
+
+pub rows_fit-requires-clause-mean : goal.rows_fit-requires-clause-mean
+rows_fit-requires-clause-mean g c = rw (c.data.ensures.value, c.customs.ensures.value) at c.in_ok-rows.ensures.mean
+
+pub render_in_parts-requires-clause-set : goal.render_in_parts-requires-clause-set
+render_in_parts-requires-clause-set g c = λ _ _. rw (c.data-2.ensures.value, c.typed-typed.ensures.value) c.rows_fit.ensures.set
+
+pub returns-in_err-rows-clause-steps : goal.returns-in_err-rows-clause-steps
+returns-in_err-rows-clause-steps g c = rw (c.data.ensures.value, c.customs.ensures.value) at c.run.ensures.steps
+
+pub returns-clause-steps : goal.returns-clause-steps
+returns-clause-steps g c = rw (c.data.ensures.value, c.customs.ensures.value) at c.run.ensures.steps
+
 pub returns-clause-ok : goal.returns-clause-ok
 returns-clause-ok g c =
     let w = c.args.store.now.world in
