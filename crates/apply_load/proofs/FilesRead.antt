@@ -87,6 +87,11 @@ module _ (a b : Option Files) (names : FileNames) where
         subst P (sym f.1) f.2;
   }
 
+  pub FilesMake-no_model : Lacks a names.model → FilesMake a names Missing
+  FilesMake-no_model k = record {
+    make = λ files t. let P : Option (List ℕ) → Type 0 = λ f. IsPairOutcome f (content files names.entities) Missing in subst P (sym (k.lacks files t)) refl;
+  }
+
   of_model : (files : Files) (m : Model) (o : Outcome) → a ≡ Some files → MakesModel a names.model m → IsModelOutcome m (content files names.entities) o → IsFilesOutcome files names o
   of_model files m o t h is =
       let f = h.makes files t in

@@ -1,6 +1,6 @@
 use Rattle.std.proofs.Common.{None, Err, ap}
 use Rattle.apply_load.proofs.Fronts.{KeepsFiles-more}
-use Rattle.apply_load.proofs.FilesRead.{FilesMake-refused_model, FilesMake-refused_custom, FilesMake-no_data, FilesMake-refused_data, FilesMake-world}
+use Rattle.apply_load.proofs.FilesRead.{FilesMake-no_model, FilesMake-refused_model, FilesMake-refused_custom, FilesMake-no_data, FilesMake-refused_data, FilesMake-world}
 use Rattle.apply_load.proofs.loading.load.Goals as goal
 
 pub returns-in-Err-Refused-clause-stop : goal.returns-in-Err-Refused-clause-stop
@@ -25,3 +25,18 @@ returns-in-Ok-hier_states-clause-ok g c =
 
 pub returns-in-Ok-hier_states-clause-keeps : goal.returns-in-Ok-hier_states-clause-keeps
 returns-in-Ok-hier_states-clause-keeps g c = KeepsFiles-more _ _ _ c.in-Ok.ensures.keeps c.load_data.ensures.keeps
+
+pub returns-in-Err-Fault-clause-steady : goal.returns-in-Err-Fault-clause-steady
+returns-in-Err-Fault-clause-steady g c = λ e steady. FilesMake-no_model _ None _ (c.in-Err-Fault.ensures.steady (ap Err c.in-Err-Fault.field-0-is) steady)
+
+pub returns-in-Err-Fault-load_data-clause-keeps : goal.returns-in-Err-Fault-load_data-clause-keeps
+returns-in-Err-Fault-load_data-clause-keeps g c = KeepsFiles-more _ _ _ c.in-Ok.ensures.keeps c.load_data.ensures.keeps
+
+pub returns-in-Err-Memory-load_data-clause-keeps : goal.returns-in-Err-Memory-load_data-clause-keeps
+returns-in-Err-Memory-load_data-clause-keeps g c = KeepsFiles-more _ _ _ c.in-Ok.ensures.keeps c.load_data.ensures.keeps
+
+pub returns-in-Err-Refused-load_data-clause-keeps : goal.returns-in-Err-Refused-load_data-clause-keeps
+returns-in-Err-Refused-load_data-clause-keeps g c = KeepsFiles-more _ _ _ c.in-Ok.ensures.keeps c.load_data.ensures.keeps
+
+pub returns-in-Err-clause-keeps : goal.returns-in-Err-clause-keeps
+returns-in-Err-clause-keeps g c = KeepsFiles-more _ _ _ c.in-Ok.ensures.keeps c.load_data.ensures.keeps
