@@ -1,4 +1,8 @@
+mod FactoredSame
+mod Factoring
+mod FilterRest
 mod NearestFilters
+mod SameItself
 mod SameOnShapes
 mod Unsplit
 mod WalkEnd

@@ -290,7 +290,7 @@ early_walk_keeps_meaning m c S S' p t = let w = early_walk_is_plan m c S S' p t 
 -- ---- the rules that follow
 
 -- where nothing is found among the first, the search goes on behind them
-found-behind : {X Y : Type 0} (f : X → Option Y) (xs ys : List X) → find_map f xs ≡ None → find_map f (xs ++ ys) ≡ find_map f ys
+pub found-behind : {X Y : Type 0} (f : X → Option Y) (xs ys : List X) → find_map f xs ≡ None → find_map f (xs ++ ys) ≡ find_map f ys
 found-behind f [] ys e = refl
 found-behind f (x ∷ xs) ys e = let t = none-of_two (f x) (find_map f xs) e in ap (λ o. first_some o (find_map f (xs ++ ys))) t.0 ∙ found-behind f xs ys t.1
 

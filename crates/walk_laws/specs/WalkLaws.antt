@@ -7,7 +7,8 @@ use Rattle.apply_ast.specs.Trees.{Pipe}
 use Rattle.context_typing.specs.Shapes.{Shape}
 use Rattle.context_typing.specs.Typing.{Customs}
 use Rattle.rewrite_laws.specs.RewriteLaws.{IsTypedFrom, MayStandFor}
-use Rattle.rewrite_laws.specs.Rewrites.{IsPlanOf, first_rewrite, next, rules}
+use Rattle.rewrite_laws.specs.Rewrites.{IsPlanOf, first_rewrite, next, rewritten, rules}
+use Rattle.walk_laws.specs.Factored.{factored, pipe_rests}
 use Rattle.walk_laws.specs.Walks.{Rules, All, Early, is_unbranched, rules_of, walk}
 
 -- the result of the first of a walk's rules that applies
@@ -42,3 +43,13 @@ EarlyWalkKeepsMeaning IsAccepted = (m : Model) (c : Customs) (S S' : Shape) (p :
 -- behind it the rules come from the ninth on
 abbrev pub LaterRulesFollow : Type 0
 LaterRulesFollow = (m : Model) (c : Customs) (S S' : Shape) (p : Pipe) → IsTypedFrom m c S S' p → next m c S (walk Early m c S p) ≡ find_map (λ r. first_rewrite r m c S (walk Early m c S p)) (drop 8 rules)
+
+-- a typed pipeline is reached from another by rewrites, and what comes next of it is by a rule from the ninth on
+pub record IsFactored (m : Model) (c : Customs) (S S' : Shape) (p q : Pipe) : Type 0 where
+  pub reached : (n : ℕ) × (rewritten n m c S p ≡ Some q)
+  pub typed : IsTypedFrom m c S S' q
+  pub later : next m c S q ≡ find_map (λ r. first_rewrite r m c S q) (drop 8 rules)
+
+-- of a typed pipeline whose filters rest, the rewrites come to what comes out of all branches at once
+abbrev pub FactoringIsRewriting : Type 0
+FactoringIsRewriting = (m : Model) (c : Customs) (S S' : Shape) (p : Pipe) → IsTypedFrom m c S S' p → IsTrue (pipe_rests p) → IsFactored m c S S' p (factored p)

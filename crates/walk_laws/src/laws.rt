@@ -1,6 +1,6 @@
 //! The laws of walks.
 ghost use Rattle.apply_meaning.specs.MeaningLaws.{IsLoaded};
-ghost use Rattle.walk_laws.specs.WalkLaws.{EarlyWalkIsPlan, EarlyWalkKeepsMeaning, EarlyWalkKeepsPlan, LaterRulesFollow, WalkIsPlan};
+ghost use Rattle.walk_laws.specs.WalkLaws.{EarlyWalkIsPlan, EarlyWalkKeepsMeaning, EarlyWalkKeepsPlan, FactoringIsRewriting, LaterRulesFollow, WalkIsPlan};
 
 /// A typed pipeline without a concatenation, settled in one walk by all rules, is its plan.
 pub fn walk_is_plan()
@@ -25,4 +25,9 @@ pub fn early_walk_keeps_meaning()
 /// Behind the walk by the first eight rules the next rewrite is by a later rule, or there is none.
 pub fn later_rules_follow()
     ensures law { LaterRulesFollow }
+{}
+
+/// Of a typed pipeline whose filters rest, the rewrites by the ninth rule come to what comes out of all branches at once.
+pub fn factoring_is_rewriting()
+    ensures law { FactoringIsRewriting }
 {}
