@@ -1,8 +1,7 @@
 -- What the ninth rule makes of a pipeline whose filters rest: filters rest in it too, and the same steps come out of it; where the rule makes nothing, no step comes out.
-use Rattle.std.proofs.Common.{◌≡◌, refl, sym, ◌∙◌, ap, subst, Bool, true, false, not, ◌&&◌, ◌||◌, List, [], ◌∷◌, ◌++◌, drop, Option, Some, None, map, if◌then◌else◌}
+use Rattle.std.proofs.Common.{◌≡◌, refl, sym, ◌∙◌, ap, Bool, true, false, not, ◌&&◌, ◌||◌, List, [], ◌∷◌, ◌++◌, drop, Some, None, map, if◌then◌else◌}
 use Rattle.std.specs.Prelude.{option_to_list, slice_get}
-use Rattle.std.specs.List.{list_all}
-use Rattle.std.proofs.lemmas.Bool.{and_from, and_parts, true≢false}
+use Rattle.std.proofs.lemmas.Bool.{and_from, and_parts}
 use Rattle.std.proofs.lemmas.List.{append_assoc}
 use Rattle.edm_values.specs.Lists.{is_some_and}
 use Rattle.edm_values.proofs.EachLemmas.{Each, each-append, each-map, each-weaker}

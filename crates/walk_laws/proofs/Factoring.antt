@@ -1,15 +1,14 @@
 -- Where filters rest, the rewrites by the ninth rule, one after the other, make what comes out of all branches at once.
-use Rattle.std.proofs.Common.{◌≡◌, refl, sym, ◌∙◌, ap, subst, ℕ, zero, suc, true, false, List, [], ◌∷◌, drop, take, Option, Some, None, IsTrue, Contains, arith}
+use Rattle.std.proofs.Common.{◌≡◌, refl, sym, ◌∙◌, ap, subst, ℕ, zero, suc, true, false, List, [], ◌∷◌, drop, take, Option, Some, None, Contains, arith}
 use Rattle.std.specs.Prelude.{option_and_then, slice_get}
 use Rattle.std.proofs.lemmas.List.Elements.{Contains-append_left, Contains-append_right}
 use Rattle.edm_values.specs.Lists.{find_map, first_some}
 use Rattle.edm_values.proofs.EachLemmas.{each-contains}
 use Rattle.edm_model.specs.Models.{Model}
-use Rattle.apply_ast.specs.Trees.{Pipe, is_long}
+use Rattle.apply_ast.specs.Trees.{Pipe}
 use Rattle.context_typing.specs.Shapes.{Shape}
 use Rattle.context_typing.specs.Typing.{Customs}
-use Rattle.apply_meaning.specs.MeaningLaws.{IsLoaded}
-use Rattle.rewrite_laws.specs.RewriteLaws.{IsTypedFrom, MayStandFor}
+use Rattle.rewrite_laws.specs.RewriteLaws.{IsTypedFrom}
 use Rattle.rewrite_laws.specs.Rewrites.{Rule, factor_branches, first_rewrite, next, pipe_results, rewrites, rewritten, rules}
 use Rattle.rewrite_laws.proofs.OneMeaning.{loaded-firsts, loaded-results}
 use Rattle.rewrite_laws.proofs.PlanEnds.{rewrites_left, rewrites_left-next}

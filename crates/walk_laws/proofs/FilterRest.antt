@@ -10,7 +10,7 @@ use Rattle.apply_ast.specs.Trees.{Expr, Named, Pipe, Pipes, Step, is_long, pipe,
 use Rattle.apply_ast.specs.declared.expressions.BinOp.TheVariants as BinOp
 use Rattle.context_typing.specs.Shapes.{Shape}
 use Rattle.context_typing.specs.Typing.{Customs, RollupPart, after, is_sure, order_sure}
-use Rattle.rewrite_laws.specs.Rewrites.{FilterRun, Rule, branch_results, drop_identity, behind, drop_true, filter_branches, is_among, is_levels, is_no_rollup, longer, movable, pass_compute, pass_groups, pass_grouping, pass_order, pass_rollup, passing, paths, pipe_results, rules, runs, split_conjunction, step_results}
+use Rattle.rewrite_laws.specs.Rewrites.{FilterRun, Rule, branch_results, drop_identity, behind, drop_true, filter_branches, is_among, is_levels, is_no_rollup, longer, movable, pass_compute, pass_grouping, pass_order, passing, paths, pipe_results, rules, runs, split_conjunction, step_results}
 use Rattle.walk_laws.specs.Factored.{Place, branches_rest, filter_stays, is_alone, is_one, place_behind, pipe_rests, step_rests, steps_rest}
 
 -- ---- runs of filters that rest

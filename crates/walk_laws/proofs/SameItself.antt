@@ -1,10 +1,9 @@
 -- A tree is told the same as itself.
-use Rattle.std.proofs.Common.{◌≡◌, refl, ap, ◌∙◌, ℕ, ℤ, ◌==◌, Bool, true, false, ◌&&◌, Option, Some, None, List}
+use Rattle.std.proofs.Common.{◌≡◌, refl, ℕ, ℤ, ◌==◌, Bool, true, false, ◌&&◌, Option, Some, None}
 use Rattle.std.proofs.lemmas.Bool.{eq-eqb, and_from}
 use Rattle.std.specs.Cmp.{signed_Decides}
 use Rattle.edm_values.proofs.SameTexts.{lists_self, text-self}
 use Rattle.edm_values.specs.Lists.{same_text}
-use Rattle.edm_values.specs.declared.Method.{Method}
 use Rattle.apply_ast.specs.Trees.{AggItem, Expr, HierName, Key, Keys, Limit, Named, NumberLiteral, OptPipe, OrderItem, Pipe, Pipes, Step}
 use Rattle.context_typing.proofs.PathLemmas.{path-self}
 use Rattle.context_typing.specs.Paths.{same_path}
