@@ -1,9 +1,11 @@
+mod FactorLemmas
+mod PlanSteps
+mod PlanTurns
+mod RestLemmas
 pub mod HeadLemmas
 pub mod HeldLists
 pub mod IdleLemmas
 pub mod PlanMeaning
-mod PlanSteps
-mod PlanTurns
 pub mod SteppingLemmas
 pub mod TypedInside
 pub mod WalkTrees

@@ -1,4 +1,5 @@
 -- From a typed pipeline to its plan: by one walk, or turn by turn, where a turn is a rewrite by a later rule and the early walk.
+use Rattle.std.specs.Prelude.{option_and_then}
 use Rattle.std.proofs.Common.{◌≡◌, sym, ◌∙◌, ap, subst, ℕ, zero, suc, ◌<◌, ◌≤◌, Some, None, IsTrue, arith}
 use Rattle.edm_values.specs.Lists.{find_map, first_some}
 use Rattle.edm_values.proofs.OptionFacts.{chained, some_value}
@@ -9,15 +10,16 @@ use Rattle.apply_ast.specs.Views.{pipe_of}
 use Rattle.apply_meaning.specs.MeaningLaws.{IsLoaded}
 use Rattle.context_typing.specs.Answers.{IsTyping}
 use Rattle.context_typing.specs.Shapes.{Shape}
-use Rattle.context_typing.specs.Typing.{Customs, customs_typed, shape_of_set}
+use Rattle.context_typing.specs.Typing.{Customs, Types, customs_typed, shape_of_set}
 use Rattle.context_typing.specs.declared.typed.Typed.{Typed}
 use Rattle.context_typing.proofs.LawfulShapes.{own_is_lawful}
 use Rattle.rewrite_laws.specs.RewriteLaws.{IsTypedFrom, MayStandFor}
-use Rattle.rewrite_laws.specs.Rewrites.{IsPlanOf, first_rewrite, next}
+use Rattle.rewrite_laws.specs.Rewrites.{IsPlanOf, first_rewrite, next, rewritten}
 use Rattle.rewrite_laws.proofs.PlanEnds.{plan_of_next, plan_of_settled, rewrites_left, rewrites_left-next}
+use Rattle.walk_laws.specs.Factored.{factored, pipe_rests}
 use Rattle.walk_laws.specs.Walks.{All, Early, is_unbranched, rules_of, walk}
-use Rattle.walk_laws.specs.WalkLaws.{EarlyWalkIsPlan, EarlyWalkKeepsMeaning, EarlyWalkKeepsPlan, LaterRulesFollow, WalkIsPlan, next_by, rewritten_by}
-use Rattle.optimiser.specs.Plans.{IsFirstOf, IsTypedPlan, IsWalked, later_rules}
+use Rattle.walk_laws.specs.WalkLaws.{EarlyWalkIsPlan, EarlyWalkKeepsMeaning, FactoringIsRewriting, IsFactored, LaterRulesFollow, WalkIsPlan, next_by, rewritten_by}
+use Rattle.optimiser.specs.Plans.{IsFirstOf, IsTurn, IsTypedPlan, IsWalked, IsWithFactored, later_rules}
 use Rattle.optimiser.proofs.PlanSteps.{found-append, typing-kept}
 
 module _ (m : Model) (c : Customs) where
@@ -44,21 +46,78 @@ module _ (m : Model) (c : Customs) where
         pipe = subst (IsPlanOf m c S (pipe_of t.pipe)) (sym w.pipe) (law m c S t.shape (pipe_of t.pipe) (typed-from t customs typing) flat);
       }
 
-  -- ---- what the early walk leaves
+  -- ---- rewrites, one after the other
 
   module _ (S : Shape) where
     -- what comes next by the rules of the early walk comes next
     next-early : (p q : Pipe) → next_by Early m c S p ≡ Some q → next m c S p ≡ Some q
     next-early p q e = found-append (λ r. first_rewrite r m c S p) (rules_of Early) later_rules ∙ ap (λ o. first_some o (find_map (λ r. first_rewrite r m c S p) later_rules)) e
 
-    -- rewrites by them leave no more rewrites than there were
-    left-within : (n : ℕ) (p q : Pipe) → rewritten_by n Early m c S p ≡ Some q → rewrites_left m c S q ≤ rewrites_left m c S p
-    left-within zero p q e = let same = ap (rewrites_left m c S) (some_value e) in omega (arith, same)
-    left-within (suc n) p q e =
+    -- rewrites by them are rewrites
+    early-reached : (n : ℕ) (p q : Pipe) → rewritten_by n Early m c S p ≡ Some q → rewritten n m c S p ≡ Some q
+    early-reached zero p q e = e
+    early-reached (suc n) p q e =
         let t = chained (rewritten_by n Early m c S) (next_by Early m c S p) q e in
-        let k = rewrites_left-next m c S p t.0 (next-early p t.0 t.1) in
-        let l = left-within n t.0 q t.2 in
+        ap (option_and_then (rewritten n m c S)) (next-early p t.0 t.1) ∙ early-reached n t.0 q t.2
+
+    -- rewrites and others behind them
+    both-reached : (n k : ℕ) (p q r : Pipe) → rewritten n m c S p ≡ Some q → rewritten k m c S q ≡ Some r → (j : ℕ) × (rewritten j m c S p ≡ Some r)
+    both-reached zero k p q r e h = (k, ap (rewritten k m c S) (some_value e) ∙ h)
+    both-reached (suc n) k p q r e h =
+        let t = chained (rewritten n m c S) (next m c S p) q e in
+        let x = both-reached n k t.0 q r t.2 h in
+        (suc x.0, ap (option_and_then (rewritten x.0 m c S)) t.1 ∙ x.1)
+
+    -- they leave no more rewrites than there were
+    left-reached : (n : ℕ) (p q : Pipe) → rewritten n m c S p ≡ Some q → rewrites_left m c S q ≤ rewrites_left m c S p
+    left-reached zero p q e = let same = ap (rewrites_left m c S) (some_value e) in omega (arith, same)
+    left-reached (suc n) p q e =
+        let t = chained (rewritten n m c S) (next m c S p) q e in
+        let k = rewrites_left-next m c S p t.0 t.1 in
+        let l = left-reached n t.0 q t.2 in
         omega (arith, k, l)
+
+    -- they lead to a pipeline with the same plan
+    plan-reached : (n : ℕ) (p q r : Pipe) → rewritten n m c S p ≡ Some q → IsPlanOf m c S q r → IsPlanOf m c S p r
+    plan-reached zero p q r e h = let P : Pipe → Type 0 = λ x. IsPlanOf m c S x r in subst P (sym (some_value e)) h
+    plan-reached (suc n) p q r e h =
+        let t = chained (rewritten n m c S) (next m c S p) q e in
+        plan_of_next m c S p t.0 r t.1 (plan-reached n t.0 q r t.2 h)
+
+  -- ---- one turn
+
+  -- the early walk
+  pub walk-turn : (t q : Typed) → IsTrue (customs_typed m c) → IsTyping m c t → IsWalked Early m c t q → IsTyping m c q → EarlyWalkIsPlan → LaterRulesFollow → IsTurn m c t q
+  walk-turn t q customs typing w typed law follow =
+      let S = shape_of_set m t.set in
+      let p = pipe_of t.pipe in
+      let from = typed-from t customs typing in
+      let h = law m c S t.shape p from in
+      let Later : Pipe → Type 0 = λ z. next m c S z ≡ find_map (λ r. first_rewrite r m c S z) later_rules in
+      record {
+        set = w.set;
+        shape = w.shape;
+        typing = typed;
+        reached = (h.0.0, early-reached S h.0.0 p (walk Early m c S p) h.0.1 ∙ ap Some (sym w.pipe));
+        later = subst Later (sym w.pipe) (follow m c S t.shape p from);
+      }
+
+  -- and behind it the steps that come out of branches
+  pub factor-turn : (t q r : Typed) → IsTrue (customs_typed m c) → IsTurn m c t q → IsWithFactored q r → IsTrue (pipe_rests (pipe_of q.pipe)) → FactoringIsRewriting → IsTurn m c t r
+  factor-turn t q r customs k w rests law =
+      let S = shape_of_set m t.set in
+      let A : ℕ → Type 0 = λ n. IsFactored m c (shape_of_set m n) q.shape (pipe_of q.pipe) (factored (pipe_of q.pipe)) in
+      let B : Pipe → Type 0 = λ z. IsFactored m c S q.shape (pipe_of q.pipe) z in
+      let g = subst B (sym w.pipe) (subst A k.set (law m c (shape_of_set m q.set) q.shape (pipe_of q.pipe) (typed-from q customs k.typing) rests)) in
+      let X : ℕ → Type 0 = λ n. Types m c (shape_of_set m n) (pipe_of r.pipe) r.shape in
+      let Y : Shape → Type 0 = λ Z. Types m c S (pipe_of r.pipe) Z in
+      record {
+        set = w.set ∙ k.set;
+        shape = w.shape ∙ k.shape;
+        typing = subst X (sym (w.set ∙ k.set)) (subst Y (sym w.shape) g.typed.typed);
+        reached = both-reached S k.reached.0 g.reached.0 (pipe_of t.pipe) (pipe_of q.pipe) (pipe_of r.pipe) k.reached.1 g.reached.1;
+        later = g.later;
+      }
 
   -- ---- turns
 
@@ -70,52 +129,42 @@ module _ (m : Model) (c : Customs) where
     pub plan : (r : Pipe) → IsPlanOf m c (shape_of_set m q.set) (pipe_of q.pipe) r → IsPlanOf m c (shape_of_set m t.set) (pipe_of t.pipe) r
     pub later : next m c (shape_of_set m q.set) (pipe_of q.pipe) ≡ find_map (λ r. first_rewrite r m c (shape_of_set m q.set) (pipe_of q.pipe)) later_rules
 
-  module _ (t q : Typed) (customs : IsTrue (customs_typed m c)) (typing : IsTyping m c t) (w : IsWalked Early m c t q) where
-    abbrev S : Shape
-    S = shape_of_set m t.set
-
-    -- what is known of what the walk makes is known of the typed pipeline
-    walked : (P : Shape → Pipe → Type 0) → P S (walk Early m c S (pipe_of t.pipe)) → P (shape_of_set m q.set) (pipe_of q.pipe)
-    walked P h = subst (λ n. P (shape_of_set m n) (pipe_of q.pipe)) (sym w.set) (subst (P S) (sym w.pipe) h)
-
-    -- the walk alone
-    pub walk-turned : EarlyWalkKeepsPlan → LaterRulesFollow → IsTyping m c q → IsTurned t q
-    walk-turned keeps follow typed = record {
-      set = w.set;
-      shape = w.shape;
-      typing = typed;
-      plan = walked (λ Z p. (r : Pipe) → IsPlanOf m c Z p r → IsPlanOf m c S (pipe_of t.pipe) r) (λ r h. keeps m c S t.shape (pipe_of t.pipe) r (typed-from t customs typing) h);
-      later = walked (λ Z p. next m c Z p ≡ find_map (λ r. first_rewrite r m c Z p) later_rules) (follow m c S t.shape (pipe_of t.pipe) (typed-from t customs typing));
-    }
-
-    -- it leaves no more rewrites than there were
-    walk-left : EarlyWalkIsPlan → rewrites_left m c (shape_of_set m q.set) (pipe_of q.pipe) ≤ rewrites_left m c S (pipe_of t.pipe)
-    walk-left law =
-        let h = law m c S t.shape (pipe_of t.pipe) (typed-from t customs typing) in
-        walked (λ Z p. rewrites_left m c Z p ≤ rewrites_left m c S (pipe_of t.pipe)) (left-within S h.0.0 (pipe_of t.pipe) (walk Early m c S (pipe_of t.pipe)) h.0.1)
+  -- one turn
+  pub turn-first : (t q : Typed) → IsTurn m c t q → IsTurned t q
+  turn-first t q k =
+      let Later : ℕ → Type 0 = λ n. next m c (shape_of_set m n) (pipe_of q.pipe) ≡ find_map (λ r. first_rewrite r m c (shape_of_set m n) (pipe_of q.pipe)) later_rules in
+      let Plan : Pipe → ℕ → Type 0 = λ r n. IsPlanOf m c (shape_of_set m n) (pipe_of q.pipe) r in
+      record {
+        set = k.set;
+        shape = k.shape;
+        typing = k.typing;
+        plan = λ r h. plan-reached (shape_of_set m t.set) k.reached.0 (pipe_of t.pipe) (pipe_of q.pipe) r k.reached.1 (subst (Plan r) k.set h);
+        later = subst Later (sym k.set) k.later;
+      }
 
   -- one more turn
-  module _ (t q a r : Typed) (so-far : IsTurned t q) (rewrite' : IsFirstOf later_rules m c q (Some a)) (customs : IsTrue (customs_typed m c)) (typing : IsTyping m c a) (w : IsWalked Early m c a r) where
+  module _ (t q a r : Typed) (so-far : IsTurned t q) (rewrite' : IsFirstOf later_rules m c q (Some a)) (turn : IsTurn m c a r) where
     rewritten-next : next m c (shape_of_set m q.set) (pipe_of q.pipe) ≡ Some (pipe_of a.pipe)
     rewritten-next = so-far.later ∙ rewrite'.2
 
-    pub turn-turned : EarlyWalkKeepsPlan → LaterRulesFollow → IsTyping m c r → IsTurned t r
-    turn-turned keeps follow typed =
-        let k = walk-turned a r customs typing w keeps follow typed in
+    pub turn-turned : IsTurned t r
+    turn-turned =
+        let k = turn-first a r turn in
         record {
-          set = w.set ∙ rewrite'.0 ∙ so-far.set;
-          shape = w.shape ∙ rewrite'.1 ∙ so-far.shape;
-          typing = typed;
+          set = k.set ∙ rewrite'.0 ∙ so-far.set;
+          shape = k.shape ∙ rewrite'.1 ∙ so-far.shape;
+          typing = k.typing;
           plan = λ x h. so-far.plan x (plan_of_next m c (shape_of_set m q.set) (pipe_of q.pipe) (pipe_of a.pipe) x rewritten-next (subst (λ n. IsPlanOf m c (shape_of_set m n) (pipe_of a.pipe) x) rewrite'.0 (k.plan x h)));
           later = k.later;
         }
 
-    pub turn-less : EarlyWalkIsPlan → rewrites_left m c (shape_of_set m r.set) (pipe_of r.pipe) < rewrites_left m c (shape_of_set m q.set) (pipe_of q.pipe)
-    turn-less law =
+    pub turn-less : rewrites_left m c (shape_of_set m r.set) (pipe_of r.pipe) < rewrites_left m c (shape_of_set m q.set) (pipe_of q.pipe)
+    turn-less =
         let k = rewrites_left-next m c (shape_of_set m q.set) (pipe_of q.pipe) (pipe_of a.pipe) rewritten-next in
-        let l = walk-left a r customs typing w law in
+        let l = left-reached (shape_of_set m a.set) turn.reached.0 (pipe_of a.pipe) (pipe_of r.pipe) turn.reached.1 in
         let same = ap (λ n. rewrites_left m c (shape_of_set m n) (pipe_of a.pipe)) rewrite'.0 in
-        omega (arith, k, l, same)
+        let there = ap (λ n. rewrites_left m c (shape_of_set m n) (pipe_of r.pipe)) turn.set in
+        omega (arith, k, l, same, there)
 
   -- where no later rule applies, what was reached is the plan
   pub turned-plan : (t q : Typed) → IsTurned t q → IsFirstOf later_rules m c q None → IsTypedPlan m c t q

@@ -6,10 +6,12 @@ pub use Rattle.context_typing.specs.Typing
 pub use Rattle.apply_meaning.specs.MeaningLaws
 pub use Rattle.rewrite_laws.specs.RewriteLaws
 pub use Rattle.rewrite_laws.specs.Rewrites
+pub use Rattle.walk_laws.specs.Factored
 pub use Rattle.walk_laws.specs.Walks
 pub mod HeadForms
 pub mod HeldSegments
 pub mod IdleForms
 pub mod Plans
+pub mod RestForms
 pub mod WalkForms
 pub mod WalkRules

@@ -1,12 +1,13 @@
 -- Plans as their two typings, and one rewrite of a typed pipeline.
-use Rattle.std.specs.Prelude.{◌≡◌, ◌⊎◌, List, Option, Some, None, drop, length, unwrap_or}
+use Rattle.std.specs.Prelude.{◌≡◌, ◌⊎◌, ℕ, List, Option, Some, None, drop, length, unwrap_or}
 use Rattle.edm_values.specs.Lists.{find_map}
 use Rattle.edm_model.specs.Models.{Model}
 use Rattle.apply_ast.specs.Views.{pipe_of}
 use Rattle.context_typing.specs.Answers.{IsTyping}
 use Rattle.context_typing.specs.Typing.{Customs, shape_of_set}
 use Rattle.context_typing.specs.declared.typed.Typed.{Typed}
-use Rattle.rewrite_laws.specs.Rewrites.{Rule, IsPlanOf, first_rewrite, rules}
+use Rattle.rewrite_laws.specs.Rewrites.{Rule, IsPlanOf, first_rewrite, next, rewritten, rules}
+use Rattle.walk_laws.specs.Factored.{factored}
 use Rattle.walk_laws.specs.Walks.{Rules, Early, rules_of, walk}
 use Rattle.optimiser.specs.declared.plans.Plan.{Plan}
 
@@ -53,6 +54,20 @@ pub record IsWalked (w : Rules) (m : Model) (c : Customs) (t q : Typed) : Type 0
   pub set : q.set ≡ t.set
   pub shape : q.shape ≡ t.shape
   pub pipe : pipe_of q.pipe ≡ walk w m c (shape_of_set m t.set) (pipe_of t.pipe)
+
+-- a typed pipeline with the steps that come out of branches before the concatenations, with its set and its shape
+pub record IsWithFactored (t q : Typed) : Type 0 where
+  pub set : q.set ≡ t.set
+  pub shape : q.shape ≡ t.shape
+  pub pipe : pipe_of q.pipe ≡ factored (pipe_of t.pipe)
+
+-- a typed pipeline that rewrites lead to from another, with its set and its shape, of which the next rewrite is by a later rule
+pub record IsTurn (m : Model) (c : Customs) (t q : Typed) : Type 0 where
+  pub set : q.set ≡ t.set
+  pub shape : q.shape ≡ t.shape
+  pub typing : IsTyping m c q
+  pub reached : (n : ℕ) × (rewritten n m c (shape_of_set m t.set) (pipe_of t.pipe) ≡ Some (pipe_of q.pipe))
+  pub later : next m c (shape_of_set m t.set) (pipe_of q.pipe) ≡ find_map (λ r. first_rewrite r m c (shape_of_set m t.set) (pipe_of q.pipe)) later_rules
 
 -- the plan of a typed pipeline, with its set and its shape
 pub record IsTypedPlan (m : Model) (c : Customs) (t q : Typed) : Type 0 where

@@ -13,23 +13,25 @@
 //!
 //! A plan is not made rewrite by rewrite. `walk_laws` defines a walk over a pipeline, and has the laws by which `plans` uses it: a
 //! pipeline without a concatenation becomes its plan in one walk by all rules. Any other is settled in one walk by the rules that
-//! come first; then comes one rewrite by a later rule, and the walk again, until no rule applies. `next_rewrite` makes one rewrite,
-//! for comparisons.
+//! come first; where its filters rest then, all steps that come out of branches are put before their concatenations; then comes one
+//! rewrite by a later rule, and the walk again, until no rule applies. `next_rewrite` makes one rewrite, for comparisons.
 //!
-//! `plans` has the plan, `walking` the walk, `unbranched` whether a pipeline has a concatenation, and `rewriting` the one
-//! rewrite. Below `walking`, `held` has the segments of a walk, a step with the filters behind it; `heads` says which filters
+//! `plans` has the plan, `walking` the walk, `unbranched` whether a pipeline has a concatenation, `resting` whether its filters
+//! rest, `factoring` the steps that come out of branches, and `rewriting` the one rewrite. Below `walking`, `held` has the segments of a walk, a step with the filters behind it; `heads` says which filters
 //! pass a step and which go into it; `idle` drops steps that are idle at the end; `putting` puts filters, `stepping` the steps
 //! of a pipeline, and `ends` the filters that have gone to its end. `rules` has the rules of a walk, and `inside` laws of what
 //! is typed inside a typed step.
 #![tactic(auto)]
 
 mod ends;
+mod factoring;
 mod heads;
 mod held;
 mod idle;
 mod inside;
 mod plans;
 mod putting;
+mod resting;
 mod rewriting;
 mod rules;
 mod stepping;

@@ -11,9 +11,11 @@ ghost use Rattle.context_typing.specs.Typing as typing;
 ghost use Rattle.rewrite_laws.specs.RewriteLaws.{MayStandFor};
 ghost use Rattle.rewrite_laws.specs.Rewrites.{IsPlanOf};
 ghost use Rattle.walk_laws.specs.Walks as walks;
-ghost use Rattle.optimiser.specs.Plans.{AreOneTyping, IsPlan, IsTypedPlan, IsWalked, own_of, written_of};
+ghost use Rattle.optimiser.specs.Plans.{AreOneTyping, IsPlan, IsTurn, IsTypedPlan, IsWalked, IsWithFactored, own_of, written_of};
 ghost use Rattle.optimiser.specs.WalkRules.{rules_named};
 
+use crate::factoring::factored;
+use crate::resting::pipe_rests;
 use crate::rewriting::later_rewrite;
 use crate::rules::Rules;
 use crate::unbranched::is_unbranched;
@@ -23,7 +25,7 @@ use context_typing::{Customs, Typed, set_shape};
 use edm_model::Model;
 use std::alloc::{AllocError, Global};
 use walk_laws::{
-    early_walk_is_plan, early_walk_keeps_meaning, early_walk_keeps_plan, later_rules_follow,
+    early_walk_is_plan, early_walk_keeps_meaning, factoring_is_rewriting, later_rules_follow,
     walk_is_plan,
 };
 
@@ -101,6 +103,36 @@ fn settled(alloc: Global, m: &Model, c: &Customs, t: &Typed) -> Result<Typed, Al
     walked(alloc, m, c, Rules::Early, t)
 }
 
+/// A typed pipeline, with the steps that come out of branches before the concatenations.
+fn with_factored(alloc: Global, t: &Typed) -> Result<Typed, AllocError>
+    ensures { IfOk result (IsWithFactored t.now) }
+{
+    Ok(Typed {
+        set: t.set,
+        pipe: factored(alloc, &t.pipe)?,
+        shape: t.shape.copy(alloc)?,
+    })
+}
+
+/// A typed pipeline settled by the rules that come first. Where its filters rest then, the rule that takes a step out of branches
+/// comes next, until it applies no more, and all those steps come out at once.
+fn turned(alloc: Global, m: &Model, c: &Customs, t: &Typed) -> Result<Typed, AllocError>
+    requires set { IsSet m.now t.now.set }
+    requires customs { AreTypedOver m.now c.now }
+    requires whole { IsTrue (customs_typed m.now (readings c.now)) }
+    requires typing { IsTyping m.now (readings c.now) t.now }
+    ensures { IfOk result (IsTurn m.now (readings c.now) t.now) }
+{
+    early_walk_is_plan();
+    later_rules_follow();
+    factoring_is_rewriting();
+    let walked = settled(alloc, m, c, t)?;
+    if pipe_rests(&walked.pipe) {
+        return with_factored(alloc, &walked);
+    }
+    Ok(walked)
+}
+
 /// The plan of a typed pipeline. One walk by all rules makes it of a pipeline without a concatenation. Any other is settled by the
 /// rules that come first, and again behind each rewrite by a later rule, until none applies.
 fn planned(alloc: Global, m: &Model, c: &Customs, t: &Typed) -> Result<Typed, AllocError>
@@ -114,12 +146,9 @@ fn planned(alloc: Global, m: &Model, c: &Customs, t: &Typed) -> Result<Typed, Al
     if is_unbranched(&t.pipe) {
         return walked(alloc, m, c, Rules::All, t);
     }
-    early_walk_is_plan();
-    early_walk_keeps_plan();
-    later_rules_follow();
-    let mut current = settled(alloc, m, c, t)?;
+    let mut current = turned(alloc, m, c, t)?;
     while let Some(after) = later_rewrite(alloc, m, c, &current)? {
-        let next = settled(alloc, m, c, &after)?;
+        let next = turned(alloc, m, c, &after)?;
         current = next;
     }
     Ok(current)

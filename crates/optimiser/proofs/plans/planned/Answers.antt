@@ -1,11 +1,9 @@
-use Rattle.std.proofs.Common.{◌∙◌, sym, subst, Option, IfSome}
+use Rattle.std.proofs.Common.{◌∙◌, sym, subst}
 use Rattle.std.proofs.lemmas.Result.{IfOk-weaker}
-use Rattle.context_typing.specs.Answers.{IsTyping}
 use Rattle.context_typing.specs.Readings.{readings}
-use Rattle.context_typing.specs.declared.typed.Typed.{Typed}
 use Rattle.walk_laws.specs.Walks.{All}
 use Rattle.optimiser.specs.Plans.{IsFirstOf, IsTypedPlan, IsWalked, later_rules}
-use Rattle.optimiser.proofs.PlanTurns.{turn-less, turn-turned, turned-plan, walk-plan, walk-turned}
+use Rattle.optimiser.proofs.PlanTurns.{turn-first, turn-less, turn-turned, turned-plan, walk-plan}
 use Rattle.optimiser.proofs.plans.planned.Goals as goal
 
 pub returns-then-is_unbranched : goal.returns-then-is_unbranched
@@ -17,40 +15,35 @@ returns-then-is_unbranched c =
     IfOk-weaker c.walked.result (IsWalked All m cs t) (IsTypedPlan m cs t) (λ q w. walk-plan m cs t q c.walk_is_plan.ensures.law c.requires.whole c.requires.typing flat w) c.walked.ensures
 
 pub loop-current-init : goal.loop-current-init
-loop-current-init c =
-    walk-turned c.args.m.now (readings c.args.c.now) c.args.t.now c.in_ok-current.current c.requires.whole c.requires.typing c.in_ok-current.ensures.value c.early_walk_keeps_plan.ensures.law c.later_rules_follow.ensures.law c.in_ok-current.ensures.typing
+loop-current-init c = turn-first c.args.m.now (readings c.args.c.now) c.args.t.now c.in_ok-current.current c.in_ok-current.ensures
 
 pub loop-current-smaller : goal.loop-current-smaller
 loop-current-smaller c =
     let m = c.args.m.now in
     let cs = readings c.args.c.now in
     let q = c.loop-current.current in
-    let typing = subst (λ (o : Option Typed). IfSome o (IsTyping m cs)) c.in-Some.is c.in_ok-after.ensures.typing in
-    turn-less m cs c.args.t.now q c.in-Some.after c.in_ok-next.next c.loop-current.invariant (subst (IsFirstOf later_rules m cs q) c.in-Some.is c.in_ok-after.ensures.value) c.requires.whole typing c.in_ok-next.ensures.value c.early_walk_is_plan.ensures.law
+    turn-less m cs c.args.t.now q c.in-Some.after c.in_ok-next.next c.loop-current.invariant (subst (IsFirstOf later_rules m cs q) c.in-Some.is c.in_ok-after.ensures.value) c.in_ok-next.ensures
 
 pub loop-current-preserved : goal.loop-current-preserved
 loop-current-preserved c =
     let m = c.args.m.now in
     let cs = readings c.args.c.now in
     let q = c.loop-current.current in
-    let typing = subst (λ (o : Option Typed). IfSome o (IsTyping m cs)) c.in-Some.is c.in_ok-after.ensures.typing in
-    turn-turned m cs c.args.t.now q c.in-Some.after c.in_ok-next.next c.loop-current.invariant (subst (IsFirstOf later_rules m cs q) c.in-Some.is c.in_ok-after.ensures.value) c.requires.whole typing c.in_ok-next.ensures.value c.early_walk_keeps_plan.ensures.law c.later_rules_follow.ensures.law c.in_ok-next.ensures.typing
+    turn-turned m cs c.args.t.now q c.in-Some.after c.in_ok-next.next c.loop-current.invariant (subst (IsFirstOf later_rules m cs q) c.in-Some.is c.in_ok-after.ensures.value) c.in_ok-next.ensures
 
 pub loop-current-smaller-in_ok-next : goal.loop-current-smaller-in_ok-next
 loop-current-smaller-in_ok-next c =
     let m = c.args.m.now in
     let cs = readings c.args.c.now in
     let q = c.loop-current.current in
-    let typing = subst (λ (o : Option Typed). IfSome o (IsTyping m cs)) c.in-Some.is c.in_ok-after.ensures.typing in
-    turn-less m cs c.args.t.now q c.in-Some.after c.in_ok-next.next c.loop-current.invariant (subst (IsFirstOf later_rules m cs q) c.in-Some.is c.in_ok-after.ensures.value) c.requires.whole typing c.in_ok-next.ensures.value c.early_walk_is_plan.ensures.law
+    turn-less m cs c.args.t.now q c.in-Some.after c.in_ok-next.next c.loop-current.invariant (subst (IsFirstOf later_rules m cs q) c.in-Some.is c.in_ok-after.ensures.value) c.in_ok-next.ensures
 
 pub loop-current-preserved-in_ok-next : goal.loop-current-preserved-in_ok-next
 loop-current-preserved-in_ok-next c =
     let m = c.args.m.now in
     let cs = readings c.args.c.now in
     let q = c.loop-current.current in
-    let typing = subst (λ (o : Option Typed). IfSome o (IsTyping m cs)) c.in-Some.is c.in_ok-after.ensures.typing in
-    turn-turned m cs c.args.t.now q c.in-Some.after c.in_ok-next.next c.loop-current.invariant (subst (IsFirstOf later_rules m cs q) c.in-Some.is c.in_ok-after.ensures.value) c.requires.whole typing c.in_ok-next.ensures.value c.early_walk_keeps_plan.ensures.law c.later_rules_follow.ensures.law c.in_ok-next.ensures.typing
+    turn-turned m cs c.args.t.now q c.in-Some.after c.in_ok-next.next c.loop-current.invariant (subst (IsFirstOf later_rules m cs q) c.in-Some.is c.in_ok-after.ensures.value) c.in_ok-next.ensures
 
 pub returns : goal.returns
 returns c =
