@@ -3,8 +3,8 @@ use par_stages::Gate;
 use std::hint::spin_loop;
 use std::sync::atomic::{AtomicBool, AtomicU64, Ordering};
 
-/// A gate at which pieces 0 and 1 wait for one another. Each has a flag, which stays up only where it saw the other's. Pieces that
-/// are not alone in their fold are counted.
+/// A gate at which pieces 0 and 1 of a fold wait for one another. Each has a flag, which stays up only where it saw the other's. Pieces
+/// that are not alone in their fold are counted; one that is alone is let pass.
 #[derive(Drop)]
 pub struct Meeting {
     first: AtomicBool,
@@ -50,9 +50,10 @@ fn wait_for(own: &AtomicBool, other: &AtomicBool) {
 
 impl Gate for Meeting {
     fn piece(&self, k: u32, of: u32) {
-        if of > 1 {
-            self.shared.fetch_add(1, Ordering::SeqCst);
+        if of == 1 {
+            return;
         }
+        self.shared.fetch_add(1, Ordering::SeqCst);
         match k {
             0 => wait_for(&self.first, &self.second),
             1 => wait_for(&self.second, &self.first),
