@@ -1,7 +1,7 @@
 //! A hierarchy as deep as it has nodes.
-use crate::worlds::PLAIN;
+use crate::worlds::{PLAIN, expect_run};
 use apply_service::Status;
-use run_support::{Case, outcome};
+use run_support::Case;
 use std::alloc::Global;
 use std::test::Fail;
 use test_support::samples::SAMPLE;
@@ -40,8 +40,5 @@ fn all_nodes_of_a_long_chain_are_below_its_root(rt: HostRuntime) -> Result<(), F
         input: ALL_BELOW,
         ..PLAIN
     };
-    let ran = outcome(&rt, alloc, &case)?;
-    assert_eq!(rt; ran.status, Status::Served);
-    assert_eq!(rt; ran.output.as_slice(), COUNTED.as_bytes());
-    Ok(())
+    expect_run(&rt, alloc, &case, Status::Served, COUNTED.as_bytes())
 }

@@ -2,126 +2,92 @@
 ghost use Rattle.std.specs.Prelude.{◌≡◌, None};
 ghost use Rattle.apply_io.specs.Causes.{next_count};
 
-use crate::worlds::{FIRST, PLAIN, RESPONSES};
+use crate::worlds::{FIRST, LINES, PLAIN, RESPONSES, expect_run};
+use Special::{Folder, Nothing, Read, Words, Write};
+use Status::{InputLimit, ReadFault, Served, Usage, WriteFault};
 use apply_io::{Failed, Source};
 use apply_service::Status;
 use run_support::{Case, outcome, outcome_of, outcome_over, texts, words};
+use std::alloc::Global;
+use std::process::Abort;
 use std::test::Fail;
+use std::thread::Threads;
+
+/// The statuses and their numbers.
+const NUMBERS: &[(Status, u8)] = &[
+    (Status::Served, 0),
+    (Status::Usage, 1),
+    (Status::ModelRefused, 2),
+    (Status::DataRefused, 3),
+    (Status::ReadFault, 4),
+    (Status::WriteFault, 5),
+    (Status::Memory, 6),
+    (Status::InputLimit, 7),
+];
 
 #[test]
 fn each_status_has_its_number(rt: HostRuntime) {
-    for (status, number) in [
-        (Status::Served, 0u8),
-        (Status::Usage, 1),
-        (Status::ModelRefused, 2),
-        (Status::DataRefused, 3),
-        (Status::ReadFault, 4),
-        (Status::WriteFault, 5),
-        (Status::Memory, 6),
-        (Status::InputLimit, 7),
-    ] {
-        assert_eq!(rt; status.number(), number);
+    for (status, number) in NUMBERS {
+        assert_eq!(rt; status.number(), *number);
     }
 }
 
-#[test]
-fn after_a_failed_read_the_lines_before_it_are_answered(rt: HostRuntime) -> Result<(), Fail> {
-    for number in 1u64..=4 {
-        let folder = outcome(
-            &rt,
-            rt.alloc(),
-            &Case {
-                folder_fails: number,
-                ..PLAIN
-            },
-        )?;
-        assert_eq!(rt; folder.status, Status::ReadFault);
-        assert_eq!(rt; folder.output.as_slice(), b"".as_slice());
-    }
-    for (input_fails, output) in [(1u64, b"".as_slice()), (2, b"".as_slice()), (3, FIRST)] {
-        let input = outcome(
-            &rt,
-            rt.alloc(),
-            &Case {
-                most: 48,
-                input_fails,
-                ..PLAIN
-            },
-        )?;
-        assert_eq!(rt; input.status, Status::ReadFault);
-        assert_eq!(rt; input.output.as_slice(), output);
-    }
-    Ok(())
+/// No bytes.
+const NOTHING: &[u8] = b"";
+
+/// The first response without the LF behind its body.
+const FIRST_BODY: &[u8] =
+    b"200 88\n{\"@context\":\"$metadata#Sales(Total)\",\"value\":[{\"Total@type\":\"Decimal\",\"Total\":\"26.00\"}]}";
+
+/// What is special in a run.
+#[derive(Clone, Copy)]
+enum Special {
+    /// Nothing.
+    Nothing,
+    /// The call on the folder with this number fails.
+    Folder(u64),
+    /// The read of the input with this number fails.
+    Read(u64),
+    /// The write with this number fails.
+    Write(u64),
+    /// There are further words.
+    Words(&'static [&'static str]),
 }
 
-#[test]
-fn a_failed_write_leaves_a_front_of_the_responses(rt: HostRuntime) -> Result<(), Fail> {
-    let first = outcome(
-        &rt,
-        rt.alloc(),
-        &Case {
-            output_fails: 1,
-            ..PLAIN
-        },
-    )?;
-    assert_eq!(rt; first.status, Status::WriteFault);
-    assert_eq!(rt; first.output.as_slice(), b"".as_slice());
-    for (output_fails, output) in [
-        (2u64, b"200 88\n".as_slice()),
-        (3, FIRST.get(..95).unwrap_or(FIRST)),
-        (4, FIRST),
-    ] {
-        let ran = outcome(
-            &rt,
-            rt.alloc(),
-            &Case {
-                output_fails,
-                ..PLAIN
-            },
-        )?;
-        assert_eq!(rt; ran.status, Status::WriteFault);
-        assert_eq!(rt; ran.output.as_slice(), output);
-    }
-    let short = outcome(
-        &rt,
-        rt.alloc(),
-        &Case {
-            most: 3,
-            output_fails: 2,
-            ..PLAIN
-        },
-    )?;
-    assert_eq!(rt; short.status, Status::WriteFault);
-    assert_eq!(rt; short.output.as_slice(), b"200".as_slice());
-    Ok(())
-}
+/// What is special in a run, how many bytes a call gives or takes, how the run ends, and what it writes.
+type End = (Special, usize, Status, &'static [u8]);
 
-#[test]
-fn past_the_limit_the_lines_within_it_are_answered(rt: HostRuntime) -> Result<(), Fail> {
-    for (limit, most, status, output) in [
-        ("92", 4096usize, Status::Served, RESPONSES),
-        ("92", 1, Status::Served, RESPONSES),
-        ("91", 4096, Status::InputLimit, FIRST),
-        ("91", 1, Status::InputLimit, FIRST),
-        ("50", 7, Status::InputLimit, FIRST),
-        ("49", 7, Status::InputLimit, b"".as_slice()),
-        ("10", 4096, Status::InputLimit, b"".as_slice()),
-        ("0", 4096, Status::InputLimit, b"".as_slice()),
-    ] {
-        let ran = outcome(
-            &rt,
-            rt.alloc(),
-            &Case {
-                words: &["--max-bytes", limit],
-                most,
-                ..PLAIN
-            },
-        )?;
-        assert_eq!(rt; ran.status, status, "{limit}");
-        assert_eq!(rt; ran.output.as_slice(), output, "{limit}");
-    }
-    Ok(())
-}
+/// After a failed read the lines before it are answered.
+const FAILED_READS: &[End] = &[
+    (Folder(1), 4096, ReadFault, NOTHING),
+    (Folder(2), 4096, ReadFault, NOTHING),
+    (Folder(3), 4096, ReadFault, NOTHING),
+    (Folder(4), 4096, ReadFault, NOTHING),
+    (Read(1), 48, ReadFault, NOTHING),
+    (Read(2), 48, ReadFault, NOTHING),
+    (Read(3), 48, ReadFault, FIRST),
+];
+
+/// A failed write leaves a front of the responses.
+const FAILED_WRITES: &[End] = &[
+    (Write(1), 4096, WriteFault, NOTHING),
+    (Write(2), 4096, WriteFault, b"200 88\n"),
+    (Write(3), 4096, WriteFault, FIRST_BODY),
+    (Write(4), 4096, WriteFault, FIRST),
+    (Write(2), 3, WriteFault, b"200"),
+];
+
+/// Past the limit of the input the lines within it are answered.
+const LIMITS: &[End] = &[
+    (Words(&["--max-bytes", "92"]), 4096, Served, RESPONSES),
+    (Words(&["--max-bytes", "92"]), 1, Served, RESPONSES),
+    (Words(&["--max-bytes", "91"]), 4096, InputLimit, FIRST),
+    (Words(&["--max-bytes", "91"]), 1, InputLimit, FIRST),
+    (Words(&["--max-bytes", "50"]), 7, InputLimit, FIRST),
+    (Words(&["--max-bytes", "49"]), 7, InputLimit, NOTHING),
+    (Words(&["--max-bytes", "10"]), 4096, InputLimit, NOTHING),
+    (Words(&["--max-bytes", "0"]), 4096, InputLimit, NOTHING),
+];
 
 /// Two requests, each with its LF, the first of 49 bytes with it.
 const TWO: &[u8] =
@@ -138,112 +104,95 @@ const IN_PARTS: Case<'static> = Case {
     ..PLAIN
 };
 
-/// No bytes.
-const NOTHING: &[u8] = b"";
+/// What was written belongs to what was taken, whatever ends the run.
+const TAKEN: &[End] = &[
+    (Nothing, 49, Served, BOTH),
+    (Read(1), 49, ReadFault, NOTHING),
+    (Read(2), 49, ReadFault, FIRST),
+    (Read(3), 49, ReadFault, FIRST),
+    (Read(4), 49, ReadFault, BOTH),
+    (Folder(1), 49, ReadFault, NOTHING),
+    (Folder(2), 49, ReadFault, NOTHING),
+    (Folder(3), 49, ReadFault, NOTHING),
+    (Folder(4), 49, ReadFault, NOTHING),
+    (Folder(5), 49, Served, BOTH),
+    (Words(&["--max-bytes", "123"]), 49, Served, BOTH),
+    (Words(&["--max-bytes", "122"]), 49, InputLimit, FIRST),
+    (Words(&["--max-bytes", "49"]), 49, InputLimit, FIRST),
+    (Words(&["--max-bytes", "10"]), 49, InputLimit, NOTHING),
+    (Words(&["--max-bytes", "0"]), 49, InputLimit, NOTHING),
+    (Words(&["--workers", "0"]), 49, Usage, NOTHING),
+    (Words(&["--model", "x"]), 49, Usage, NOTHING),
+];
+
+/// The same of an input without a byte.
+const NONE_TAKEN: &[End] = &[(Words(&["--max-bytes", "0"]), 49, Served, NOTHING)];
+
+/// Inputs, and runs over them.
+const RUNS: &[(&[u8], &[End])] = &[
+    (LINES, FAILED_READS),
+    (LINES, FAILED_WRITES),
+    (LINES, LIMITS),
+    (TWO, TAKEN),
+    (NOTHING, NONE_TAKEN),
+];
+
+/// The case with what is special in it.
+fn with_special<'a>(case: Case<'a>, special: Special) -> Case<'a> {
+    match special {
+        Nothing => case,
+        Folder(folder_fails) => Case {
+            folder_fails,
+            ..case
+        },
+        Read(input_fails) => Case {
+            input_fails,
+            ..case
+        },
+        Write(output_fails) => Case {
+            output_fails,
+            ..case
+        },
+        Words(words) => Case { words, ..case },
+    }
+}
+
+/// Runs over an input, and compares how the run ends and what it writes.
+fn expect_end<R: Threads + Sync + Abort>(
+    rt: &R,
+    alloc: Global,
+    input: &[u8],
+    end: &End,
+) -> Result<(), Fail> {
+    let (special, most, status, output) = *end;
+    let plain = Case {
+        input,
+        most,
+        ..PLAIN
+    };
+    let case = with_special(plain, special);
+    expect_run(rt, alloc, &case, status, output)
+}
 
 #[test]
-fn what_was_written_belongs_to_what_was_taken(rt: HostRuntime) -> Result<(), Fail> {
-    for (input_fails, folder_fails, words, input, status, output) in [
-        (0u64, 0u64, [].as_slice(), TWO, Status::Served, BOTH),
-        (1, 0, [].as_slice(), TWO, Status::ReadFault, NOTHING),
-        (2, 0, [].as_slice(), TWO, Status::ReadFault, FIRST),
-        (3, 0, [].as_slice(), TWO, Status::ReadFault, FIRST),
-        (4, 0, [].as_slice(), TWO, Status::ReadFault, BOTH),
-        (0, 1, [].as_slice(), TWO, Status::ReadFault, NOTHING),
-        (0, 2, [].as_slice(), TWO, Status::ReadFault, NOTHING),
-        (0, 3, [].as_slice(), TWO, Status::ReadFault, NOTHING),
-        (0, 4, [].as_slice(), TWO, Status::ReadFault, NOTHING),
-        (0, 5, [].as_slice(), TWO, Status::Served, BOTH),
-        (
-            0,
-            0,
-            ["--max-bytes", "123"].as_slice(),
-            TWO,
-            Status::Served,
-            BOTH,
-        ),
-        (
-            0,
-            0,
-            ["--max-bytes", "122"].as_slice(),
-            TWO,
-            Status::InputLimit,
-            FIRST,
-        ),
-        (
-            0,
-            0,
-            ["--max-bytes", "49"].as_slice(),
-            TWO,
-            Status::InputLimit,
-            FIRST,
-        ),
-        (
-            0,
-            0,
-            ["--max-bytes", "10"].as_slice(),
-            TWO,
-            Status::InputLimit,
-            NOTHING,
-        ),
-        (
-            0,
-            0,
-            ["--max-bytes", "0"].as_slice(),
-            TWO,
-            Status::InputLimit,
-            NOTHING,
-        ),
-        (
-            0,
-            0,
-            ["--max-bytes", "0"].as_slice(),
-            NOTHING,
-            Status::Served,
-            NOTHING,
-        ),
-        (
-            0,
-            0,
-            ["--workers", "0"].as_slice(),
-            TWO,
-            Status::Usage,
-            NOTHING,
-        ),
-        (
-            0,
-            0,
-            ["--model", "x"].as_slice(),
-            TWO,
-            Status::Usage,
-            NOTHING,
-        ),
-    ] {
-        let case = Case {
-            input_fails,
-            folder_fails,
-            words,
-            input,
-            ..IN_PARTS
-        };
-        let ran = outcome(&rt, rt.alloc(), &case)?;
-        assert_eq!(rt; ran.status, status, "{input_fails} {folder_fails}");
-        assert_eq!(rt;
-            ran.output.as_slice(),
-            output,
-            "{input_fails} {folder_fails}"
-        );
+fn what_runs_write_belongs_to_what_they_took(rt: HostRuntime) -> Result<(), Fail> {
+    for (input, ends) in RUNS {
+        for end in *ends {
+            expect_end(&rt, rt.alloc(), input, end)?;
+        }
     }
-    let words = texts(rt.alloc(), &["--model", "x", "--data", "d"])?;
-    let missing = outcome_of(
-        &rt,
-        rt.alloc(),
-        &PLAIN,
-        words.as_slice(),
-        TWO.to_vec(rt.alloc())?,
-    )?;
-    assert_eq!(rt; missing.status, Status::ReadFault);
-    assert_eq!(rt; missing.output.as_slice(), NOTHING);
+    Ok(())
+}
+
+#[test]
+fn a_file_that_is_not_there_is_a_failed_read(rt: HostRuntime) -> Result<(), Fail> {
+    let alloc = rt.alloc();
+    let words = texts(alloc, &["--model", "x", "--data", "d"])?;
+    let ran = outcome_of(&rt, alloc, &PLAIN, words.as_slice(), TWO.to_vec(alloc)?)?;
+    assert_eq!(rt;
+        (ran.status, ran.output.as_slice()),
+        (Status::ReadFault, NOTHING)
+    );
     Ok(())
 }
 
@@ -251,32 +200,32 @@ fn what_was_written_belongs_to_what_was_taken(rt: HostRuntime) -> Result<(), Fai
 /// and 2 bytes and a line end.
 const WRITES: u64 = 9;
 
+/// Compares what is written where a write fails with what was written where the one before it failed; the answer is how much it is.
+fn expect_front(rt: &impl Abort, output: &[u8], output_fails: u64, before: usize) -> usize {
+    assert!(rt; BOTH.starts_with(output), "{output_fails}");
+    assert!(rt; output.is_empty() == (output_fails == 1), "{output_fails}");
+    assert!(rt; before <= output.len(), "{output_fails}");
+    output.len()
+}
+
 #[test]
 fn whichever_write_fails_a_front_of_the_responses_is_written(rt: HostRuntime) -> Result<(), Fail> {
     let mut before = 0;
-    for output_fails in 1..=WRITES {
+    for output_fails in 1..=WRITES + 1 {
         let case = Case {
             output_fails,
             ..IN_PARTS
         };
         let ran = outcome(&rt, rt.alloc(), &case)?;
-        assert_eq!(rt; ran.status, Status::WriteFault, "{output_fails}");
-        assert_eq!(rt;
-            BOTH.starts_with(ran.output.as_slice()),
-            true,
-            "{output_fails}"
-        );
-        assert_eq!(rt; ran.output.is_empty(), output_fails == 1, "{output_fails}");
-        assert_eq!(rt; before <= ran.output.len(), true, "{output_fails}");
-        before = ran.output.len();
+        let status = if output_fails > WRITES {
+            Status::Served
+        } else {
+            Status::WriteFault
+        };
+        assert_eq!(rt; ran.status, status, "{output_fails}");
+        before = expect_front(&rt, ran.output.as_slice(), output_fails, before);
     }
-    let case = Case {
-        output_fails: WRITES + 1,
-        ..IN_PARTS
-    };
-    let ran = outcome(&rt, rt.alloc(), &case)?;
-    assert_eq!(rt; ran.status, Status::Served);
-    assert_eq!(rt; ran.output.as_slice(), BOTH);
+    assert_eq!(rt; before, BOTH.len());
     Ok(())
 }
 
@@ -311,34 +260,34 @@ impl Source for OfferedSource {
     }
 }
 
+/// The limit, how many LFs the source has, how the run ends, and of its reads the number and the least offer.
+const OFFERS: &[(&str, usize, Status, u64, usize)] = &[
+    ("1073741824", 10_000, Status::Served, 4, 4096),
+    ("8292", 8292, Status::Served, 4, 1),
+    ("8292", 8293, Status::InputLimit, 3, 101),
+    ("0", 0, Status::Served, 1, 1),
+];
+
 #[test]
 fn a_read_of_the_input_offers_no_more_than_the_buffer_and_the_limit(
     rt: HostRuntime,
 ) -> Result<(), Fail> {
-    for (limit, length, status, reads, least) in [
-        ("1073741824", 10_000usize, Status::Served, 4u64, 4096usize),
-        ("8292", 8292, Status::Served, 4, 1),
-        ("8292", 8293, Status::InputLimit, 3, 101),
-        ("0", 0, Status::Served, 1, 1),
-    ] {
+    for (limit, left, status, reads, least) in OFFERS {
         let mut input = OfferedSource {
-            left: length,
+            left: *left,
             reads: 0,
             least: usize::MAX,
             most: 0,
         };
-        let words = words(
-            rt.alloc(),
-            &Case {
-                words: &["--max-bytes", limit],
-                ..PLAIN
-            },
-        )?;
+        let case = Case {
+            words: &["--max-bytes", *limit],
+            ..PLAIN
+        };
+        let words = words(rt.alloc(), &case)?;
         let ran = outcome_over(&rt, rt.alloc(), &PLAIN, words.as_slice(), &mut input)?;
-        assert_eq!(rt; ran.status, status, "{limit}");
-        assert_eq!(rt; input.reads, reads, "{limit}");
-        assert_eq!(rt; input.least, least, "{limit}");
-        assert_eq!(rt; input.most <= 4096, true);
+        let found = (ran.status, input.reads, input.least);
+        assert_eq!(rt; found, (*status, *reads, *least), "{limit}");
+        assert!(rt; input.most <= 4096, "{limit}");
     }
     Ok(())
 }
@@ -374,20 +323,23 @@ impl Source for LineSource {
     }
 }
 
+/// Which write fails, and how many reads there were before it.
+const READ_BEFORE: &[(u64, u64)] = &[(1, 1), (2, 1), (3, 1), (4, 2), (7, 3), (15, 5)];
+
 #[test]
 fn a_line_is_answered_before_the_next_read_and_nothing_is_read_after_a_failed_write(
     rt: HostRuntime,
 ) -> Result<(), Fail> {
     let words = words(rt.alloc(), &PLAIN)?;
-    for (output_fails, reads) in [(1u64, 1u64), (2, 1), (3, 1), (4, 2), (7, 3), (15, 5)] {
+    for (output_fails, reads) in READ_BEFORE {
         let mut input = LineSource { left: 9, reads: 0 };
         let case = Case {
-            output_fails,
+            output_fails: *output_fails,
             ..PLAIN
         };
         let ran = outcome_over(&rt, rt.alloc(), &case, words.as_slice(), &mut input)?;
-        assert_eq!(rt; ran.status, Status::WriteFault, "{output_fails}");
-        assert_eq!(rt; input.reads, reads, "{output_fails}");
+        let found = (ran.status, input.reads);
+        assert_eq!(rt; found, (Status::WriteFault, *reads), "{output_fails}");
     }
     Ok(())
 }

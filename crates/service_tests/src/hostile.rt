@@ -1,21 +1,21 @@
 //! Files and lines that are made to hurt get their refusal, and nothing else.
-use crate::worlds::PLAIN;
+use crate::worlds::{PLAIN, expect_run};
 use apply_service::Status;
-use run_support::{Case, outcome};
+use run_support::Case;
 use std::alloc::Global;
 use std::process::Abort;
 use std::test::Fail;
 use std::thread::Threads;
 use test_support::samples::{SALES_DATA, SAMPLE};
 
-/// How a run over two files without a request ends, and what it writes.
-fn checked<'a, R: Threads + Sync + Abort>(
+/// Runs over two files without a request, one of which is refused.
+fn expect_refused<'a, R: Threads + Sync + Abort>(
     rt: &R,
     alloc: Global,
     model: &'a str,
     data: &'a str,
     status: Status,
-    line: &str,
+    line: &[u8],
 ) -> Result<(), Fail> {
     let case = Case {
         model,
@@ -23,10 +23,7 @@ fn checked<'a, R: Threads + Sync + Abort>(
         input: b"",
         ..PLAIN
     };
-    let ran = outcome(rt, alloc, &case)?;
-    assert_eq!(rt; ran.status, status);
-    assert_eq!(rt; ran.output.as_slice(), line.as_bytes());
-    Ok(())
+    expect_run(rt, alloc, &case, status, line)
 }
 
 #[test]
@@ -34,29 +31,25 @@ fn a_file_that_is_cut_short_is_no_json(rt: HostRuntime) -> Result<(), Fail> {
     let alloc = rt.alloc();
     for length in 0..SAMPLE.len() {
         let model = SAMPLE.get(..length).unwrap_or("");
-        checked(
-            &rt,
-            alloc,
-            model,
-            SALES_DATA,
-            Status::ModelRefused,
-            "model Json\n",
-        )?;
+        let line = b"model Json\n";
+        expect_refused(&rt, alloc, model, SALES_DATA, Status::ModelRefused, line)?;
     }
     for length in 0..SALES_DATA.len() {
         let data = SALES_DATA.get(..length).unwrap_or("");
-        checked(&rt, alloc, SAMPLE, data, Status::DataRefused, "data Json\n")?;
+        let line = b"data Json\n";
+        expect_refused(&rt, alloc, SAMPLE, data, Status::DataRefused, line)?;
     }
-    let mut deep = "[".repeat(alloc, 200)?;
-    deep.push_str("]".repeat(alloc, 200)?.as_str())?;
-    checked(
-        &rt,
-        alloc,
-        SAMPLE,
-        deep.as_str(),
-        Status::DataRefused,
-        "data Json\n",
-    )
+    Ok(())
+}
+
+#[test]
+fn a_file_of_200_lists_in_one_another_is_no_json(rt: HostRuntime) -> Result<(), Fail> {
+    let alloc = rt.alloc();
+    let open = "[".repeat(alloc, 200)?;
+    let close = "]".repeat(alloc, 200)?;
+    let deep = format!(in alloc; "{open}{close}")?;
+    let line = b"data Json\n";
+    expect_refused(&rt, alloc, SAMPLE, deep.as_str(), Status::DataRefused, line)
 }
 
 /// A line: what stands before, a part, how often it stands there, what follows, a part that stands there as often, and the end.
@@ -148,31 +141,30 @@ const AT_LIMITS: &[Row] = &[
 /// The line of a row.
 fn line(alloc: Global, row: &Row) -> Result<String, Fail> {
     let (before, open, count, middle, close, end, _, _) = *row;
-    let mut text = String::from_str(alloc, before)?;
-    text.push_str(open.repeat(alloc, count)?.as_str())?;
-    text.push_str(middle)?;
-    text.push_str(close.repeat(alloc, count)?.as_str())?;
-    text.push_str(end)?;
-    Ok(text)
+    let opened = open.repeat(alloc, count)?;
+    let closed = close.repeat(alloc, count)?;
+    Ok(format!(in alloc; "{before}{opened}{middle}{closed}{end}")?)
+}
+
+/// Compares the response to the line of a row.
+fn expect_row<R: Threads + Sync + Abort>(rt: &R, alloc: Global, row: &Row) -> Result<(), Fail> {
+    let line = line(alloc, row)?;
+    let case = Case {
+        model: SAMPLE,
+        data: SALES_DATA,
+        input: line.as_bytes(),
+        ..PLAIN
+    };
+    let (code, body) = (row.6, row.7);
+    let length = body.len();
+    let response = format!(in alloc; "{code} {length}\n{body}\n")?;
+    expect_run(rt, alloc, &case, Status::Served, response.as_bytes())
 }
 
 #[test]
 fn limits_of_the_grammar_are_met_exactly(rt: HostRuntime) -> Result<(), Fail> {
-    let alloc = rt.alloc();
     for row in AT_LIMITS {
-        let line = line(alloc, row)?;
-        let case = Case {
-            model: SAMPLE,
-            data: SALES_DATA,
-            input: line.as_bytes(),
-            ..PLAIN
-        };
-        let ran = outcome(&rt, alloc, &case)?;
-        let (code, body) = (row.6, row.7);
-        let length = body.len();
-        let response = format!(in alloc; "{code} {length}\n{body}\n")?;
-        assert_eq!(rt; ran.status, Status::Served);
-        assert_eq!(rt; ran.output.as_slice(), response.as_bytes(), "{line}");
+        expect_row(&rt, rt.alloc(), row)?;
     }
     Ok(())
 }

@@ -1,213 +1,240 @@
 //! Lines of requests and their responses.
-use crate::worlds::{FIRST, PLAIN, RESPONSES};
+use crate::worlds::{FIRST, PLAIN, RESPONSES, expect_ended, expect_run};
 use apply_service::Status;
-use run_support::{Case, outcome, outcome_of, words};
+use run_support::{Case, outcome};
 use std::alloc::Global;
 use std::process::Abort;
 use std::test::Fail;
 use std::thread::Threads;
 use test_support::samples::{CYCLE_DATA, SALES_DATA, SAMPLE, STOCK};
 
-#[test]
-fn lines_are_answered_in_order_however_the_input_is_cut(rt: HostRuntime) -> Result<(), Fail> {
-    for most in [1usize, 7, 4096] {
-        let ran = outcome(&rt, rt.alloc(), &Case { most, ..PLAIN })?;
-        assert_eq!(rt; ran.status, Status::Served);
-        assert_eq!(rt; ran.output.as_slice(), RESPONSES);
-    }
-    Ok(())
-}
+/// A run over the sample.
+const SALES: Case<'static> = Case {
+    model: SAMPLE,
+    data: SALES_DATA,
+    ..PLAIN
+};
 
-#[test]
-fn each_line_is_answered_by_the_first_reason_that_holds(rt: HostRuntime) -> Result<(), Fail> {
-    let sample = Case {
-        model: SAMPLE,
-        data: SALES_DATA,
-        ..PLAIN
-    };
-    for (input, output) in [
-        (
-            b"Shops?$apply=aggregate(Amount with sum as T)\n".as_slice(),
-            b"404 77\n{\"error\":{\"code\":\"NotFound\",\"message\":\"no such entity set\",\"target\":\"Shops\"}}\n".as_slice(),
-        ),
-        (
-            b"Sales?$apply=aggregate(Nope with sum as T)\n".as_slice(),
-            b"400 81\n{\"error\":{\"code\":\"Type\",\"message\":\"the transformation has no type\",\"target\":\"1\"}}\n".as_slice(),
-        ),
-        (
-            b"Sales?$apply=traverse($root/Orgs,OrgTree,OrgID,preorder)\n".as_slice(),
-            b"200 337\n{\"@context\":\"$metadata#Sales\",\"value\":[{\"Amount\":\"7.25\",\"CustomerID\":\"C2\",\"ID\":\"3\",\"OrgID\":\"EMEA\"},{\"Amount\":\"2.25\",\"CustomerID\":\"C1\",\"ID\":\"6\",\"OrgID\":\"US\"},{\"Amount\":\"10.00\",\"CustomerID\":\"C1\",\"ID\":\"1\",\"OrgID\":\"West\"},{\"Amount\":null,\"CustomerID\":\"C3\",\"ID\":\"4\",\"OrgID\":\"West\"},{\"Amount\":\"5.50\",\"CustomerID\":\"C1\",\"ID\":\"2\",\"OrgID\":\"East\"}]}\n".as_slice(),
-        ),
-        (
-            b"/Sales?%24apply=aggregate( Amount with sum as Total )\n".as_slice(),
-            FIRST,
-        ),
-        (
-            b"Sales?$apply=filter(not ID eq 1)\n".as_slice(),
-            b"400 81\n{\"error\":{\"code\":\"Type\",\"message\":\"the transformation has no type\",\"target\":\"1\"}}\n".as_slice(),
-        ),
-        (
-            b"explain Sales?$apply=aggregate(Amount with sum as T)\n".as_slice(),
-            b"200 42\n{\"plan\":\"aggregate(Amount with sum as T)\"}\n".as_slice(),
-        ),
-        (
-            b"explain Sales?$apply=filter(null)\n".as_slice(),
-            b"400 81\n{\"error\":{\"code\":\"Type\",\"message\":\"the transformation has no type\",\"target\":\"1\"}}\n".as_slice(),
-        ),
-        (
-            b"Sales?$apply=filter(null)\n".as_slice(),
-            b"400 81\n{\"error\":{\"code\":\"Type\",\"message\":\"the transformation has no type\",\"target\":\"1\"}}\n".as_slice(),
-        ),
-        (
-            b"Sales?$apply=compute(Amount as Amount)\n".as_slice(),
-            b"400 81\n{\"error\":{\"code\":\"Type\",\"message\":\"the transformation has no type\",\"target\":\"1\"}}\n".as_slice(),
-        ),
-        (
-            b"Sales?$apply=identity/filter(Nope eq 1)\n".as_slice(),
-            b"400 81\n{\"error\":{\"code\":\"Type\",\"message\":\"the transformation has no type\",\"target\":\"2\"}}\n".as_slice(),
-        ),
-        (
-            b"Sales?$apply=aggregate(Amount with sum as T)/aggregate(Amount with sum as T)\n".as_slice(),
-            b"400 81\n{\"error\":{\"code\":\"Type\",\"message\":\"the transformation has no type\",\"target\":\"2\"}}\n".as_slice(),
-        ),
-        (
-            b"Sales?$apply=concat(identity,descendants($root/Orgs,OrgTree,OrgID,filter(ID eq 1)))\n".as_slice(),
-            b"200 395\n{\"@context\":\"$metadata#Sales\",\"value\":[{\"Amount\":\"10.00\",\"CustomerID\":\"C1\",\"ID\":\"1\",\"OrgID\":\"West\"},{\"Amount\":\"5.50\",\"CustomerID\":\"C1\",\"ID\":\"2\",\"OrgID\":\"East\"},{\"Amount\":\"7.25\",\"CustomerID\":\"C2\",\"ID\":\"3\",\"OrgID\":\"EMEA\"},{\"Amount\":null,\"CustomerID\":\"C3\",\"ID\":\"4\",\"OrgID\":\"West\"},{\"Amount\":\"1.00\",\"CustomerID\":\"C2\",\"ID\":\"5\",\"OrgID\":null},{\"Amount\":\"2.25\",\"CustomerID\":\"C1\",\"ID\":\"6\",\"OrgID\":\"US\"}]}\n".as_slice(),
-        ),
-        (
-            b"Customers?$apply=join(Sales as S,traverse($root/Orgs,OrgTree,OrgID,preorder))\n".as_slice(),
-            b"200 666\n{\"@context\":\"$metadata#Customers(*,S(*))\",\"value\":[{\"Country\":\"US\",\"ID\":\"C1\",\"Name\":\"Joe\",\"S\":{\"Amount\":\"2.25\",\"CustomerID\":\"C1\",\"ID\":\"6\",\"OrgID\":\"US\"},\"Since\":\"2019-05-01\"},{\"Country\":\"US\",\"ID\":\"C1\",\"Name\":\"Joe\",\"S\":{\"Amount\":\"10.00\",\"CustomerID\":\"C1\",\"ID\":\"1\",\"OrgID\":\"West\"},\"Since\":\"2019-05-01\"},{\"Country\":\"US\",\"ID\":\"C1\",\"Name\":\"Joe\",\"S\":{\"Amount\":\"5.50\",\"CustomerID\":\"C1\",\"ID\":\"2\",\"OrgID\":\"East\"},\"Since\":\"2019-05-01\"},{\"Country\":\"NL\",\"ID\":\"C2\",\"Name\":\"Sue\",\"S\":{\"Amount\":\"7.25\",\"CustomerID\":\"C2\",\"ID\":\"3\",\"OrgID\":\"EMEA\"},\"Since\":\"2020-02-29\"},{\"Country\":\"FR\",\"ID\":\"C3\",\"Name\":\"Luc\",\"S\":{\"Amount\":null,\"CustomerID\":\"C3\",\"ID\":\"4\",\"OrgID\":\"West\"},\"Since\":null}]}\n".as_slice(),
-        ),
-        (
-            b"Customers?$apply=aggregate(Best)\n".as_slice(),
-            b"400 81\n{\"error\":{\"code\":\"Type\",\"message\":\"the transformation has no type\",\"target\":\"1\"}}\n".as_slice(),
-        ),
-        (
-            b"Shops?$apply=filter(null)\n".as_slice(),
-            b"404 77\n{\"error\":{\"code\":\"NotFound\",\"message\":\"no such entity set\",\"target\":\"Shops\"}}\n".as_slice(),
-        ),
-        (
-            b"Shops?$apply=identity\n".as_slice(),
-            b"404 77\n{\"error\":{\"code\":\"NotFound\",\"message\":\"no such entity set\",\"target\":\"Shops\"}}\n".as_slice(),
-        ),
-        (
-            b"Sales\n".as_slice(),
-            b"400 76\n{\"error\":{\"code\":\"Syntax\",\"message\":\"the text is no pipeline\",\"target\":\"0\"}}\n".as_slice(),
-        ),
-        (
-            b"Sales?$apply=aggregate(Amount with average as X)\n".as_slice(),
-            b"400 76\n{\"error\":{\"code\":\"Syntax\",\"message\":\"the text is no pipeline\",\"target\":\"1\"}}\n".as_slice(),
-        ),
-        (
-            b"Sales?$apply=filter(ID eq 1)/aggregate(\n".as_slice(),
-            b"400 76\n{\"error\":{\"code\":\"Syntax\",\"message\":\"the text is no pipeline\",\"target\":\"2\"}}\n".as_slice(),
-        ),
-        (
-            b"Sales?$apply=identity/\n".as_slice(),
-            b"400 76\n{\"error\":{\"code\":\"Syntax\",\"message\":\"the text is no pipeline\",\"target\":\"2\"}}\n".as_slice(),
-        ),
-        (
-            b"Sales?$apply=aggregate(Amount with sum as sum)".as_slice(),
-            b"200 82\n{\"@context\":\"$metadata#Sales(sum)\",\"value\":[{\"sum@type\":\"Decimal\",\"sum\":\"26.00\"}]}\n".as_slice(),
-        ),
-        (
-            b"Sales?$apply=aggregate(Amount with sum as desc)\n".as_slice(),
-            b"400 76\n{\"error\":{\"code\":\"Syntax\",\"message\":\"the text is no pipeline\",\"target\":\"1\"}}\n".as_slice(),
-        ),
-    ] {
-        let ran = outcome(&rt, rt.alloc(), &Case { input, ..sample })?;
-        assert_eq!(rt; ran.status, Status::Served);
-        assert_eq!(rt; ran.output.as_slice(), output);
-    }
-    Ok(())
-}
+/// Lines over the sample, each answered by the first reason that holds.
+const FIRST_REASONS: &[(&[u8], &[u8])] = &[
+    (
+        b"Shops?$apply=aggregate(Amount with sum as T)\n",
+        b"404 77\n{\"error\":{\"code\":\"NotFound\",\"message\":\"no such entity set\",\"target\":\"Shops\"}}\n",
+    ),
+    (
+        b"Sales?$apply=aggregate(Nope with sum as T)\n",
+        b"400 81\n{\"error\":{\"code\":\"Type\",\"message\":\"the transformation has no type\",\"target\":\"1\"}}\n",
+    ),
+    (
+        b"Sales?$apply=traverse($root/Orgs,OrgTree,OrgID,preorder)\n",
+        b"200 337\n{\"@context\":\"$metadata#Sales\",\"value\":[{\"Amount\":\"7.25\",\"CustomerID\":\"C2\",\"ID\":\"3\",\"OrgID\":\"EMEA\"},{\"Amount\":\"2.25\",\"CustomerID\":\"C1\",\"ID\":\"6\",\"OrgID\":\"US\"},{\"Amount\":\"10.00\",\"CustomerID\":\"C1\",\"ID\":\"1\",\"OrgID\":\"West\"},{\"Amount\":null,\"CustomerID\":\"C3\",\"ID\":\"4\",\"OrgID\":\"West\"},{\"Amount\":\"5.50\",\"CustomerID\":\"C1\",\"ID\":\"2\",\"OrgID\":\"East\"}]}\n",
+    ),
+    (
+        b"/Sales?%24apply=aggregate( Amount with sum as Total )\n",
+        FIRST,
+    ),
+    (
+        b"Sales?$apply=filter(not ID eq 1)\n",
+        b"400 81\n{\"error\":{\"code\":\"Type\",\"message\":\"the transformation has no type\",\"target\":\"1\"}}\n",
+    ),
+    (
+        b"explain Sales?$apply=aggregate(Amount with sum as T)\n",
+        b"200 42\n{\"plan\":\"aggregate(Amount with sum as T)\"}\n",
+    ),
+    (
+        b"explain Sales?$apply=filter(null)\n",
+        b"400 81\n{\"error\":{\"code\":\"Type\",\"message\":\"the transformation has no type\",\"target\":\"1\"}}\n",
+    ),
+    (
+        b"Sales?$apply=filter(null)\n",
+        b"400 81\n{\"error\":{\"code\":\"Type\",\"message\":\"the transformation has no type\",\"target\":\"1\"}}\n",
+    ),
+    (
+        b"Sales?$apply=compute(Amount as Amount)\n",
+        b"400 81\n{\"error\":{\"code\":\"Type\",\"message\":\"the transformation has no type\",\"target\":\"1\"}}\n",
+    ),
+    (
+        b"Sales?$apply=identity/filter(Nope eq 1)\n",
+        b"400 81\n{\"error\":{\"code\":\"Type\",\"message\":\"the transformation has no type\",\"target\":\"2\"}}\n",
+    ),
+    (
+        b"Sales?$apply=aggregate(Amount with sum as T)/aggregate(Amount with sum as T)\n",
+        b"400 81\n{\"error\":{\"code\":\"Type\",\"message\":\"the transformation has no type\",\"target\":\"2\"}}\n",
+    ),
+    (
+        b"Sales?$apply=concat(identity,descendants($root/Orgs,OrgTree,OrgID,filter(ID eq 1)))\n",
+        b"200 395\n{\"@context\":\"$metadata#Sales\",\"value\":[{\"Amount\":\"10.00\",\"CustomerID\":\"C1\",\"ID\":\"1\",\"OrgID\":\"West\"},{\"Amount\":\"5.50\",\"CustomerID\":\"C1\",\"ID\":\"2\",\"OrgID\":\"East\"},{\"Amount\":\"7.25\",\"CustomerID\":\"C2\",\"ID\":\"3\",\"OrgID\":\"EMEA\"},{\"Amount\":null,\"CustomerID\":\"C3\",\"ID\":\"4\",\"OrgID\":\"West\"},{\"Amount\":\"1.00\",\"CustomerID\":\"C2\",\"ID\":\"5\",\"OrgID\":null},{\"Amount\":\"2.25\",\"CustomerID\":\"C1\",\"ID\":\"6\",\"OrgID\":\"US\"}]}\n",
+    ),
+    (
+        b"Customers?$apply=join(Sales as S,traverse($root/Orgs,OrgTree,OrgID,preorder))\n",
+        b"200 666\n{\"@context\":\"$metadata#Customers(*,S(*))\",\"value\":[{\"Country\":\"US\",\"ID\":\"C1\",\"Name\":\"Joe\",\"S\":{\"Amount\":\"2.25\",\"CustomerID\":\"C1\",\"ID\":\"6\",\"OrgID\":\"US\"},\"Since\":\"2019-05-01\"},{\"Country\":\"US\",\"ID\":\"C1\",\"Name\":\"Joe\",\"S\":{\"Amount\":\"10.00\",\"CustomerID\":\"C1\",\"ID\":\"1\",\"OrgID\":\"West\"},\"Since\":\"2019-05-01\"},{\"Country\":\"US\",\"ID\":\"C1\",\"Name\":\"Joe\",\"S\":{\"Amount\":\"5.50\",\"CustomerID\":\"C1\",\"ID\":\"2\",\"OrgID\":\"East\"},\"Since\":\"2019-05-01\"},{\"Country\":\"NL\",\"ID\":\"C2\",\"Name\":\"Sue\",\"S\":{\"Amount\":\"7.25\",\"CustomerID\":\"C2\",\"ID\":\"3\",\"OrgID\":\"EMEA\"},\"Since\":\"2020-02-29\"},{\"Country\":\"FR\",\"ID\":\"C3\",\"Name\":\"Luc\",\"S\":{\"Amount\":null,\"CustomerID\":\"C3\",\"ID\":\"4\",\"OrgID\":\"West\"},\"Since\":null}]}\n",
+    ),
+    (
+        b"Customers?$apply=aggregate(Best)\n",
+        b"400 81\n{\"error\":{\"code\":\"Type\",\"message\":\"the transformation has no type\",\"target\":\"1\"}}\n",
+    ),
+    (
+        b"Shops?$apply=filter(null)\n",
+        b"404 77\n{\"error\":{\"code\":\"NotFound\",\"message\":\"no such entity set\",\"target\":\"Shops\"}}\n",
+    ),
+    (
+        b"Shops?$apply=identity\n",
+        b"404 77\n{\"error\":{\"code\":\"NotFound\",\"message\":\"no such entity set\",\"target\":\"Shops\"}}\n",
+    ),
+    (
+        b"Sales\n",
+        b"400 76\n{\"error\":{\"code\":\"Syntax\",\"message\":\"the text is no pipeline\",\"target\":\"0\"}}\n",
+    ),
+    (
+        b"Sales?$apply=aggregate(Amount with average as X)\n",
+        b"400 76\n{\"error\":{\"code\":\"Syntax\",\"message\":\"the text is no pipeline\",\"target\":\"1\"}}\n",
+    ),
+    (
+        b"Sales?$apply=filter(ID eq 1)/aggregate(\n",
+        b"400 76\n{\"error\":{\"code\":\"Syntax\",\"message\":\"the text is no pipeline\",\"target\":\"2\"}}\n",
+    ),
+    (
+        b"Sales?$apply=identity/\n",
+        b"400 76\n{\"error\":{\"code\":\"Syntax\",\"message\":\"the text is no pipeline\",\"target\":\"2\"}}\n",
+    ),
+    (
+        b"Sales?$apply=aggregate(Amount with sum as sum)",
+        b"200 82\n{\"@context\":\"$metadata#Sales(sum)\",\"value\":[{\"sum@type\":\"Decimal\",\"sum\":\"26.00\"}]}\n",
+    ),
+    (
+        b"Sales?$apply=aggregate(Amount with sum as desc)\n",
+        b"400 76\n{\"error\":{\"code\":\"Syntax\",\"message\":\"the text is no pipeline\",\"target\":\"1\"}}\n",
+    ),
+];
 
 /// The response to a line that is too long.
 const TOO_LONG: &[u8] =
     b"414 61\n{\"error\":{\"code\":\"TooLong\",\"message\":\"the line is too long\"}}\n";
 
+/// A front, a character, how often it stands behind the front, a back, and the first response; a line of 65,536 bytes is answered.
+const LONG_LINES: &[(&str, &str, usize, &str, &[u8])] = &[
+    ("", "x", 65_537, "\n", TOO_LONG),
+    (
+        "Sales?$apply=aggregate(Amount",
+        " ",
+        65_489,
+        "with sum as Total)\n",
+        FIRST,
+    ),
+    (
+        "Sales?$apply=aggregate(Amount",
+        " ",
+        65_489,
+        "with sum as Total)\r\n",
+        FIRST,
+    ),
+    (
+        "Sales?$apply=aggregate(Amount",
+        " ",
+        65_490,
+        "with sum as Total)\n",
+        TOO_LONG,
+    ),
+    (
+        "Sales?$apply=aggregate(Amount",
+        " ",
+        65_490,
+        "with sum as Total)\r\n",
+        TOO_LONG,
+    ),
+];
+
+/// Data, a sum over them, and its response: nulls are skipped, and only the whole sum is tested against the range.
+const SUMS: &[(&str, &[u8], &[u8])] = &[
+    (
+        "{}",
+        b"Sales?$apply=aggregate(Amount with sum as Total)\n",
+        b"200 85\n{\"@context\":\"$metadata#Sales(Total)\",\"value\":[{\"Total@type\":\"Decimal\",\"Total\":null}]}\n",
+    ),
+    (
+        "{\"Sales\":[{\"ID\":9223372036854775807},{\"ID\":1}]}",
+        b"Sales?$apply=aggregate(ID with sum as Total)\n",
+        b"422 65\n{\"error\":{\"code\":\"Range\",\"message\":\"a number is past its range\"}}\n",
+    ),
+    (
+        "{\"Sales\":[{\"ID\":9223372036854775807},{\"ID\":1},{\"ID\":-1}]}",
+        b"Sales?$apply=aggregate(ID with sum as Total)\n",
+        b"200 100\n{\"@context\":\"$metadata#Sales(Total)\",\"value\":[{\"Total@type\":\"Int64\",\"Total\":\"9223372036854775807\"}]}\n",
+    ),
+];
+
+/// How many bytes a read gives.
+const CUTS: &[usize] = &[1, 7, 4096];
+
 #[test]
-fn a_line_of_65_536_bytes_is_answered_and_a_longer_one_told_too_long(
-    rt: HostRuntime,
-) -> Result<(), Fail> {
-    let alloc = rt.alloc();
-    let words = words(alloc, &PLAIN)?;
-    for (front, filler, count, back, first) in [
-        ("", b'x', 65_537usize, "\n", TOO_LONG),
-        (
-            "Sales?$apply=aggregate(Amount",
-            b' ',
-            65_489,
-            "with sum as Total)\n",
-            FIRST,
-        ),
-        (
-            "Sales?$apply=aggregate(Amount",
-            b' ',
-            65_489,
-            "with sum as Total)\r\n",
-            FIRST,
-        ),
-        (
-            "Sales?$apply=aggregate(Amount",
-            b' ',
-            65_490,
-            "with sum as Total)\n",
-            TOO_LONG,
-        ),
-        (
-            "Sales?$apply=aggregate(Amount",
-            b' ',
-            65_490,
-            "with sum as Total)\r\n",
-            TOO_LONG,
-        ),
-    ] {
-        let mut input = front.as_bytes().to_vec(alloc)?;
-        let mut filling = vec![in alloc; filler; count]?;
-        input.append(&mut filling)?;
-        input.extend_from_slice(back.as_bytes())?;
-        input.extend_from_slice(b"Sales?$apply=aggregate(Amount with sum as Total)\n")?;
-        let ran = outcome_of(&rt, alloc, &PLAIN, words.as_slice(), input)?;
-        let mut expected = first.to_vec(alloc)?;
-        expected.extend_from_slice(FIRST)?;
-        assert_eq!(rt; ran.status, Status::Served, "{count}");
-        assert_eq!(rt; ran.output.as_slice(), expected.as_slice(), "{count}");
+fn lines_are_answered_in_order_however_the_input_is_cut(rt: HostRuntime) -> Result<(), Fail> {
+    for most in CUTS {
+        let case = Case {
+            most: *most,
+            ..PLAIN
+        };
+        expect_run(&rt, rt.alloc(), &case, Status::Served, RESPONSES)?;
     }
     Ok(())
 }
 
 #[test]
 fn sums_skip_nulls_and_keep_their_range(rt: HostRuntime) -> Result<(), Fail> {
-    for (data, input, output) in [
-        (
-            "{}",
-            b"Sales?$apply=aggregate(Amount with sum as Total)\n".as_slice(),
-            b"200 85\n{\"@context\":\"$metadata#Sales(Total)\",\"value\":[{\"Total@type\":\"Decimal\",\"Total\":null}]}\n".as_slice(),
-        ),
-        (
-            "{\"Sales\":[{\"ID\":9223372036854775807},{\"ID\":1}]}",
-            b"Sales?$apply=aggregate(ID with sum as Total)\n".as_slice(),
-            b"422 65\n{\"error\":{\"code\":\"Range\",\"message\":\"a number is past its range\"}}\n".as_slice(),
-        ),
-        (
-            "{\"Sales\":[{\"ID\":9223372036854775807},{\"ID\":1},{\"ID\":-1}]}",
-            b"Sales?$apply=aggregate(ID with sum as Total)\n".as_slice(),
-            b"200 100\n{\"@context\":\"$metadata#Sales(Total)\",\"value\":[{\"Total@type\":\"Int64\",\"Total\":\"9223372036854775807\"}]}\n".as_slice(),
-        ),
-    ] {
-        let ran = outcome(
-            &rt,
-            rt.alloc(),
-            &Case {
-                data,
-                input,
-                ..PLAIN
-            },
-        )?;
-        assert_eq!(rt; ran.status, Status::Served);
-        assert_eq!(rt; ran.output.as_slice(), output);
+    for (data, input, output) in SUMS {
+        let case = Case {
+            data,
+            input,
+            ..PLAIN
+        };
+        expect_run(&rt, rt.alloc(), &case, Status::Served, output)?;
     }
+    Ok(())
+}
+
+#[test]
+fn each_line_is_answered_by_the_first_reason_that_holds(rt: HostRuntime) -> Result<(), Fail> {
+    for (input, output) in FIRST_REASONS {
+        let case = Case { input, ..SALES };
+        expect_run(&rt, rt.alloc(), &case, Status::Served, output)?;
+    }
+    Ok(())
+}
+
+/// A line with so many of a character, and one behind it.
+fn long_line(
+    alloc: Global,
+    front: &str,
+    filler: &str,
+    count: usize,
+    back: &str,
+) -> Result<String, Fail> {
+    let filling = filler.repeat(alloc, count)?;
+    let behind = "Sales?$apply=aggregate(Amount with sum as Total)\n";
+    Ok(format!(in alloc; "{front}{filling}{back}{behind}")?)
+}
+
+#[test]
+fn a_line_of_65_536_bytes_is_answered_and_a_longer_one_told_too_long(
+    rt: HostRuntime,
+) -> Result<(), Fail> {
+    for (front, filler, count, back, first) in LONG_LINES {
+        let line = long_line(rt.alloc(), front, filler, *count, back)?;
+        expect_long(&rt, rt.alloc(), line.as_bytes(), first)?;
+    }
+    Ok(())
+}
+
+/// Compares the two responses to a line and the one behind it.
+fn expect_long<R: Threads + Sync + Abort>(
+    rt: &R,
+    alloc: Global,
+    input: &[u8],
+    first: &[u8],
+) -> Result<(), Fail> {
+    let mut expected = first.to_vec(alloc)?;
+    expected.extend_from_slice(FIRST)?;
+    let ran = outcome(rt, alloc, &Case { input, ..PLAIN })?;
+    expect_ended(rt, &ran, Status::Served, &expected, "bytes", input.len());
     Ok(())
 }
 
@@ -650,10 +677,7 @@ fn expect_answer<'a, R: Threads + Sync + Abort>(
     };
     let length = body.len();
     let expected = format!(in alloc; "{code} {length}\n{body}\n")?;
-    let ran = outcome(rt, alloc, &case)?;
-    assert_eq!(rt; ran.status, Status::Served);
-    assert_eq!(rt; ran.output.as_slice(), expected.as_bytes(), "{line}");
-    Ok(())
+    expect_run(rt, alloc, &case, Status::Served, expected.as_bytes())
 }
 
 /// Compares the responses to requests over a model and its data, by their plans and as they are written.
@@ -673,21 +697,10 @@ pub(crate) fn expect_answers<'a, R: Threads + Sync + Abort>(
 
 #[test]
 fn pipelines_have_their_bodies(rt: HostRuntime) -> Result<(), Fail> {
-    expect_answers(&rt, rt.alloc(), SAMPLE, SALES_DATA, ANSWERS)
-}
-
-#[test]
-fn groups_have_their_bodies(rt: HostRuntime) -> Result<(), Fail> {
-    expect_answers(&rt, rt.alloc(), SAMPLE, SALES_DATA, GROUPED)
-}
-
-#[test]
-fn pipelines_over_hierarchies_have_their_bodies(rt: HostRuntime) -> Result<(), Fail> {
-    expect_answers(&rt, rt.alloc(), SAMPLE, SALES_DATA, BY_NODES)
-}
-
-#[test]
-fn a_cyclic_hierarchy_is_told_where_it_is_named(rt: HostRuntime) -> Result<(), Fail> {
-    expect_answers(&rt, rt.alloc(), SAMPLE, CYCLE_DATA, CYCLIC)?;
-    expect_answers(&rt, rt.alloc(), STOCK, LOOPS, LOOPED)
+    let alloc = rt.alloc();
+    expect_answers(&rt, alloc, SAMPLE, SALES_DATA, ANSWERS)?;
+    expect_answers(&rt, alloc, SAMPLE, SALES_DATA, GROUPED)?;
+    expect_answers(&rt, alloc, SAMPLE, SALES_DATA, BY_NODES)?;
+    expect_answers(&rt, alloc, SAMPLE, CYCLE_DATA, CYCLIC)?;
+    expect_answers(&rt, alloc, STOCK, LOOPS, LOOPED)
 }

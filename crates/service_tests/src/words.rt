@@ -1,8 +1,11 @@
 //! The words of the command.
-use crate::worlds::{LINES, PLAIN};
+use crate::worlds::{LINES, PLAIN, RESPONSES};
 use apply_service::Status;
 use run_support::{outcome_of, texts};
+use std::alloc::Global;
+use std::process::Abort;
 use std::test::Fail;
+use std::thread::Threads;
 
 const NAMED: &[&str] = &["--model", "m", "--data", "d"];
 
@@ -79,22 +82,39 @@ const RIGHT: &[&[&str]] = &[
     &["--plan=optimised", "--mode", "serve"],
 ];
 
+/// Runs over the sample with these words, and compares how it ends and what it writes.
+fn expect_words<R: Threads + Sync + Abort>(
+    rt: &R,
+    alloc: Global,
+    words: &[String],
+    status: Status,
+    output: &[u8],
+) -> Result<(), Fail> {
+    let ran = outcome_of(rt, alloc, &PLAIN, words, LINES.to_vec(alloc)?)?;
+    assert_eq!(rt; ran.status, status, "{words:?}");
+    assert_eq!(rt; ran.output.as_slice(), output, "{words:?}");
+    Ok(())
+}
+
+/// The words of two lists, one behind the other.
+fn joined(alloc: Global, first: &[&str], second: &[&str]) -> Result<Vec<String>, Fail> {
+    let mut words = texts(alloc, first)?;
+    for word in second {
+        words.push(String::from_str(alloc, word)?)?;
+    }
+    Ok(words)
+}
+
 #[test]
 fn words_are_judged_before_anything_is_read(rt: HostRuntime) -> Result<(), Fail> {
-    let alloc = rt.alloc();
     for wrong in WRONG {
-        let words = texts(alloc, wrong)?;
-        let ran = outcome_of(&rt, alloc, &PLAIN, words.as_slice(), LINES.to_vec(alloc)?)?;
-        assert_eq!(rt; ran.status, Status::Usage, "{wrong:?}");
-        assert_eq!(rt; ran.output.as_slice(), b"".as_slice());
+        let words = texts(rt.alloc(), wrong)?;
+        expect_words(&rt, rt.alloc(), &words, Status::Usage, b"")?;
     }
     for right in RIGHT {
-        for named_first in [true, false] {
-            let mut words = texts(alloc, if named_first { NAMED } else { right })?;
-            let mut others = texts(alloc, if named_first { right } else { NAMED })?;
-            words.append(&mut others)?;
-            let ran = outcome_of(&rt, alloc, &PLAIN, words.as_slice(), LINES.to_vec(alloc)?)?;
-            assert_eq!(rt; ran.status, Status::Served, "{right:?}");
+        for (first, second) in [(NAMED, *right), (*right, NAMED)] {
+            let words = joined(rt.alloc(), first, second)?;
+            expect_words(&rt, rt.alloc(), &words, Status::Served, RESPONSES)?;
         }
     }
     Ok(())

@@ -1,15 +1,18 @@
 //! Runs with several workers.
-use crate::worlds::{DEFINITION, PLAIN};
+use crate::worlds::{DEFINITION, PLAIN, answered, expect_ended};
 use apply_service::Status;
-use run_support::{Case, outcome, outcome_at, outcome_of, texts};
+use run_support::{Case, RunResult, outcome, outcome_at, outcome_of, texts};
 use sample_data::gen_data;
+use std::alloc::Global;
+use std::process::Abort;
 use std::test::Fail;
+use std::thread::Threads;
 use test_support::meetings::Meeting;
 use test_support::samples::{SALES_DATA, SAMPLE};
 
 /// A request for each kind of stage that folds in pieces, and how many pieces of its folds are not alone with two workers: two of
 /// each fold, of which the custom aggregate has one by its customers and one over their totals.
-const STAGES: [(&str, u64); 8] = [
+const STAGES: &[(&str, u64)] = &[
     ("Sales?$apply=aggregate(Amount with sum as Total)\n", 2),
     ("Sales?$apply=aggregate(Amount with min as Least)\n", 2),
     ("Sales?$apply=aggregate(Amount with max as Most)\n", 2),
@@ -26,104 +29,122 @@ const STAGES: [(&str, u64); 8] = [
     ),
 ];
 
-#[test]
-fn two_pieces_of_each_stage_are_under_way_together(rt: HostRuntime) -> Result<(), Fail> {
-    for (line, shared) in STAGES {
-        let gate = Meeting::new();
-        let case = Case {
-            words: &["--workers", "2"],
-            model: SAMPLE,
-            data: SALES_DATA,
-            input: line.as_bytes(),
-            ..PLAIN
-        };
-        let ran = outcome_at(&rt, rt.alloc(), &case, &gate)?;
-        assert_eq!(rt; ran.status, Status::Served);
-        assert!(rt; gate.met(), "no two pieces of {line}");
-        assert_eq!(rt; gate.shared(), shared, "pieces of {line}");
-    }
+/// Runs a request over the sample's data with two workers; two pieces of its folds meet, and so many are not alone.
+fn expect_meeting<'a, R: Threads + Sync + Abort>(
+    rt: &R,
+    alloc: Global,
+    model: &'a str,
+    line: &'a str,
+    shared: u64,
+) -> Result<(), Fail> {
+    let gate = Meeting::new();
+    let case = Case {
+        words: &["--workers", "2"],
+        model,
+        data: SALES_DATA,
+        input: line.as_bytes(),
+        ..PLAIN
+    };
+    let ran = outcome_at(rt, alloc, &case, &gate)?;
+    assert_eq!(rt; ran.status, Status::Served);
+    assert!(rt; gate.met(), "no two pieces of {line}");
+    assert_eq!(rt; gate.shared(), shared, "pieces of {line}");
     Ok(())
 }
 
 #[test]
-fn two_pieces_of_a_custom_aggregate_without_groups_are_under_way_together(
-    rt: HostRuntime,
-) -> Result<(), Fail> {
-    let alloc = rt.alloc();
-    let model = SAMPLE.replace(alloc, DEFINITION, "{\"Of\":\"Amount\",\"With\":\"sum\"}")?;
-    let gate = Meeting::new();
-    let case = Case {
-        words: &["--workers", "2"],
-        model: model.as_str(),
-        data: SALES_DATA,
-        input: b"Sales?$apply=aggregate(Best)\n",
-        ..PLAIN
-    };
-    let ran = outcome_at(&rt, alloc, &case, &gate)?;
-    assert_eq!(rt; ran.status, Status::Served);
-    assert!(rt; gate.met(), "a piece waited in vain for the other one");
-    assert_eq!(rt; gate.shared(), 2);
-    Ok(())
+fn two_pieces_of_each_stage_are_under_way_together(rt: HostRuntime) -> Result<(), Fail> {
+    for (line, shared) in STAGES {
+        expect_meeting(&rt, rt.alloc(), SAMPLE, line, *shared)?;
+    }
+    let ungrouped = "{\"Of\":\"Amount\",\"With\":\"sum\"}";
+    let model = SAMPLE.replace(rt.alloc(), DEFINITION, ungrouped)?;
+    expect_meeting(
+        &rt,
+        rt.alloc(),
+        model.as_str(),
+        "Sales?$apply=aggregate(Best)\n",
+        2,
+    )
+}
+
+/// The responses to the sample requests over 3,000 generated sales, by so many workers.
+fn generated<R: Threads + Sync>(rt: &R, alloc: Global, workers: &str) -> Result<RunResult, Fail> {
+    let words = texts(
+        alloc,
+        &["--mode", "gen", "--count", "3000", "--workers", workers],
+    )?;
+    outcome_of(rt, alloc, &PLAIN, words.as_slice(), Vec::new(alloc))
 }
 
 #[test]
 fn generated_worlds_have_one_answer_for_all_workers(rt: HostRuntime) -> Result<(), Fail> {
-    let alloc = rt.alloc();
-    let words = texts(
-        alloc,
-        &["--mode", "gen", "--count", "3000", "--workers", "1"],
-    )?;
-    let alone = outcome_of(&rt, alloc, &PLAIN, words.as_slice(), Vec::new(alloc))?;
+    let alone = generated(&rt, rt.alloc(), "1")?;
     assert_eq!(rt; alone.status, Status::Served);
     for workers in ["2", "7", "64"] {
-        let words = texts(
-            alloc,
-            &["--mode", "gen", "--count", "3000", "--workers", workers],
-        )?;
-        let ran = outcome_of(&rt, alloc, &PLAIN, words.as_slice(), Vec::new(alloc))?;
-        assert_eq!(rt; ran.status, Status::Served);
-        assert_eq!(rt;
-            ran.output.as_slice(),
+        let ran = generated(&rt, rt.alloc(), workers)?;
+        expect_ended(
+            &rt,
+            &ran,
+            Status::Served,
             alone.output.as_slice(),
-            "by {workers}"
+            workers,
+            3000,
         );
     }
     Ok(())
 }
 
-/// Lines whose values are worked out on parts of the rows, where these are many.
-const VALUED: &[u8] =
-    b"Sales?$apply=filter(Amount mul 2 gt 50)/aggregate($count as N)\nSales?$apply=compute(Amount mul 2 as D,OrgID as E)/aggregate(D with sum as S,E with max as M)\nSales?$apply=topsum(100000,Amount)/aggregate($count as N,ID with sum as S)\n";
+/// Requests whose values, keys and columns are worked out on parts of a long list, by threads: of sales of which no row is made,
+/// and, behind a grouping by `ID`, of rows.
+const VALUED: &str = concat!(
+    "Sales?$apply=filter(Amount mul 2 gt 50)/aggregate($count as N,ID with sum as S)\n",
+    "Sales?$apply=compute(Amount mul 2 as D,OrgID as E)/aggregate(D with sum as S,E with max as M)\n",
+    "Sales?$apply=topcount(5,Amount mul 3)\n",
+    "Sales?$apply=topsum(100000,Amount)/aggregate($count as N,ID with sum as S)\n",
+    "Sales?$apply=orderby(Customer/Country desc,Amount)/skip(19995)\n",
+    "Sales?$apply=groupby((Customer/Country,OrgID),aggregate(Amount mul 2 with sum as S))/topcount(5,S)\n",
+    "Sales?$apply=compute(Amount mul 2 as D)/groupby((D),aggregate($count as N))/topcount(5,N)\n",
+    "Sales?$apply=groupby((rollup($all,Customer/Country,CustomerID)),aggregate(Amount with sum as S))/topcount(5,S)\n",
+    "Sales?$apply=groupby((ID,Amount))/filter(Amount mul 2 gt 50)/aggregate($count as N,ID with sum as S)\n",
+    "Sales?$apply=groupby((ID,Amount))/compute(Amount mul 2 as D)/topcount(5,D)\n",
+    "Sales?$apply=groupby((ID,CustomerID))/groupby((CustomerID),aggregate(ID with sum as S))/topcount(5,S)\n",
+);
 
-#[test]
-fn values_on_many_rows_are_the_same_for_all_workers(rt: HostRuntime) -> Result<(), Fail> {
-    let alloc = rt.alloc();
-    let data = String::from_utf8(gen_data(alloc, 5000)?)?;
-    let alone = Case {
+/// How many requests these are.
+const VALUED_COUNT: usize = 11;
+
+/// Compares the responses over these data by several numbers of workers with those by one.
+fn expect_one_answer<R: Threads + Sync + Abort>(
+    rt: &R,
+    alloc: Global,
+    data: &str,
+) -> Result<(), Fail> {
+    let case = Case {
         words: &["--workers", "1"],
         model: SAMPLE,
-        data: data.as_str(),
-        input: VALUED,
+        data,
+        input: VALUED.as_bytes(),
         ..PLAIN
     };
-    let expected = outcome(&rt, alloc, &alone)?;
-    assert_eq!(rt; expected.status, Status::Served);
+    let alone = outcome(rt, alloc, &case)?;
+    assert_eq!(rt; alone.status, Status::Served);
+    assert_eq!(rt; answered(alone.output.as_slice()), VALUED_COUNT);
     for workers in ["2", "4", "64"] {
         let words = ["--workers", workers];
         let case = Case {
             words: &words,
-            model: SAMPLE,
-            data: data.as_str(),
-            input: VALUED,
-            ..PLAIN
+            ..case
         };
-        let ran = outcome(&rt, alloc, &case)?;
-        assert_eq!(rt; ran.status, Status::Served);
-        assert_eq!(rt;
-            ran.output.as_slice(),
-            expected.output.as_slice(),
-            "by {workers}"
-        );
+        let ran = outcome(rt, alloc, &case)?;
+        let output = alone.output.as_slice();
+        expect_ended(rt, &ran, Status::Served, output, workers, 20_000);
     }
     Ok(())
+}
+
+#[test]
+fn values_on_many_rows_are_the_same_for_all_workers(rt: HostRuntime) -> Result<(), Fail> {
+    let data = String::from_utf8(gen_data(rt.alloc(), 20_000)?)?;
+    expect_one_answer(&rt, rt.alloc(), data.as_str())
 }

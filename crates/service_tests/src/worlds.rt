@@ -1,5 +1,10 @@
 //! Model files, data files, lines of requests and responses that tests share.
-use run_support::Case;
+use apply_service::Status;
+use run_support::{Case, RunResult, outcome};
+use std::alloc::Global;
+use std::process::Abort;
+use std::test::Fail;
+use std::thread::Threads;
 
 /// One entity set with a key and an amount.
 pub(crate) const MODEL: &str =
@@ -39,3 +44,47 @@ pub(crate) const PLAIN: Case<'static> = Case {
     input_fails: 0,
     output_fails: 0,
 };
+
+/// How many responses are no refusals.
+pub(crate) fn answered(output: &[u8]) -> usize {
+    output
+        .split(|byte| *byte == b'\n')
+        .filter(|line| line.starts_with(b"200 "))
+        .count()
+}
+
+/// Compares how a run ended and what it wrote. `of` and the number say which run it is.
+pub(crate) fn expect_ended(
+    rt: &impl Abort,
+    ran: &RunResult,
+    status: Status,
+    output: &[u8],
+    of: &str,
+    number: usize,
+) {
+    assert_eq!(rt; ran.status, status, "{of} {number}");
+    assert_eq!(rt; ran.output.as_slice(), output, "{of} {number}");
+}
+
+/// Runs a case, and compares how it ends and what it writes. A case that fails is told by its words, the bytes of its files, how many
+/// a call gives or takes, the calls that fail, and its input.
+pub(crate) fn expect_run<R: Threads + Sync + Abort>(
+    rt: &R,
+    alloc: Global,
+    case: &Case<'_>,
+    status: Status,
+    output: &[u8],
+) -> Result<(), Fail> {
+    let ran = outcome(rt, alloc, case)?;
+    let line = str::from_utf8(case.input).unwrap_or("an input");
+    let (words, most) = (case.words, case.most);
+    let files = (case.model.len(), case.data.len());
+    let fails = (case.folder_fails, case.input_fails, case.output_fails);
+    let found = (ran.status, ran.output.as_slice());
+    assert_eq!(rt;
+        found,
+        (status, output),
+        "{words:?} {files:?} {most} {fails:?} {line}"
+    );
+    Ok(())
+}
