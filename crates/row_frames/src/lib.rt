@@ -12,7 +12,8 @@
 //! property of a set's entities, or of what these refer to by one navigation property, is bound to its values, so that set and
 //! column are not looked up once a row either. What is bound is read in the rows that are picked by the thread that calls, or in
 //! parts of them by threads (`seen`, `parts`), which `rayon` starts: threads read the data, the tables and what is bound, and write
-//! nothing that is shared.
+//! nothing that is shared. Where all rows are of one table, an expression with operators is worked out block by block (`blocks`):
+//! the operands in some rows first, and then the operator on these.
 //!
 //! The crate stands on `apply_meaning` for rows, the values of expressions and what a run returns, on `context_typing` and
 //! `apply_ast` for paths and expressions, and on `edm_data`, `edm_model` and `edm_values` for the data.
@@ -21,6 +22,7 @@
 //! of workers; a step is counted for each row that `into_rows` makes, and for nothing else.
 #![tactic(auto)]
 
+mod blocks;
 mod chosen;
 mod computed;
 mod frames;

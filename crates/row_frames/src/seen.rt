@@ -1,11 +1,13 @@
 //! Values in the rows that are picked, and whether these are true, worked out by several threads.
-ghost use Rattle.std.specs.Prelude.{◌≡◌, ◌<◌, IfOk, map};
+ghost use Rattle.std.specs.Prelude.{◌≡◌, ◌<◌, ◌++◌, IfOk, OnOk, length, map};
+ghost use Rattle.std.specs.Bool.{OnTrue};
 ghost use Rattle.std.specs.List.{All, AllZip};
 ghost use Rattle.edm_values.specs.Values.{seen_value};
 ghost use Rattle.rayon.specs.Lists.{chunks_of};
 ghost use Rattle.row_frames.specs.Answers.{answer_of};
 ghost use Rattle.row_frames.specs.Frames as spec;
 
+use crate::blocks::{has_operator, read_block};
 use crate::parts::{is_one_part, part_len, whole};
 use crate::readers::{TableReader, value_of};
 use crate::tables::Pick;
@@ -13,6 +15,59 @@ use edm_values::{Seen, Value};
 use rayon::prelude::*;
 use std::alloc::{AllocError, Global};
 use std::thread::Threads;
+
+/// The most rows of a block: the values in so many rows stay in the processor's first caches.
+const BLOCK: usize = 1024;
+
+/// The rows of the next block, and those behind it.
+fn next_block(picks: &[Pick]) -> (&[Pick], &[Pick])
+    ensures all { picks.now ≡ result.0.now ++ result.1.now }
+    ensures less { 0 < length picks.now → length result.1.now < length picks.now }
+{
+    picks.split_at(picks.len().min(BLOCK))
+}
+
+/// Whether all rows are of one table, and an operator is applied to values there: then they are worked out block by block.
+fn in_blocks(readers: &[TableReader<'_>]) -> bool
+    ensures { OnTrue result (length readers.now ≡ 1) }
+{
+    readers.len() == 1 && has_operator(&readers[0].bound)
+}
+
+/// The value in each row of a block that is picked, worked out operator by operator.
+fn seen_block<'a>(
+    alloc: Global,
+    readers: &[TableReader<'a>],
+    picks: &[Pick],
+) -> Result<Vec<Seen<'a>>, AllocError>
+    requires one { length readers.now ≡ 1 }
+    requires readable { All (spec.IsReadable readers.now) picks.now }
+    ensures { IfOk result (λ vs. map (λ v. seen_value v) vs.items ≡ map (spec.read_at readers.now) picks.now) }
+{
+    let reader = &readers[0];
+    read_block(alloc, reader, &reader.bound, picks)
+}
+
+/// The value in each row that is picked, block by block.
+fn seen_in_blocks<'a>(
+    alloc: Global,
+    readers: &[TableReader<'a>],
+    picks: &[Pick],
+) -> Result<Vec<Seen<'a>>, AllocError>
+    requires one { length readers.now ≡ 1 }
+    requires readable { All (spec.IsReadable readers.now) picks.now }
+    ensures { IfOk result (λ vs. spec.AreRead readers.now picks.now (map (λ v. seen_value v) vs.items)) }
+{
+    let mut found = Vec::with_capacity(alloc, picks.len())?;
+    let mut rest = picks;
+    while rest.len() > 0 {
+        let (block, behind) = next_block(rest);
+        let mut values = seen_block(alloc, readers, block)?;
+        found.append(&mut values)?;
+        rest = behind;
+    }
+    Ok(found)
+}
 
 /// The value in each row that is picked, one after the other.
 pub(crate) fn seen_in_turn<'a>(
@@ -23,6 +78,9 @@ pub(crate) fn seen_in_turn<'a>(
     requires { All (spec.IsReadable readers.now) picks.now }
     ensures { IfOk result (λ vs. spec.AreRead readers.now picks.now (map (λ v. seen_value v) vs.items)) }
 {
+    if in_blocks(readers) {
+        return seen_in_blocks(alloc, readers, picks);
+    }
     let mut found = Vec::with_capacity(alloc, picks.len())?;
     for pick in picks {
         found.push(value_of(readers, *pick))?;
@@ -72,6 +130,37 @@ pub(crate) fn all_seen<'a, R: Threads + Sync>(
     whole(alloc, picks.len(), parts)
 }
 
+/// The values, with copies of their texts, behind what is there already.
+fn push_owned(found: &mut Vec<Value>, alloc: Global, values: &[Seen<'_>]) -> Result<(), AllocError>
+    ensures { OnOk result (found.new.items ≡ found.old.items ++ map (λ v. seen_value v) values.now) }
+{
+    for value in values {
+        found.push(value.own(alloc)?)?;
+    }
+    Ok(())
+}
+
+/// The value, with a copy of its text, in each row that is picked, block by block.
+fn values_in_blocks(
+    alloc: Global,
+    readers: &[TableReader<'_>],
+    picks: &[Pick],
+) -> Result<Vec<Value>, AllocError>
+    requires one { length readers.now ≡ 1 }
+    requires readable { All (spec.IsReadable readers.now) picks.now }
+    ensures { IfOk result (λ vs. spec.AreRead readers.now picks.now vs.items) }
+{
+    let mut found = Vec::with_capacity(alloc, picks.len())?;
+    let mut rest = picks;
+    while rest.len() > 0 {
+        let (block, behind) = next_block(rest);
+        let values = seen_block(alloc, readers, block)?;
+        push_owned(&mut found, alloc, values.as_slice())?;
+        rest = behind;
+    }
+    Ok(found)
+}
+
 /// The value, with a copy of its text, in each row that is picked, one after the other.
 pub(crate) fn values_in_turn(
     alloc: Global,
@@ -81,6 +170,9 @@ pub(crate) fn values_in_turn(
     requires { All (spec.IsReadable readers.now) picks.now }
     ensures { IfOk result (λ vs. spec.AreRead readers.now picks.now vs.items) }
 {
+    if in_blocks(readers) {
+        return values_in_blocks(alloc, readers, picks);
+    }
     let mut found = Vec::with_capacity(alloc, picks.len())?;
     for pick in picks {
         found.push(value_of(readers, *pick).own(alloc)?)?;
@@ -130,16 +222,46 @@ pub(crate) fn all_values<R: Threads + Sync>(
     whole(alloc, picks.len(), parts)
 }
 
-/// Whether the value in the row that is picked is true; none where it is past its range.
-fn answer(readers: &[TableReader<'_>], pick: Pick) -> Option<bool>
-    requires { spec.IsReadable readers.now pick }
-    ensures { result ≡ answer_of (spec.read_at readers.now pick) }
+/// Whether a value is true; none where it is past its range.
+fn answer(value: Seen<'_>) -> Option<bool>
+    ensures { result ≡ answer_of (seen_value value.entry) }
 {
-    match value_of(readers, pick) {
+    match value {
         Seen::Beyond => None,
         Seen::Bool(b) => Some(b),
         _ => Some(false),
     }
+}
+
+/// Whether each of the values is true, behind what is there already.
+fn push_answers(found: &mut Vec<Option<bool>>, values: &[Seen<'_>]) -> Result<(), AllocError>
+    ensures { OnOk result (found.new.items ≡ found.old.items ++ map answer_of (map (λ v. seen_value v) values.now)) }
+{
+    for value in values {
+        found.push(answer(*value))?;
+    }
+    Ok(())
+}
+
+/// Whether the value is true, and none where it is past its range, in each row that is picked, block by block.
+fn answers_in_blocks(
+    alloc: Global,
+    readers: &[TableReader<'_>],
+    picks: &[Pick],
+) -> Result<Vec<Option<bool>>, AllocError>
+    requires one { length readers.now ≡ 1 }
+    requires readable { All (spec.IsReadable readers.now) picks.now }
+    ensures { IfOk result (λ vs. spec.AreAnswers readers.now picks.now vs.items) }
+{
+    let mut found = Vec::with_capacity(alloc, picks.len())?;
+    let mut rest = picks;
+    while rest.len() > 0 {
+        let (block, behind) = next_block(rest);
+        let values = seen_block(alloc, readers, block)?;
+        push_answers(&mut found, values.as_slice())?;
+        rest = behind;
+    }
+    Ok(found)
 }
 
 /// Whether the value is true, and none where it is past its range, in each row that is picked, one after the other.
@@ -151,9 +273,12 @@ pub(crate) fn answers_in_turn(
     requires { All (spec.IsReadable readers.now) picks.now }
     ensures { IfOk result (λ vs. spec.AreAnswers readers.now picks.now vs.items) }
 {
+    if in_blocks(readers) {
+        return answers_in_blocks(alloc, readers, picks);
+    }
     let mut found = Vec::with_capacity(alloc, picks.len())?;
     for pick in picks {
-        found.push(answer(readers, *pick))?;
+        found.push(answer(value_of(readers, *pick)))?;
     }
     Ok(found)
 }
