@@ -4,7 +4,7 @@ use Rattle.std.proofs.lemmas.Fn.{always_returns_same}
 use Rattle.edm_data.specs.Hierarchies.{walk}
 use Rattle.hier_traverse.proofs.PlaceLaws.{rows_by_place}
 use Rattle.hier_traverse.specs.Rows.{row_key}
-use Rattle.hier_traverse.proofs.traversal.rows_by_place.Goals as goal
+use Rattle.hier_traverse.proofs.traversal.sorted_rows.Goals as goal
 
 pub returns : goal.returns
 returns c postorder parents rank rows at =
