@@ -1,8 +1,9 @@
 //! Frames: lists of instances that are kept by columns.
-ghost use Rattle.std.specs.Prelude.{◌≡◌, ◌+◌, ◌≤◌, ◌<◌, ◌++◌, [], ℕ, List, IsTrue, IfOk, true, filter, get_or, length, map, nat_lt, take, drop};
+ghost use Rattle.std.specs.Prelude.{◌≡◌, ◌+◌, ◌≤◌, ◌<◌, ◌++◌, [], ℕ, List, IsTrue, IfOk, IfSome, true, filter, get_or, length, map, nat_lt, take, drop};
 ghost use Rattle.std.specs.List.{All, list_all};
 ghost use Rattle.edm_values.specs.Lists.{at_places};
 ghost use Rattle.edm_values.specs.Values.{is_value, seen_value};
+ghost use Rattle.edm_model.specs.LookUps.{IsSet};
 ghost use Rattle.apply_ast.specs.Views.{expr_of, named_of};
 ghost use Rattle.apply_meaning.specs.Instances as meaning;
 ghost use Rattle.apply_meaning.specs.Instances.{extended, no_instance, root_of, val};
@@ -10,12 +11,14 @@ ghost use Rattle.apply_meaning.specs.Meaning.{key_list, values, refused_at_beyon
 ghost use Rattle.apply_meaning.specs.Running.{all_free, all_of, new_columns as columns_of};
 ghost use Rattle.row_frames.specs.Frames as spec;
 ghost use Rattle.row_frames.specs.Keys.{key_columns, seen_columns};
+ghost use Rattle.row_frames.specs.Own.{IsOwn};
 
 use crate::chosen::picks_at;
 use crate::computed::{computed_tables, new_columns, rows_in_order};
 use crate::joined::{copied_picks, joined_picks, joined_tables, shared_tables};
 use crate::kept::kept_picks;
 use crate::keys::{key_columns_of, key_lists_of};
+use crate::own::property_of;
 use crate::picks::{first_picks, later_picks, picked_rows, set_picks};
 use crate::placed::{
     placed_columns, placed_keys, placed_root, placed_row, placed_rows, placed_values,
@@ -25,7 +28,7 @@ use crate::values::{seen_of, values_of};
 use apply_ast::{Expr, Named, Path};
 use apply_meaning::{Row, RunRefused, Steps};
 use edm_data::{Data, EntityRef};
-use edm_model::SetId;
+use edm_model::{PropId, SetId};
 use edm_values::{Seen, Value};
 use std::alloc::{AllocError, Global};
 use std::marker::Model;
@@ -234,6 +237,15 @@ impl Frame {
         ensures value { result ≡ root_of (get_or self.now k no_instance) }
     {
         placed_root(self.tables.as_slice(), self.picks.as_slice(), k)
+    }
+
+    /// The property that the path is, of the entity of each instance, and the set of these entities: where all instances stand at
+    /// entities of one set, and none has a column of the path, or a prefix that is not the empty one.
+    pub fn own_property(&self, store: &Data, path: &Path) -> Option<(SetId, PropId)>
+        ensures set { IfSome result (λ o. IsSet store.now.model o.0) }
+        ensures value { IfSome result (λ o. All (IsOwn store.now path.now o.0 o.1.at) self.now) }
+    {
+        property_of(store, self.tables.as_slice(), path)
     }
 
     /// The instances on which the expression is true. No row is made or moved. The instances may be cut into so many parts, each for

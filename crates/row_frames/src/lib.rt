@@ -2,7 +2,7 @@
 //!
 //! A `Frame` is tables of rows of one layout and the rows of these that are picked, in their order (`tables`, `picks`). `of_set`
 //! makes one of a set's entities, `filter` (`kept`), `skip`, `top` and `at` (`chosen`) keep some of its rows, `values` has the
-//! values of an expression (`values`), `key_lists` those of key paths (`keys`), `root` the entity of a row, and `into_rows` makes
+//! values of an expression (`values`), `key_lists` those of key paths (`keys`), `root` the entity of a row, `own_property` the property of these entities that a path is (`own`), and `into_rows` makes
 //! the rows at last. `seen_values` and `key_columns` have values that borrow their texts, the latter a list for each path.
 //! `values_at`, `key_lists_at`, `key_columns_at` and `rows_at` have the same of the rows at some places (`placed`). `compute` puts
 //! new columns behind those of a table (`computed`), which first is made of the rows that are picked, where these are not all in
@@ -32,6 +32,7 @@ mod joined;
 mod kept;
 mod keys;
 mod lookups;
+mod own;
 mod parts;
 mod picks;
 mod placed;
