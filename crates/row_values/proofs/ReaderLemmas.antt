@@ -1,5 +1,5 @@
 -- Rows that are read by their numbers, and what threads share of them.
-use Rattle.std.proofs.Common.{◌≡◌, ◌∙◌, ℕ, zero, suc, ◌+◌, ◌-◌, ◌<◌, ◌≤◌, IsTrue, List, [], ◌∷◌, ◌++◌, add-one, ap, arith, get_or, length, map, refl, sym, take}
+use Rattle.std.proofs.Common.{◌≡◌, ◌∙◌, ℕ, zero, suc, ◌-◌, ◌<◌, ◌≤◌, IsTrue, List, [], ◌∷◌, ◌++◌, add-one, ap, arith, get_or, length, map, refl, sym, take}
 use Rattle.std.proofs.Crossing.{crosses}
 use Rattle.std.proofs.MapsCrossing as maps
 use Rattle.std.proofs.lemmas.List.{map_more, take_all}
@@ -7,10 +7,9 @@ use Rattle.std.proofs.lemmas.List.FromFn.{map-range_with_len_more}
 use Rattle.std.proofs.lemmas.List.Sums.{AllPass-from_list_all}
 use denote.Ref.{NamedLft}
 use denote.Param.Send.{IsSync, sendable}
-use denote.Param.SendFields.{as_row_sync, declared_sync, variants_sync}
+use denote.Param.SendFields.{as_row_sync, declared_sync}
 use Rattle.std.specs.List.{range_with_len}
 use Rattle.rayon.specs.Numbers.{nat_range}
-use Rattle.edm_data.specs.Worlds.{World}
 use Rattle.edm_values.specs.declared.Value.{Value}
 use Rattle.apply_meaning.specs.Instances.{Instance, no_instance}
 use Rattle.apply_meaning.specs.RowViews.{is_of}

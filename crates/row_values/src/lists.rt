@@ -1,14 +1,16 @@
 //! Lists of instances that are read where they stand: rows, or a frame.
-ghost use Rattle.std.specs.Prelude.{◌≡◌, ◌+◌, ◌≤◌, ◌<◌, IfOk, IsTrue, get_or, length, map, nat_lt};
-ghost use Rattle.std.specs.List.{list_all};
+ghost use Rattle.std.specs.Prelude.{◌≡◌, ◌+◌, ◌≤◌, ◌<◌, IfOk, IfSome, IsTrue, get_or, length, map, nat_lt};
+ghost use Rattle.std.specs.List.{All, list_all};
 ghost use Rattle.edm_values.specs.Lists.{at_places};
 ghost use Rattle.edm_values.specs.Values.{seen_value};
+ghost use Rattle.edm_model.specs.LookUps.{IsSet};
 ghost use Rattle.apply_ast.specs.Views.{expr_of};
 ghost use Rattle.apply_meaning.specs.Instances.{no_instance, root_of};
 ghost use Rattle.apply_meaning.specs.Meaning as spec;
 ghost use Rattle.apply_meaning.specs.Meaning.{values};
 ghost use Rattle.apply_meaning.specs.Running.{all_of};
 ghost use Rattle.row_frames.specs.Keys.{key_column, key_columns, seen_columns};
+ghost use Rattle.row_frames.specs.Own.{IsOwn};
 
 use crate::keys::{key_list, key_lists};
 use crate::seen::{key_columns_of, seen_of};
@@ -16,6 +18,7 @@ use crate::values::{value_on, values_of};
 use apply_ast::{Expr, Path};
 use apply_meaning::{Row, Steps, lookup};
 use edm_data::{Data, EntityRef};
+use edm_model::{PropId, SetId};
 use edm_values::{Seen, Value};
 use row_frames::Frame;
 use std::alloc::{AllocError, Global};
@@ -83,6 +86,18 @@ impl<'a> RowList<'a> {
         match self.source {
             Source::Rows(rows) => root_at(rows, k),
             Source::Frame(frame) => frame.root(k),
+        }
+    }
+
+    /// The property that the path is, of the entity of each instance, and the set of these entities: of a frame alone, where all
+    /// instances stand at entities of one set, and none has a column of the path, or a prefix that is not the empty one.
+    pub fn own_property(&self, store: &Data, path: &Path) -> Option<(SetId, PropId)>
+        ensures set { IfSome result (λ o. IsSet store.now.model o.0) }
+        ensures value { IfSome result (λ o. All (IsOwn store.now path.now o.0 o.1.at) self.now) }
+    {
+        match self.source {
+            Source::Rows(_) => None,
+            Source::Frame(frame) => frame.own_property(store, path),
         }
     }
 
