@@ -1,4 +1,5 @@
 pub mod ClimbLaws
+pub mod KeptLaws
 pub mod KeyLaws
 pub mod KeyNodes
 pub mod NodeLaws

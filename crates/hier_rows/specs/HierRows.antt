@@ -1,5 +1,5 @@
 -- Rows by their nodes in a hierarchy (Data Aggregation 4.0, section 6), and what calls over them return.
-use Rattle.std.specs.Prelude.{ℕ, ◌≡◌, ◌<◌, ◌++◌, true, false, Bool, List, map, filter_map, Option, IfSome, option_map, if◌then◌else◌}
+use Rattle.std.specs.Prelude.{ℕ, ◌≡◌, ◌<◌, ◌++◌, true, false, Bool, List, map, filter_map, Option, Some, IfSome, option_map, if◌then◌else◌}
 use Rattle.std.specs.declared.result.Result as result
 use Rattle.std.specs.List.{All, list_any}
 use Rattle.edm_values.specs.declared.Value.{Value}
@@ -7,7 +7,8 @@ use Rattle.edm_values.specs.declared.refusals.Refused.{Refused}
 use Rattle.edm_values.specs.Names.{Path}
 use Rattle.edm_values.specs.Values.{is_beyond}
 use Rattle.edm_values.specs.Refusals.{Returns}
-use Rattle.edm_model.specs.LookUps.{HierarchyPlace}
+use Rattle.edm_model.specs.LookUps.{HierarchyPlace, navigation_on, set_of_type}
+use Rattle.edm_model.specs.Models.{Model, Navigation, Part}
 use Rattle.edm_data.specs.Hierarchies.{ancestor_rows, descendant_rows, traversed_rows}
 use Rattle.edm_data.specs.Nodes.{parents_of}
 use Rattle.edm_data.specs.References.{by_key}
@@ -25,6 +26,14 @@ node_in w s p i = option_map (λ e. e.at) (by_key w s (lookup w i p))
 -- the node that has a key
 abbrev pub node_by : World → ℕ → Value → Option ℕ
 node_by w s v = option_map (λ e. e.at) (by_key w s v)
+
+-- by this navigation entities refer to those of a set through the property at this place
+pub record IsReferenceBy (m : Model) (n : Part) (q s : ℕ) : Type 0 where
+  pub navigation : Navigation
+  pub is : navigation_on m n ≡ Some navigation
+  pub one : navigation.many ≡ false
+  pub dependent : navigation.dependent ≡ q
+  pub target : set_of_type m navigation.target ≡ s
 
 -- the values of a path on instances
 abbrev pub path_values : World → Path → List Instance → List Value

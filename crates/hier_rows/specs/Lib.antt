@@ -11,3 +11,4 @@ pub use Rattle.apply_meaning.specs.Meaning
 pub use Rattle.apply_meaning.specs.Running
 pub use Rattle.row_orders.specs.Ranks
 pub mod HierRows
+pub mod Sources

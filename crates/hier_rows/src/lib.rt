@@ -2,14 +2,16 @@
 //!
 //! What the transformations over hierarchies take of a list of instances, which are rows or a frame: `nodes_of` finds the node of
 //! each, `climb_places` the places of those that an `ancestors` or `descendants` keeps, and `traverse_places` those of the ones that
-//! a `traverse` lists. `shown_nodes` gives the nodes that rows stand at, `all_nodes` all
-//! of them, and `identifier` the key of a node. `nodes` looks up nodes by their keys, `tried_nodes` has those that are tried first,
-//! `climbs` and `traversals` hand them on to `hier_traverse`, and `shown` marks nodes.
+//! a `traverse` lists. `shown_nodes` gives the nodes that rows stand at, `all_nodes` all of them, and `identifier` the key of a node.
+//!
+//! `nodes` takes the nodes that the data keeps (`sources`), where the path is a property of the entities of a frame, and else looks
+//! them up by their keys; `tried_nodes` has those that are tried first. `climbs` and `traversals` hand nodes on to `hier_traverse`,
+//! and `shown` marks nodes.
 //!
 //! The crate stands on `hier_states` for the nodes of a hierarchy that is named, on `hier_index` and `hier_traverse` for indexes
 //! and for rows by their nodes, on `row_orders` for the ranks of nodes, on `row_values` for lists of instances and values on them,
-//! on `apply_meaning` for rows and the meaning of transformations, on `apply_ast` for walks, and on `edm_model` and `edm_data` for the
-//! data.
+//! on `row_frames` for what a path is on them, on `apply_meaning` for rows and the meaning of transformations, on `apply_ast` for
+//! walks, and on `edm_model` and `edm_data` for the data.
 //!
 //! It promises that the places are those of the meaning of the transformations (`specs/HierRows`), and `Range` exactly where the
 //! value of a path on a row, or of an order item on a node, is past its range. No row is made but those of the nodes, for the order
@@ -19,6 +21,7 @@
 mod climbs;
 mod nodes;
 mod shown;
+mod sources;
 mod traversals;
 mod tried_nodes;
 

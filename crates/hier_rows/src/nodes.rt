@@ -1,15 +1,19 @@
 //! The nodes of rows, and their identifiers.
-ghost use Rattle.std.specs.Prelude.{◌≡◌, ◌<◌, IfOk, IsTrue, map};
+ghost use Rattle.std.specs.Prelude.{◌≡◌, ◌<◌, false, IfOk, IfSome, IsTrue, map, option_and_then};
+ghost use Rattle.std.specs.List.{list_any};
 ghost use Rattle.edm_model.specs.LookUps.{HierarchyPlace, IsSet};
-ghost use Rattle.edm_values.specs.Values.{seen_value};
+ghost use Rattle.edm_values.specs.Values.{is_beyond, seen_value};
 ghost use Rattle.edm_data.specs.Nodes as spec;
 ghost use Rattle.edm_data.specs.References.{count};
+ghost use Rattle.apply_meaning.specs.Instances.{root_of};
 ghost use Rattle.apply_meaning.specs.Running.{all_of};
 ghost use Rattle.hier_rows.specs.HierRows.{AreOptionsBelow, GivesFor, GivesNodeBy, node_in, path_values};
+ghost use Rattle.hier_rows.specs.Sources.{node_at};
 
+use crate::sources::{Source, node_of, source_of};
 use crate::tried_nodes::{Tried, node_with, tried_in};
 use apply_ast::{Expr, Path};
-use apply_meaning::RunRefused;
+use apply_meaning::{RunRefused, data_is_loaded};
 use edm_data::{Data, EntityRef};
 use edm_model::SetId;
 use edm_values::{Seen, Value};
@@ -57,6 +61,43 @@ fn nodes_by_keys(
     Ok(nodes)
 }
 
+/// The node of each instance where the data keeps it, as the path is a property of the instances' entities.
+fn kept_nodes(
+    alloc: Global,
+    source: &Source<'_>,
+    list: &RowList<'_>,
+) -> Result<Vec<Option<u32>>, AllocError>
+    ensures { IfOk result (λ v. v.items ≡ map (λ i. option_and_then (λ e. node_at source.now e.at) (root_of i)) list.now) }
+{
+    let mut nodes = Vec::with_capacity(alloc, list.len())?;
+    for k in 0..list.len() {
+        nodes.push(node_of(source, list.root(k)))?;
+    }
+    Ok(nodes)
+}
+
+/// The same, none where it does not.
+fn property_nodes(
+    alloc: Global,
+    store: &Data,
+    set: SetId,
+    path: &Path,
+    list: &RowList<'_>,
+) -> Result<Option<Vec<Option<u32>>>, AllocError>
+    requires set { IsSet store.now.model set }
+    ensures nodes { IfOk result (λ o. IfSome o (λ v. v.items ≡ map (node_in store.now set path.now) list.now)) }
+    ensures quiet { IfOk result (λ o. IfSome o (λ v. list_any is_beyond (path_values store.now path.now list.now) ≡ false)) }
+{
+    data_is_loaded(store);
+    let Some((of, by)) = list.own_property(store, path) else {
+        return Ok(None);
+    };
+    match source_of(store, of, by, set) {
+        Some(source) => Ok(Some(kept_nodes(alloc, &source, list)?)),
+        None => Ok(None),
+    }
+}
+
 /// The node of each instance: the entity of the set whose key is the value of the path, none where there is none. The values may be
 /// worked out in so many parts, each by a thread of its own.
 pub fn nodes_of<R: Threads + Sync>(
@@ -74,6 +115,9 @@ pub fn nodes_of<R: Threads + Sync>(
     ensures nodes { GivesFor (λ v. v.items ≡ map (node_in store.now set path.now) rows.now) (path_values store.now path.now rows.now) result }
     ensures within { IfOk result (λ v. AreOptionsBelow (count store.now set) v.items) }
 {
+    if let Some(nodes) = property_nodes(alloc, store, set, path, rows)? {
+        return Ok(nodes);
+    }
     let e = Expr::Path(path.copy(alloc)?);
     let keys = rows.seen_values(rt, alloc, store, &e, workers)?;
     nodes_by_keys(alloc, store, set, path, rows, keys.as_slice())

@@ -3,15 +3,16 @@
 //! Where a path is the key of the nodes, a row's node is the row's own entity; where it is the property by which rows refer to
 //! nodes, it is what the row's entity refers to, which the data keeps. A node that is tried is taken only where it has the key.
 ghost use Rattle.std.specs.Prelude.{◌≡◌, Some, true, IfSome, IsTrue, option_map};
-ghost use Rattle.edm_model.specs.LookUps.{IsNavigation, IsSet};
+ghost use Rattle.edm_model.specs.LookUps.{IsSet};
 ghost use Rattle.edm_values.specs.Values.{seen_value};
 ghost use Rattle.edm_data.specs.References.{by_key};
 ghost use Rattle.edm_data.specs.Worlds.{entity_at};
 ghost use Rattle.apply_meaning.specs.Running.{all_of};
 
+use crate::sources::reference;
 use apply_ast::{Name, Path};
 use edm_data::{Data, EntityRef};
-use edm_model::{Model, NavId, PropId, SetId};
+use edm_model::{NavId, SetId};
 use edm_values::{Seen, order};
 use row_values::RowList;
 
@@ -24,29 +25,6 @@ pub(crate) enum Tried {
     Own,
     /// What the row's entity refers to by this navigation property.
     Reference(NavId),
-}
-
-/// Whether entities refer to those of a set by this property and this navigation.
-fn refers(model: &Model, nav: NavId, by: PropId, set: SetId) -> bool
-    requires { IsNavigation model.now nav }
-{
-    if model.nav_many(nav) {
-        return false;
-    }
-    model.nav_dependent(nav) == by && model.type_set(model.nav_target(nav)) == set
-}
-
-/// The navigation by which the entities of a set refer to those of another through this property.
-fn reference(store: &Data, of: SetId, by: PropId, set: SetId) -> Option<NavId>
-    requires { IsSet store.now.model of }
-{
-    let model = store.model();
-    for nav in model.navs(model.set_type(of)) {
-        if refers(model, *nav, by, set) {
-            return Some(*nav);
-        }
-    }
-    None
 }
 
 /// Which node is tried for rows that stand at entities of a set and whose path is this name.
