@@ -6,6 +6,8 @@ use Rattle.edm_values.specs.declared.Seen.{Seen}
 use Rattle.edm_values.specs.declared.Value.{Value}
 use Rattle.edm_values.specs.Lists.{places}
 use Rattle.edm_values.specs.Values.{seen_value}
+use Rattle.aggregate_ops.specs.declared.hashed.KeptValue.{KeptValue}
+use Rattle.aggregate_ops.specs.declared.hashed.KeptValue.TheVariants as kept
 use Rattle.aggregate_ops.specs.declared.hashed.KeyValues.{KeyValues}
 use Rattle.aggregate_ops.specs.declared.hashed.KeyValues.TheVariants as values
 
@@ -31,3 +33,8 @@ key_values (values.Placed columns at) = key_at columns.now at
 abbrev pub are_there : KeyValues → Type 0
 are_there (values.Placed columns at) = All (λ c. at < length c.items) columns.now
 are_there _ = Unit {0}
+
+-- the value that is borrowed, or owned
+abbrev pub kept_value : KeptValue → Value
+kept_value (kept.Seen v) = seen_value v
+kept_value (kept.Owned v) = v

@@ -5,14 +5,13 @@ ghost use Rattle.edm_values.specs.Keys.{hash_writes};
 ghost use Rattle.edm_values.specs.declared.Value.{Value as Value'};
 ghost use Rattle.edm_values.specs.Values.{same_value, seen_value};
 ghost use Rattle.apply_meaning.specs.Meaning.{same_keys};
-ghost use Rattle.aggregate_ops.specs.Columns.{are_there, key_at, key_rows, key_values};
+ghost use Rattle.aggregate_ops.specs.Columns.{are_there, kept_value, key_at, key_rows, key_values};
 ghost use Rattle.aggregate_ops.specs.Numbers.{key_number, key_writes, key_writes_alike, same_keys_equiv, same_value_equiv, value_number, value_writes, value_writes_alike};
 
 use crate::sameness::{is_same, write_value};
 use crate::values::{copies, copy};
 use edm_values::{Seen, Value};
 use std::alloc::{AllocError, Global};
-use std::borrow::Cow;
 use std::hash::{DefaultHasher, Hash, Hasher};
 use std::marker::Model;
 
@@ -232,32 +231,49 @@ pub fn hashed_columns<'a, 'v>(
     }
     Ok(keys)
 }
+/// A value that is borrowed where it stands, or owned.
+#[derive(Drop)]
+pub(crate) enum KeptValue<'a> {
+    Seen(Seen<'a>),
+    Owned(Value),
+}
+
+/// The value that is kept.
+fn kept_seen<'s>(value: &'s KeptValue<'_>) -> Seen<'s>
+    ensures { seen_value result ≡ kept_value value.now }
+{
+    match value {
+        KeptValue::Seen(value) => *value,
+        KeptValue::Owned(value) => value.seen(),
+    }
+}
+
 /// A value and its number, a SipHash of it. Values of two numbers are two.
 #[derive(Drop)]
 pub struct HashedValue<'a> {
     number: u64,
-    value: Cow<'a, Value>,
+    value: KeptValue<'a>,
 }
 
 impl<'a> Model for HashedValue<'a> {
     ghost use Rattle.std.specs.Prelude.{◌≡◌};
-    ghost use Rattle.std.specs.Cow.{cow_value};
     ghost use Rattle.edm_values.specs.declared.Value.{Value as Value'};
+    ghost use Rattle.aggregate_ops.specs.Columns.{kept_value};
     ghost use Rattle.aggregate_ops.specs.Numbers.{value_number};
 
     ghost Value = { Value' };
 
-    ghost view = { λ v. cow_value v.value };
+    ghost view = { λ v. kept_value v.value };
 
-    ghost invariant = { λ v. v.number ≡ value_number (cow_value v.value) };
+    ghost invariant = { λ v. v.number ≡ value_number (kept_value v.value) };
 }
 
 /// The number of a value.
-fn number_of_value(value: &Value) -> u64
-    ensures { result ≡ value_number value.now }
+fn number_of_value(value: Seen<'_>) -> u64
+    ensures { result ≡ value_number (seen_value value.entry) }
 {
     let mut state = DefaultHasher::new();
-    write_value(value.seen(), &mut state);
+    write_value(value, &mut state);
     state.finish()
 }
 
@@ -266,9 +282,16 @@ impl<'a> HashedValue<'a> {
     pub fn of(value: &'a Value) -> HashedValue<'a>
         ensures value { result ≡ value.now }
     {
+        HashedValue::of_seen(value.seen())
+    }
+
+    /// The value that borrows its text, with its number.
+    pub fn of_seen(value: Seen<'a>) -> HashedValue<'a>
+        ensures value { result ≡ seen_value value.entry }
+    {
         HashedValue {
             number: number_of_value(value),
-            value: Cow::Borrowed(value),
+            value: KeptValue::Seen(value),
         }
     }
 
@@ -277,19 +300,16 @@ impl<'a> HashedValue<'a> {
         ensures { result ≡ value }
     {
         HashedValue {
-            number: number_of_value(&value),
-            value: Cow::Owned(value),
+            number: number_of_value(value.seen()),
+            value: KeptValue::Owned(value),
         }
     }
 
     /// The value.
-    pub fn value(&self) -> &Value
-        ensures value { result.now ≡ self.now }
+    pub fn value(&self) -> Seen<'_>
+        ensures value { seen_value result ≡ self.now }
     {
-        match &self.value {
-            Cow::Borrowed(value) => value,
-            Cow::Owned(value) => value,
-        }
+        kept_seen(&self.value)
     }
 
     /// The same value, which is copied where it is owned.
@@ -297,8 +317,8 @@ impl<'a> HashedValue<'a> {
         ensures { IfOk result (λ v. v ≡ self.now) }
     {
         let value = match &self.value {
-            Cow::Borrowed(value) => Cow::Borrowed(*value),
-            Cow::Owned(value) => Cow::Owned(copy(alloc, value)?),
+            KeptValue::Seen(value) => KeptValue::Seen(*value),
+            KeptValue::Owned(value) => KeptValue::Owned(copy(alloc, value)?),
         };
         Ok(HashedValue {
             number: self.number,
@@ -313,7 +333,7 @@ impl<'a> PartialEq for HashedValue<'a> {
     ghost laws = { partial_equiv_from_equiv same_value_equiv };
 
     fn eq(&self, other: &HashedValue<'a>) -> bool {
-        self.number == other.number && is_same(self.value().seen(), other.value().seen())
+        self.number == other.number && is_same(self.value(), other.value())
     }
 }
 

@@ -2,7 +2,8 @@
 //!
 //! `SumOf`, `MinOf`, `MaxOf`, `DistinctOf` and `CountOf` are each a `Partial` over values: made for a type by `new`, given one
 //! value at a time or those of a later part, and ended by `finish`. `aggregate_values` folds a list of values by the partial of
-//! a method, and `aggregate_places` those of a list that stand at some places, where they stand (`placed_folds`). `KeyPlaces` is
+//! a method, and `aggregate_places` those of a list that stand at some places, where they stand (`placed_folds`). The first
+//! three are a `SeenPartial` each, which takes a value also where it is borrowed. `KeyPlaces` is
 //! a `Partial` over key lists with their hashes, which are borrowed from lists or from columns (`hashed`): by these it finds a key
 //! (`key_maps`). `KeyTable` is the same over plain key lists. `groups` and `into_groups` give its `Groups`, `Groups::whole` has
 //! those of key lists without values, and `by_front` and `by_fronts` those by the first values of their keys (`fronts`), which
@@ -10,7 +11,7 @@
 //! `Seed` of the list that it is made for, so that no list of keys can be chosen whose hashes are all one (`seeds`). `sameness`
 //! tells whether values are the same, and `values` has what is asked of a single value, and copies of values.
 //!
-//! The crate stands on `par_stages` for folds, on `apply_meaning` for the meaning of aggregates and of groups, and on
+//! The crate stands on `par_stages` and `seen_partials` for folds, on `apply_meaning` for the meaning of aggregates and of groups, and on
 //! `edm_values` for values and their order.
 //!
 //! It promises that `finish` is the aggregate of the list that the partial stands for (`specs/Partials`), and that `groups`
@@ -39,7 +40,7 @@ mod values;
 pub use counts::CountOf;
 pub use distincts::{DistinctOf, DistinctValues};
 pub use extremes::{MaxOf, MinOf};
-pub use folds::aggregate_values;
+pub use folds::{aggregate_values, kind_of};
 pub use groups::Groups;
 pub use hashed::{HashedKey, HashedValue, hashed_columns, hashed_keys, hashed_values};
 pub use key_places::KeyPlaces;

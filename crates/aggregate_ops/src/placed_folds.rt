@@ -24,7 +24,7 @@ fn kind_at(values: &[Value], places: &[usize]) -> EdmType
     ensures typed { (m : Method') → AreFoldable m (at_places values.now places.now) → IsTrue (list_all (is_of_kind result) (at_places values.now places.now)) }
 {
     for at in places {
-        if let Some(kind) = kind_of(&values[*at]) {
+        if let Some(kind) = kind_of(values[*at].seen()) {
             return kind;
         }
     }

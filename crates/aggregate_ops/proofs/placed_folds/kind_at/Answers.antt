@@ -1,8 +1,9 @@
-use Rattle.std.proofs.Common.{◌≡◌, true, ◌∙◌, ◌<◌, ap, sym, arith, length}
+use Rattle.std.proofs.Common.{◌≡◌, true, ◌∙◌, ◌<◌, IsTrue, ap, subst, sym, arith, length}
 use Rattle.std.specs.List.{list_all}
 use Rattle.std.proofs.lemmas.List.{take_all}
 use Rattle.edm_values.specs.declared.Value.TheVariants as value
 use Rattle.edm_values.specs.Lists.{at_places}
+use Rattle.edm_values.specs.Literals.{is_of_kind}
 use Rattle.aggregate_ops.specs.Partials.{is_of_every_kind}
 use Rattle.aggregate_ops.proofs.KindLemmas.{every-more, none-taken, own-taken}
 use Rattle.aggregate_ops.proofs.PlacedLemmas.{length-placed_at, place-read}
@@ -15,7 +16,8 @@ returns-in-Some c =
     let i = c.loop-at.at-index in
     let x = c.index-values-at.result in
     let there : i < length (at_places vs ks) = omega (arith, length-placed_at vs ks value.Null c.requires) in
-    let own = own-taken (at_places vs ks) c.in-Some.kind i x there (place-read vs ks i x c.requires (omega arith) c.index-values-at.is) c.in-Some.ensures in
+    let own = own-taken (at_places vs ks) c.in-Some.kind i x there (place-read vs ks i x c.requires (omega arith) c.index-values-at.is)
+    (λ k h. c.in-Some.ensures.kind k (subst (λ v. IsTrue (is_of_kind k v)) (sym c.seen.ensures.value) h)) in
     record { taken = own.taken; typed = own.typed }
 
 pub loop-at-preserved : goal.loop-at-preserved
@@ -25,7 +27,7 @@ loop-at-preserved c =
     let i = c.loop-at.at-index in
     let x = c.index-values-at.result in
     let there : i < length (at_places vs ks) = omega (arith, length-placed_at vs ks value.Null c.requires) in
-    every-more (at_places vs ks) i x there (place-read vs ks i x c.requires (omega arith) c.index-values-at.is) c.in_default.ensures c.loop-at.invariant
+    every-more (at_places vs ks) i x there (place-read vs ks i x c.requires (omega arith) c.index-values-at.is) (ap is_of_every_kind (sym c.seen.ensures.value) ∙ c.in_default.ensures.kind) c.loop-at.invariant
 
 pub returns : goal.returns
 returns c =

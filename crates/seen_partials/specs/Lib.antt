@@ -1,0 +1,2 @@
+pub use Rattle.edm_values.specs.Values
+pub use Rattle.par_stages.specs.Placed
