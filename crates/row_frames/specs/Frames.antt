@@ -157,6 +157,10 @@ pub record IsReadable (rs : List TableReader) (x : Pick) : Type 0 where
 pub record AreRead (rs : List TableReader) (xs : List Pick) (vs : List Value) : Type 0 where
   pub read : vs ≡ map (read_at rs) xs
 
+-- the values in rows that are picked, which stand at places, with these places
+abbrev pub all_read : List TableReader → List (Pick × ℕ) → List (Value × ℕ)
+all_read rs xs = map (λ x. (read_at rs x.0, x.1)) xs
+
 -- and these say whether they are true
 pub record AreAnswers (rs : List TableReader) (xs : List Pick) (bs : List (Option Bool)) : Type 0 where
   pub answers : bs ≡ map (λ x. answer_of (read_at rs x)) xs

@@ -15,6 +15,7 @@ ghost use Rattle.row_frames.specs.Own.{IsOwn};
 
 use crate::chosen::picks_at;
 use crate::computed::{computed_tables, new_columns, rows_in_order};
+use crate::frame_readers::{FrameReader, reader_over};
 use crate::joined::{copied_picks, joined_picks, joined_tables, shared_tables};
 use crate::kept::kept_picks;
 use crate::keys::{key_columns_of, key_lists_of};
@@ -112,6 +113,25 @@ impl Frame {
     {
         let tables = self.tables.as_slice();
         seen_of(rt, alloc, store, tables, e, self.picks.as_slice(), workers)
+    }
+
+    /// The values of an expression on the instances, of which none is read yet.
+    pub fn reader<'s>(
+        &'s self,
+        alloc: Global,
+        store: &'s Data,
+        e: &'s Expr,
+    ) -> Result<FrameReader<'s>, AllocError>
+        requires of { IsTrue (all_of store.now self.now) }
+        ensures value { IfOk result (λ r. r ≡ values store.now (expr_of e.now) self.now) }
+    {
+        reader_over(
+            alloc,
+            store,
+            self.tables.as_slice(),
+            e,
+            self.picks.as_slice(),
+        )
     }
 
     /// The values of an expression on the instances at these places.

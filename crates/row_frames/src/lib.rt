@@ -13,10 +13,12 @@
 //! column are not looked up once a row either. What is bound is read in the rows that are picked by the thread that calls, or in
 //! parts of them by threads (`seen`, `parts`), which `rayon` starts: threads read the data, the tables and what is bound, and write
 //! nothing that is shared. Where all rows are of one table, an expression with operators is worked out block by block (`blocks`):
-//! the operands in some rows first, and then the operator on these.
+//! the operands in some rows first, and then the operator on these. `reader` has the values of an expression as a list of which none
+//! is kept (`frame_readers`): one of them, or what a partial keeps of all, which are folded where they are read (`folded`).
 //!
 //! The crate stands on `apply_meaning` for rows, the values of expressions and what a run returns, on `context_typing` and
-//! `apply_ast` for paths and expressions, and on `edm_data`, `edm_model` and `edm_values` for the data.
+//! `apply_ast` for paths and expressions, on `par_stages` and `seen_partials` for folds, and on `edm_data`, `edm_model` and
+//! `edm_values` for the data.
 //!
 //! It promises that a frame is a list of instances, and that each call gives what its definition says of that list, for every number
 //! of workers; a step is counted for each row that `into_rows` makes, and for nothing else.
@@ -25,6 +27,8 @@
 mod blocks;
 mod chosen;
 mod computed;
+mod folded;
+mod frame_readers;
 mod frames;
 mod gathered;
 mod hops;
@@ -41,4 +45,5 @@ mod seen;
 mod tables;
 mod values;
 
+pub use frame_readers::FrameReader;
 pub use frames::Frame;
