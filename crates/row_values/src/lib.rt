@@ -3,16 +3,19 @@
 //! `values_of` has the values of an expression on rows, `key_lists` those of key paths; `filter_rows` keeps the rows on which an
 //! expression is true, and `compute_rows` extends rows by new columns. `RowList` is a list of instances that is read where it
 //! stands, rows or a frame, and `PlacedRows` those of a list that are told by their places, each with the values on them, owned or
-//! borrowed (`seen`): no row is copied or made, but those that `RowList::members` is asked for. The rows are cut into at most as
-//! many parts as there are workers, by `rayon`, and few rows are not cut at all. Threads read the data, the rows and the
-//! expression, and write nothing that is shared. Rows are moved and made by the thread that called.
+//! borrowed (`seen`), and the aggregate of these by a method (`aggregates`), which on a frame are folded where they are read: no row
+//! is copied or made, but those that `RowList::members` is asked for.
+//! The rows are cut into at most as many parts as there are workers, by `rayon`, and few rows are not cut at all. Threads read the
+//! data, the rows and the expression, and write nothing that is shared. Rows are moved and made by the thread that called.
 //!
-//! The crate stands on `row_frames` for frames, on `apply_meaning` for rows and the values of expressions on them, on `apply_ast`
-//! for expressions and paths, and on `edm_data` for the data.
+//! The crate stands on `row_frames` for frames, on `aggregate_ops` and `par_stages` for aggregates, on `apply_meaning` for rows and
+//! the values of expressions on them, on `context_typing` for the types that methods take, on `apply_ast` for expressions and
+//! paths, and on `edm_data` for the data.
 //!
 //! It promises the values of the definitions, in the order of the rows, for every number of workers.
 #![tactic(auto)]
 
+mod aggregates;
 mod computes;
 mod filters;
 mod keys;

@@ -5,6 +5,8 @@ ghost use Rattle.edm_values.specs.Lists.{at_places};
 ghost use Rattle.edm_values.specs.Values.{seen_value};
 ghost use Rattle.edm_model.specs.LookUps.{IsSet};
 ghost use Rattle.apply_ast.specs.Views.{expr_of};
+ghost use Rattle.aggregate_ops.specs.Partials.{AreFoldable};
+ghost use Rattle.apply_meaning.specs.Aggregates.{aggregate};
 ghost use Rattle.apply_meaning.specs.Instances.{no_instance, root_of};
 ghost use Rattle.apply_meaning.specs.Meaning as spec;
 ghost use Rattle.apply_meaning.specs.Meaning.{values};
@@ -12,6 +14,7 @@ ghost use Rattle.apply_meaning.specs.Running.{all_of};
 ghost use Rattle.row_frames.specs.Keys.{key_column, key_columns, seen_columns};
 ghost use Rattle.row_frames.specs.Own.{IsOwn};
 
+use crate::aggregates::{frame_aggregate, row_aggregate};
 use crate::keys::{key_list, key_lists};
 use crate::seen::{key_columns_of, seen_of};
 use crate::values::{value_on, values_of};
@@ -19,7 +22,8 @@ use apply_ast::{Expr, Path};
 use apply_meaning::{Row, Steps, lookup};
 use edm_data::{Data, EntityRef};
 use edm_model::{PropId, SetId};
-use edm_values::{Seen, Value};
+use edm_values::{Method, Seen, Value};
+use par_stages::Gate;
 use row_frames::Frame;
 use std::alloc::{AllocError, Global};
 use std::marker::Model;
@@ -117,6 +121,32 @@ impl<'a> RowList<'a> {
         match self.source {
             Source::Rows(rows) => values_of(rt, alloc, store, e, rows, workers),
             Source::Frame(frame) => frame.values(rt, alloc, store, e, workers),
+        }
+    }
+
+    /// The aggregate by a method of the values of an expression on the instances, which are of one type. The instances are cut into
+    /// pieces, of which the gate is told and which several threads may take.
+    pub fn aggregate<R: Threads + Sync, G: Gate>(
+        &self,
+        rt: &R,
+        alloc: Global,
+        store: &Data,
+        e: &Expr,
+        method: Method,
+        workers: u32,
+        gate: &G,
+    ) -> Result<Value, AllocError>
+        requires some { 0 < workers }
+        requires few { workers ≤ 64 }
+        requires of { IsTrue (all_of store.now self.now) }
+        requires kind { AreFoldable method (values store.now (expr_of e.now) self.now) }
+        ensures value { IfOk result (λ v. v ≡ aggregate method (values store.now (expr_of e.now) self.now)) }
+    {
+        match self.source {
+            Source::Rows(rows) => row_aggregate(rt, alloc, store, e, method, rows, workers, gate),
+            Source::Frame(frame) => {
+                frame_aggregate(rt, alloc, store, e, method, frame, workers, gate)
+            }
         }
     }
 

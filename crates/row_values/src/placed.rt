@@ -1,17 +1,21 @@
 //! Instances that are told by their places in a list, and the values of expressions and keys on them. No row is copied or made.
-ghost use Rattle.std.specs.Prelude.{◌≡◌, ◌<◌, IfOk, IsTrue, length, map, nat_lt};
+ghost use Rattle.std.specs.Prelude.{◌≡◌, ◌<◌, ◌≤◌, IfOk, IsTrue, length, map, nat_lt};
 ghost use Rattle.std.specs.List.{list_all};
 ghost use Rattle.edm_values.specs.Lists.{at_places};
 ghost use Rattle.apply_ast.specs.Views.{expr_of};
+ghost use Rattle.aggregate_ops.specs.Partials.{AreFoldable};
+ghost use Rattle.apply_meaning.specs.Aggregates.{aggregate};
 ghost use Rattle.apply_meaning.specs.Meaning as spec;
 ghost use Rattle.apply_meaning.specs.Meaning.{values};
 ghost use Rattle.apply_meaning.specs.Running.{all_of};
 ghost use Rattle.row_frames.specs.Keys.{key_columns, seen_columns};
 
 use crate::lists::RowList;
+use aggregate_ops::aggregate_values;
 use apply_ast::{Expr, Path};
 use edm_data::Data;
-use edm_values::{Seen, Value};
+use edm_values::{Method, Seen, Value};
+use par_stages::Gate;
 use std::alloc::{AllocError, Global};
 use std::marker::Model;
 use std::thread::Threads;
@@ -83,6 +87,34 @@ impl<'a> PlacedRows<'a> {
         match self.places {
             None => list.values(rt, alloc, store, e, workers),
             Some(places) => list.values_at(alloc, store, e, places),
+        }
+    }
+
+    /// The aggregate by a method of the values of an expression on the instances, which are of one type. They are cut into pieces, of
+    /// which the gate is told and which several threads may take.
+    pub fn aggregate<R: Threads + Sync, G: Gate>(
+        &self,
+        rt: &R,
+        alloc: Global,
+        store: &Data,
+        e: &Expr,
+        method: Method,
+        workers: u32,
+        gate: &G,
+    ) -> Result<Value, AllocError>
+        requires some { 0 < workers }
+        requires few { workers ≤ 64 }
+        requires of { IsTrue (all_of store.now self.now) }
+        requires kind { AreFoldable method (values store.now (expr_of e.now) self.now) }
+        ensures value { IfOk result (λ v. v ≡ aggregate method (values store.now (expr_of e.now) self.now)) }
+    {
+        let list = self.list;
+        match self.places {
+            None => list.aggregate(rt, alloc, store, e, method, workers, gate),
+            Some(places) => {
+                let all = list.values_at(alloc, store, e, places)?;
+                aggregate_values(rt, alloc, method, all.as_slice(), workers, gate)
+            }
         }
     }
 
