@@ -40,8 +40,7 @@ fn over_all<R: Threads + Sync, G: Gate>(
     requires foldable { AreFoldable method (spec.values store.now (expr_of e.now) rows.now) }
     ensures { IfOk result (λ v. v ≡ aggregate method (spec.values store.now (expr_of e.now) rows.now)) }
 {
-    let values = rows.values(rt, alloc, store, e, workers)?;
-    aggregate_values(rt, alloc, method, values.as_slice(), workers, gate)
+    rows.aggregate(rt, alloc, store, e, method, workers, gate)
 }
 
 /// What an outer method gives on the results of a method on the groups of the rows by the paths of a reading.
