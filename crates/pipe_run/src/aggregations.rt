@@ -73,8 +73,7 @@ pub(crate) fn item_value<R: Threads + Sync, G: Gate>(
     match item {
         AggItem::Count(name) => Ok((path_of(alloc, name)?, count(rows.len())?)),
         AggItem::Standard(e, method, name) => {
-            let values = context.values(alloc, e, rows)?;
-            let value = context.aggregate(alloc, *method, values.as_slice())?;
+            let value = context.aggregate_on(alloc, *method, e, rows)?;
             Ok((path_of(alloc, name)?, value))
         }
         AggItem::Custom(custom, name) => {

@@ -152,6 +152,22 @@ impl<'a, R: Threads + Sync, G: Gate> Context<'a, R, G> {
         self.workers
     }
 
+    /// The aggregate by a method of the values of an expression on rows, which are of one type.
+    pub(crate) fn aggregate_on(
+        &self,
+        alloc: Global,
+        method: Method,
+        e: &Expr,
+        rows: &PlacedRows<'_>,
+    ) -> Result<Value, AllocError>
+        requires of { IsTrue (all_of self.now.world rows.now) }
+        requires kind { AreFoldable method (values self.now.world (expr_of e.now) rows.now) }
+        ensures { IfOk result (λ v. v ≡ aggregates.aggregate method (values self.now.world (expr_of e.now) rows.now)) }
+    {
+        let hands = self.hands(rows.len());
+        rows.aggregate(self.rt, alloc, self.store, e, method, hands, self.gate)
+    }
+
     /// The aggregate of values of one type by a method.
     pub fn aggregate(
         &self,

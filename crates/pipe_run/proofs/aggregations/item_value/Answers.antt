@@ -1,22 +1,19 @@
-use Rattle.std.proofs.Common.{◌∙◌, ap, sym, subst}
+use Rattle.std.proofs.Common.{ap, subst}
 use Rattle.apply_ast.specs.Views.{agg_of, expr_of}
-use Rattle.aggregate_ops.specs.Partials.{AreFoldable}
 use Rattle.apply_meaning.specs.MeaningLaws.{IsLoaded}
 use Rattle.apply_meaning.proofs.RunLemmas.{all-fit-of}
 use Rattle.pipe_run.specs.Conditions.{ItemRuns}
 use Rattle.pipe_run.proofs.CustomLemmas.{item-foldable}
 use Rattle.pipe_run.proofs.aggregations.item_value.Goals as goal
 
-pub values-requires-after_bounds : goal.values-requires-after_bounds
-values-requires-after_bounds g c κs within =
+pub aggregate_on-requires-clause-of : goal.aggregate_on-requires-clause-of
+aggregate_on-requires-clause-of g c κs within =
     let r = c.requires.ready in
     all-fit-of c.args.context.now.world r.0 c.args.rows.now (r.1).fit
 
-pub aggregate-requires-after_bounds : goal.aggregate-requires-after_bounds
-aggregate-requires-after_bounds g c κs within =
+pub aggregate_on-requires-clause-kind : goal.aggregate_on-requires-clause-kind
+aggregate_on-requires-clause-kind g c κs within =
     let x = c.args.context.now in
     let l = c.args.rows.now in
     let r = c.requires.ready in
-    let e = expr_of c.in-Standard.e in
-    subst (AreFoldable c.in-Standard.method) (sym (c.as_slice.ensures.value ∙ c.in_ok-values-in-Standard.ensures))
-    (item-foldable x c.args.root.now r.0 e c.in-Standard.method c.in-Standard.name l (subst IsLoaded c.store.ensures.value c.data_is_loaded.ensures.value) (subst (λ i. ItemRuns x c.args.root.now r.0 i l) (ap agg_of c.in-Standard.is) r.1))
+    item-foldable x c.args.root.now r.0 (expr_of c.in-Standard.e) c.in-Standard.method c.in-Standard.name l (subst IsLoaded c.store.ensures.value c.data_is_loaded.ensures.value) (subst (λ i. ItemRuns x c.args.root.now r.0 i l) (ap agg_of c.in-Standard.is) r.1)
