@@ -2,6 +2,7 @@ pub mod Candidates
 pub mod Firsts
 pub mod Fronts
 pub mod NumberRanks
+pub mod PartFirsts
 pub mod Places
 pub mod Quotients
 pub mod Ranks

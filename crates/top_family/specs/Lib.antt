@@ -3,6 +3,7 @@ pub use Rattle.edm_values.specs.Literals
 pub use Rattle.edm_values.specs.Refusals
 pub use Rattle.edm_values.specs.Values
 pub mod Numbers
+pub mod Parts
 pub mod Rankings
 pub mod Selections
 pub mod Thresholds

@@ -1,15 +1,17 @@
 //! The six selections.
-ghost use Rattle.std.specs.Prelude.{◌≡◌, ◌≤◌, true, false, min};
+ghost use Rattle.std.specs.Prelude.{◌≡◌, ◌<◌, ◌≤◌, true, false, min};
 ghost use Rattle.edm_values.specs.Literals.{AreNumbers};
 ghost use Rattle.edm_values.specs.Values.{number_part, reaches_count, reaches_percent, reaches_sum, seen_value, top_places};
 ghost use Rattle.top_family.specs.Selections.{Takes, seen_values};
 
 use crate::TopRefused;
 use crate::numbers::number_ranking;
+use crate::parts::first_by_workers;
 use crate::rankings::{ascending, first_by_rank};
 use crate::thresholds::{front_reaching, least_of_bound, least_of_percent};
 use edm_values::Seen;
 use std::alloc::Global;
+use std::thread::Threads;
 
 /// The places of the `n` greatest values, ascending.
 pub fn top_count(alloc: Global, values: &[Seen<'_>], n: u64) -> Result<Vec<usize>, TopRefused>
@@ -80,6 +82,24 @@ fn by_count(
 {
     let n = at_most(n, values.len());
     let first = first_by_rank(alloc, values, n, bottom)?;
+    Ok(ascending(alloc, values.len(), first.as_slice())?)
+}
+
+/// The places of the `n` greatest values, or with `bottom` of the `n` least, ascending. The values may be cut into so many parts:
+/// each finds its own first values in a thread of its own, and this thread the first of all among these.
+pub fn count_in_parts<R: Threads + Sync>(
+    rt: &R,
+    alloc: Global,
+    values: &[Seen<'_>],
+    n: u64,
+    bottom: bool,
+    workers: u32,
+) -> Result<Vec<usize>, TopRefused>
+    requires some { 0 < workers }
+    ensures value { Takes (top_places (reaches_count n) bottom (seen_values values.now)) result }
+{
+    let n = at_most(n, values.len());
+    let first = first_by_workers(rt, alloc, values, n, bottom, workers)?;
     Ok(ascending(alloc, values.len(), first.as_slice())?)
 }
 
