@@ -6,6 +6,7 @@ use Rattle.std.proofs.lemmas.List.{get_or-map, length-map, map-append, take_all,
 use Rattle.std.proofs.lemmas.List.Elements.{All-cons, All-map, All-nil}
 use Rattle.std.proofs.lemmas.Simd.{map-map}
 use Rattle.edm_values.proofs.SearchFacts.{cons-head, cons-tail}
+use Rattle.edm_values.proofs.TopPlaces.{length-places}
 use Rattle.edm_values.specs.declared.Seen.{Seen}
 use Rattle.edm_values.specs.declared.Value.{Value}
 use Rattle.edm_values.specs.Lists.{places}
@@ -23,6 +24,10 @@ rows-across columns n = λ i. map (λ k. sym (map-map (λ c. get_or c k Value.Nu
 -- each key list has a value of each column
 pub rows-wide : (columns : List (Vec Seen)) (n : ℕ) → All (IsWide (length columns)) (key_rows columns n)
 rows-wide columns n = All-map (IsWide (length columns)) (key_at columns) (places n) (λ i d h. length-map columns (λ c. get_or (column_values c) (get_or (places n) i d) Value.Null))
+
+-- there are as many as are asked for
+pub length-rows : (columns : List (Vec Seen)) (n : ℕ) → length (key_rows columns n) ≡ n
+length-rows columns n = length-map (places n) (key_at columns) ∙ length-places n
 
 module _ {X P : Type 0} (g : X → P → Value) where
   -- the columns of the values on items
@@ -62,16 +67,13 @@ module _ {X P : Type 0} (g : X → P → Value) where
         let Q : List (Vec Seen) → Type 0 = λ cs. All (λ c. n ≤ length c.items) cs in
         subst Q (sym same) (λ i d h. let e = long i d h in omega arith)
 
-    -- the key lists have a value of each path
-    pub keys-wide : (lists : List (List Value)) → lists ≡ key_rows seen n → All (IsWide (length ps)) lists
-    keys-wide lists made =
-        let wide : length seen ≡ length ps = ap length same ∙ sym (length-map columns column_values) ∙ ap length are ∙ length-map ps (λ p. map (λ x. g x p) xs) in
-        let Q : List (List Value) → Type 0 = All (IsWide (length ps)) in
-        subst Q (sym made) (subst (λ m. All (IsWide m) (key_rows seen n)) wide (rows-wide seen n))
+    -- there is a column for each path
+    pub as-many : length seen ≡ length ps
+    as-many = ap length same ∙ sym (length-map columns column_values) ∙ ap length are ∙ length-map ps (λ p. map (λ x. g x p) xs)
 
     -- the key lists are those of the items
-    pub keys-right : (lists : List (List Value)) → lists ≡ key_rows seen n → lists ≡ map (λ x. map (g x) ps) xs
-    keys-right lists made =
-        made ∙ (λ i. key_rows (same i) (size i)) ∙ rows-across columns (length xs)
+    pub keys-right : key_rows seen n ≡ map (λ x. map (g x) ps) xs
+    keys-right =
+        (λ i. key_rows (same i) (size i)) ∙ rows-across columns (length xs)
         ∙ (λ i. map (across (are i)) (places (length xs)))
         ∙ all-across ps xs

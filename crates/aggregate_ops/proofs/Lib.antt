@@ -1,5 +1,6 @@
 pub mod AppendLemmas
 pub mod ColumnKeys
+pub mod ColumnNumberLaws
 pub mod FrontLemmas
 pub mod JoinLemmas
 pub mod KeyGroups
@@ -9,6 +10,7 @@ pub mod KindLemmas
 pub mod MergeLemmas
 pub mod NumberLemmas
 pub mod PartialLemmas
+pub mod PlacedKeyLaws
 pub mod PlacedLemmas
 pub mod SameLemmas
 pub mod SpanLemmas

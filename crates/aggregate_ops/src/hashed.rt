@@ -1,11 +1,11 @@
 //! Key lists and values with their hashes, which are worked out once.
-ghost use Rattle.std.specs.Prelude.{◌≡◌, ◌++◌, ◌<◌, ◌≤◌, All, IfOk, OnOk, length, map, slice_index_or};
+ghost use Rattle.std.specs.Prelude.{◌≡◌, ◌++◌, ◌<◌, All, IfOk, OnOk, length, map, slice_index_or};
 ghost use Rattle.std.specs.Cmp.{partial_equiv_from_equiv};
 ghost use Rattle.edm_values.specs.Keys.{hash_writes};
 ghost use Rattle.edm_values.specs.declared.Value.{Value as Value'};
 ghost use Rattle.edm_values.specs.Values.{same_value, seen_value};
 ghost use Rattle.apply_meaning.specs.Meaning.{same_keys};
-ghost use Rattle.aggregate_ops.specs.Columns.{are_there, kept_value, key_at, key_rows, key_values};
+ghost use Rattle.aggregate_ops.specs.Columns.{are_there, kept_value, key_at, key_values};
 ghost use Rattle.aggregate_ops.specs.Numbers.{key_number, key_writes, key_writes_alike, same_keys_equiv, same_value_equiv, value_number, value_writes, value_writes_alike};
 
 use crate::sameness::{is_same, write_value};
@@ -94,6 +94,14 @@ fn number_of(values: &KeyValues<'_, '_>) -> u64
     state.finish()
 }
 
+/// The number of the key list of the columns' values at a place, counted from 0.
+pub(crate) fn number_at(columns: &[Vec<Seen<'_>>], at: usize) -> u64
+    requires { All (λ c. at < length c.items) columns.now }
+    ensures { result ≡ key_number (key_at columns.now at) }
+{
+    number_of(&KeyValues::Placed(columns, at))
+}
+
 /// A key list and its number, a SipHash of its values. Lists of two numbers are two without a look at their values.
 #[derive(Drop)]
 pub struct HashedKey<'a, 'v> {
@@ -133,12 +141,20 @@ impl<'a, 'v> HashedKey<'a, 'v> {
         HashedKey::of_values(KeyValues::Listed(values))
     }
 
-    /// The key list of the columns' values at a place, counted from 0.
-    pub fn placed(columns: &'a [Vec<Seen<'v>>], at: usize) -> HashedKey<'a, 'v>
+    /// The key list of the columns' values at a place, counted from 0, whose number is known.
+    pub(crate) fn numbered(
+        columns: &'a [Vec<Seen<'v>>],
+        at: usize,
+        number: u64,
+    ) -> HashedKey<'a, 'v>
         requires there { All (λ c. at < length c.items) columns.now }
-        ensures value { result ≡ key_at columns.now at }
+        requires number { number ≡ key_number (key_at columns.now at) }
+        ensures { result ≡ key_at columns.now at }
     {
-        HashedKey::of_values(KeyValues::Placed(columns, at))
+        HashedKey {
+            number,
+            values: KeyValues::Placed(columns, at),
+        }
     }
 
     /// The key list that owns these values.
@@ -216,21 +232,6 @@ pub fn hashed_keys<'a>(
     Ok(keys)
 }
 
-/// The key lists of the columns' first values, as many as are asked for, with their numbers: one from each place of the columns.
-pub fn hashed_columns<'a, 'v>(
-    alloc: Global,
-    columns: &'a [Vec<Seen<'v>>],
-    count: usize,
-) -> Result<Vec<HashedKey<'a, 'v>>, AllocError>
-    requires long { All (λ c. count ≤ length c.items) columns.now }
-    ensures value { IfOk result (λ keys. keys.items ≡ key_rows columns.now count) }
-{
-    let mut keys = Vec::with_capacity(alloc, count)?;
-    for at in 0..count {
-        keys.push(HashedKey::placed(columns, at))?;
-    }
-    Ok(keys)
-}
 /// A value that is borrowed where it stands, or owned.
 #[derive(Drop)]
 pub(crate) enum KeptValue<'a> {

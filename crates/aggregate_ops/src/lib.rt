@@ -5,7 +5,9 @@
 //! a method, and `aggregate_places` those of a list that stand at some places, where they stand (`placed_folds`). The first
 //! three are a `SeenPartial` each, which takes a value also where it is borrowed. `KeyPlaces` is
 //! a `Partial` over key lists with their hashes, which are borrowed from lists or from columns (`hashed`): by these it finds a key
-//! (`key_maps`). `KeyTable` is the same over plain key lists. `groups` and `into_groups` give its `Groups`, `Groups::whole` has
+//! (`key_maps`). `KeyTable` is the same over plain key lists. `column_groups` folds the key lists that stand in columns, each of
+//! which is read when its place is added (`placed_keys`); their numbers are worked out before, by several threads
+//! (`column_numbers`). `groups` and `into_groups` give its `Groups`, `Groups::whole` has
 //! those of key lists without values, and `by_front` and `by_fronts` those by the first values of their keys (`fronts`), which
 //! share the keys. `DistinctValues` is to `DistinctOf` what `KeyPlaces` is to `KeyTable`. The hashes of a table begin with a
 //! `Seed` of the list that it is made for, so that no list of keys can be chosen whose hashes are all one (`seeds`). `sameness`
@@ -20,6 +22,7 @@
 //! partial of fewer than 2^63 items keeps its sum in 128 bits.
 #![tactic(auto)]
 
+mod column_numbers;
 mod counts;
 mod distincts;
 mod extremes;
@@ -32,6 +35,7 @@ mod key_places;
 mod key_steps;
 mod key_tables;
 mod placed_folds;
+mod placed_keys;
 mod sameness;
 mod seeds;
 mod sums;
@@ -42,10 +46,11 @@ pub use distincts::{DistinctOf, DistinctValues};
 pub use extremes::{MaxOf, MinOf};
 pub use folds::{aggregate_values, kind_of};
 pub use groups::Groups;
-pub use hashed::{HashedKey, HashedValue, hashed_columns, hashed_keys, hashed_values};
+pub use hashed::{HashedKey, HashedValue, hashed_keys, hashed_values};
 pub use key_places::KeyPlaces;
 pub use key_tables::KeyTable;
 pub use placed_folds::aggregate_places;
+pub use placed_keys::column_groups;
 pub use seeds::Seed;
 pub use sums::SumOf;
 pub use values::copies;

@@ -1,9 +1,9 @@
 -- The instances at the places of groups, and what a method gives on their values.
 use Rattle.std.proofs.Common.{◌≡◌, refl, sym, ◌∙◌, ap, ℕ, ◌+◌, ◌<◌, ◌&&◌, Bool, true, List, [], ◌∷◌, ◌++◌, Some, length, map, take, get_or, arith}
-use Rattle.std.specs.Prelude.{nat_lt, option_map, slice_get}
-use Rattle.std.specs.List.{list_all}
-use Rattle.std.proofs.lemmas.List.{map_more}
-use Rattle.std.proofs.lemmas.Option.{slice_get-get_or}
+use Rattle.std.specs.Prelude.{nat_lt, Option, None, option_map, slice_get}
+use Rattle.std.specs.List.{cons_option, list_all}
+use Rattle.std.proofs.lemmas.List.{length-map, map_more}
+use Rattle.std.proofs.lemmas.Option.{slice_get-get_or, slice_get-map}
 use Rattle.std.proofs.lemmas.Simd.{map-map}
 use Rattle.edm_values.specs.declared.Method.{Method}
 use Rattle.edm_values.specs.declared.Value.{Value}
@@ -41,6 +41,21 @@ foldable-places w e f l ps vs is a =
     let fits : Instance → Bool = λ i. is_of_kind a.0 (val w i e) in
     let on = all-at_places fits l ps (sym (all-mapped (is_of_kind a.0) (λ i. val w i e) l) ∙ a.2) in
     (a.0, a.1, ap (list_all (is_of_kind a.0)) is ∙ all-mapped (is_of_kind a.0) (λ i. val w i e) (at_places l ps) ∙ on)
+
+map-first : {X Y : Type 0} (f : X → Y) (o : Option X) (xs : List X) → map f (cons_option o xs) ≡ cons_option (option_map f o) (map f xs)
+map-first f None xs = refl
+map-first f (Some x) xs = refl
+
+-- the values at places of those on all instances are the values on the instances at these places
+pub values-at_places : (w : World) (e : Expr) (l : List Instance) (ks : List ℕ) → at_places (values w e l) ks ≡ values w e (at_places l ks)
+values-at_places w e l [] = refl
+values-at_places w e l (k ∷ ks) =
+    (λ j. cons_option (slice_get-map (λ i. val w i e) l k j) (values-at_places w e l ks j))
+    ∙ sym (map-first (λ i. val w i e) (slice_get l k) (at_places l ks))
+
+-- the places are those of a list of values, one on each instance
+pub places-of_values : (w : World) (e : Expr) (l : List Instance) (vs : List Value) (ps : List ℕ) → vs ≡ values w e l → list_all (λ k. nat_lt k (length l)) ps ≡ true → list_all (λ k. nat_lt k (length vs)) ps ≡ true
+places-of_values w e l vs ps is all = ap (λ n. list_all (λ k. nat_lt k n) ps) (ap length is ∙ length-map l (λ i. val w i e)) ∙ all
 
 -- the result of one group more
 pub results-next : (w : World) (e : Expr) (f : Method) (l : List Instance) (groups : List (List Value × List ℕ)) (k : ℕ) (ps : List ℕ) (v : Value) (vs : List Value) → k < length groups

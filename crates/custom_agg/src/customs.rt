@@ -64,7 +64,9 @@ fn over_groups<R: Threads + Sync, G: Gate>(
 {
     let paths = read.per.as_slice();
     let groups = groups_by(rt, alloc, store, paths, rows, workers, gate)?;
-    let results = group_values(rt, alloc, store, &read.of, method, rows, &groups, gate)?;
+    let results = group_values(
+        rt, alloc, store, &read.of, method, rows, &groups, workers, gate,
+    )?;
     aggregate_values(rt, alloc, outer, results.as_slice(), workers, gate)
 }
 

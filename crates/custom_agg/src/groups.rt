@@ -10,11 +10,11 @@ ghost use Rattle.apply_meaning.specs.Running.{all_of};
 ghost use Rattle.par_stages.specs.Placed.{placed};
 ghost use Rattle.custom_agg.specs.CustomValues.{are_within, results_at};
 
-use aggregate_ops::{Groups, KeyPlaces, Seed, aggregate_values, hashed_columns};
+use aggregate_ops::{Groups, aggregate_places, column_groups};
 use apply_ast::{Expr, Path};
 use edm_data::Data;
 use edm_values::{Method, Seen, Value};
-use par_stages::{Gate, pieces};
+use par_stages::Gate;
 use row_values::PlacedRows;
 use std::alloc::{AllocError, Global};
 use std::thread::Threads;
@@ -53,14 +53,11 @@ pub(crate) fn groups_by<R: Threads + Sync, G: Gate>(
 {
     let columns = row_columns(rt, alloc, &store, &paths, &rows, workers)?;
     let seen = columns.as_slice();
-    let keys = hashed_columns(alloc, seen, rows.len())?;
-    let keys = keys.as_slice();
-    let empty = KeyPlaces::new(alloc, paths.len(), Seed::of(keys));
-    pieces(rt, keys, workers, gate, &empty)?.into_groups()
+    column_groups(rt, alloc, seen, rows.len(), workers, gate)
 }
 
-/// What a method gives on the values of an expression on the rows of each group. Groups are many and often small, so each is one
-/// piece.
+/// What a method gives on the values of an expression on the rows of each group. The values are worked out once for all groups, in
+/// parts where there are several workers. Groups are many and often small, so each is one piece.
 pub(crate) fn group_values<R: Threads + Sync, G: Gate>(
     rt: &R,
     alloc: Global,
@@ -69,17 +66,20 @@ pub(crate) fn group_values<R: Threads + Sync, G: Gate>(
     method: Method,
     rows: &PlacedRows<'_>,
     groups: &Groups,
+    workers: u32,
     gate: &G,
 ) -> Result<Vec<Value>, AllocError>
+    requires some { 0 < workers }
     requires of { IsTrue (all_of store.now rows.now) }
     requires within { IsTrue (are_within (length rows.now) groups.now) }
     requires foldable { AreFoldable method (values store.now (expr_of e.now) rows.now) }
     ensures { IfOk result (λ vs. vs.items ≡ results_at store.now (expr_of e.now) method rows.now groups.now) }
 {
+    let all = rows.values(rt, alloc, store, e, workers)?;
+    let all = all.as_slice();
     let mut results = Vec::with_capacity(alloc, groups.len())?;
     for k in 0..groups.len() {
-        let values = rows.values_at(alloc, store, e, groups.places(k))?;
-        results.push(aggregate_values(rt, alloc, method, values.as_slice(), 1, gate)?)?;
+        results.push(aggregate_places(rt, alloc, method, all, groups.places(k), gate)?)?;
     }
     Ok(results)
 }

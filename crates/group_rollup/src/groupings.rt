@@ -1,39 +1,22 @@
 //! Groups of the instances of lists by their keys.
 ghost use Rattle.std.specs.Prelude.{◌≡◌, ◌+◌, ◌-◌, ◌<◌, ◌≤◌, ◌++◌, if◌then◌else◌, length, map, All, IfOk, IsTrue};
-ghost use Rattle.aggregate_ops.specs.KeyTables.{IsWide};
+ghost use Rattle.aggregate_ops.specs.Columns.{key_rows};
 ghost use Rattle.apply_meaning.specs.Meaning.{key_list};
 ghost use Rattle.apply_meaning.specs.Running.{all_of};
 ghost use Rattle.group_rollup.specs.Groupings as spec;
-ghost use Rattle.group_rollup.specs.Groupings.{front_groups, groups, key_groups, GivesFor};
+ghost use Rattle.group_rollup.specs.Groupings.{front_groups, groups, GivesFor};
 
 use crate::GroupRefused;
 use crate::row_keys::list_columns;
-use aggregate_ops::{Groups, HashedKey, KeyPlaces, Seed, hashed_columns};
+use aggregate_ops::{Groups, column_groups};
 use apply_ast::Path;
 use apply_meaning::Row;
 use edm_data::Data;
-use par_stages::{Gate, pieces};
+use edm_values::Seen;
+use par_stages::Gate;
 use row_values::RowList;
 use std::alloc::{AllocError, Global};
 use std::thread::Threads;
-
-/// The groups of key lists of this many values.
-fn groups_of<'a, 'v, R: Threads + Sync, G: Gate>(
-    rt: &R,
-    alloc: Global,
-    keys: &[HashedKey<'a, 'v>],
-    width: usize,
-    workers: u32,
-    gate: &G,
-) -> Result<Groups, AllocError>
-    requires some { 0 < workers }
-    requires few { workers ≤ 64 }
-    requires width { All (IsWide width) keys.now }
-    ensures { IfOk result (λ found. found ≡ key_groups keys.now) }
-{
-    let empty = KeyPlaces::new(alloc, width, Seed::of(keys));
-    pieces(rt, keys, workers, gate, &empty)?.into_groups()
-}
 
 /// The groups of the instances of a list by key paths, in order of first appearance, each with their places. The keys are worked
 /// out once an instance; `workers` says into how many pieces the list may be cut.
@@ -53,9 +36,7 @@ pub fn group_list<R: Threads + Sync, G: Gate>(
 {
     let columns = list_columns(rt, alloc, &store, &keys, &list, workers)?;
     let seen = columns.as_slice();
-    let lists = hashed_columns(alloc, seen, list.len())?;
-    let lists = lists.as_slice();
-    Ok(groups_of(rt, alloc, lists, keys.len(), workers, gate)?)
+    Ok(column_groups(rt, alloc, seen, list.len(), workers, gate)?)
 }
 
 /// The groups of rows by key paths, as `group_list` has them.
@@ -99,27 +80,28 @@ fn least_front(keys: &[Path], with_all: bool) -> usize
     if with_all { keys.len() } else { keys.len() + 1 }
 }
 
-/// The groups of key lists of `width` values by their first values, for each number of these from all to `least`. The key lists
-/// are grouped once, by all their values, and each coarser level is made from these groups.
-fn levels_from<'a, 'v, R: Threads + Sync, G: Gate>(
+/// The groups of the key lists that stand in columns by their first values, for each number of these from all to `least`. The key
+/// lists are grouped once, by all their values, and each coarser level is made from these groups.
+fn levels_from<R: Threads + Sync, G: Gate>(
     rt: &R,
     alloc: Global,
-    lists: &[HashedKey<'a, 'v>],
+    columns: &[Vec<Seen<'_>>],
+    rows: usize,
     least: usize,
-    width: usize,
     workers: u32,
     gate: &G,
 ) -> Result<Vec<Groups>, AllocError>
     requires some { 0 < workers }
     requires few { workers ≤ 64 }
-    requires width { All (IsWide width) lists.now }
-    ensures { IfOk result (λ found. found.items ≡ front_groups least (width + 1 - least) lists.now) }
+    requires long { All (λ c. rows ≤ length c.items) columns.now }
+    ensures { IfOk result (λ found. found.items ≡ front_groups least (length columns.now + 1 - least) (key_rows columns.now rows)) }
 {
+    let width = columns.len();
     if width < least {
         return Ok(Vec::new(alloc));
     }
-    let finest = groups_of(rt, alloc, lists, width, workers, gate)?;
-    let mut coarser = finest.by_fronts(alloc, least, width, lists.len())?;
+    let finest = column_groups(rt, alloc, columns, rows, workers, gate)?;
+    let mut coarser = finest.by_fronts(alloc, least, width, rows)?;
     let mut found = Vec::new(alloc);
     found.push(finest)?;
     found.append(&mut coarser)?;
@@ -144,9 +126,7 @@ fn levels_by<R: Threads + Sync, G: Gate>(
 {
     let columns = list_columns(rt, alloc, &store, &paths, &list, workers)?;
     let seen = columns.as_slice();
-    let lists = hashed_columns(alloc, seen, list.len())?;
-    let lists = lists.as_slice();
-    Ok(levels_from(rt, alloc, lists, least, paths.len(), workers, gate)?)
+    Ok(levels_from(rt, alloc, seen, list.len(), least, workers, gate)?)
 }
 
 /// The groups of the instances of a list by each level of a rollup, the finest first: by the keys with the first of these paths,
