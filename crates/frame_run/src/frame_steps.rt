@@ -59,8 +59,10 @@ pub(crate) fn frame_selected<R: Threads + Sync, G: Gate>(
 {
     selection_ready(context, root, top, &frame);
     let store = context.store();
-    let values = frame.values(context.rt(), alloc, store, &top.expr, context.workers())?;
-    let places = selected_places(alloc, top, values.as_slice())?;
+    let workers = context.workers();
+    let values = frame.seen_values(context.rt(), alloc, store, &top.expr, workers)?;
+    let places = selected_places(alloc, context, top, values.as_slice())?;
+    drop(values);
     Ok(frame.at(alloc, places.as_slice())?)
 }
 

@@ -108,11 +108,6 @@ impl<'a, R: Threads + Sync, G: Gate> Context<'a, R, G> {
         }
     }
 
-    /// Whether there is one worker.
-    pub(crate) fn is_alone(&self) -> bool {
-        self.workers == 1
-    }
-
     /// How many of the workers a list of n items is worth. Of two workers both are asked for, however short the list, so that
     /// it can be seen that a fold is cut; more of them leave a short list to one, since a thread costs more than it saves there.
     fn hands(&self, n: usize) -> u32

@@ -1,5 +1,5 @@
 //! Selections from the top and the bottom: rows taken by the values of an expression. No row is made.
-ghost use Rattle.std.specs.Prelude.{◌≡◌, ℕ, Bool, List, Some, IfOk, IsTrue, filter, length, map, nat_lt};
+ghost use Rattle.std.specs.Prelude.{◌≡◌, ◌<◌, ℕ, Bool, List, Some, IfOk, IsTrue, filter, length, map, nat_lt};
 ghost use Rattle.std.specs.List.{list_all};
 ghost use Rattle.edm_values.specs.Lists.{at_places, places as all_places};
 ghost use Rattle.edm_values.specs.Values.{number_part, seen_value, top_places};
@@ -12,13 +12,13 @@ ghost use Rattle.row_orders.specs.Ranks.{GivesNumbers};
 
 use crate::contexts::Context;
 use apply_ast::{Limit, Number, TopStep};
-use apply_meaning::{Row, RunRefused, seen_values};
-use edm_values::{Seen, Value};
+use apply_meaning::{Row, RunRefused};
+use edm_values::Seen;
 use par_stages::Gate;
-use row_values::{PlacedRows, RowList};
+use row_values::RowList;
 use std::alloc::{AllocError, Global};
 use std::thread::Threads;
-use top_family::{bottom_count, bottom_percent, bottom_sum, top_count, top_percent, top_sum};
+use top_family::{bottom_percent, bottom_sum, count_in_parts, top_percent, top_sum};
 
 /// The number of a literal, as a value.
 fn number_value(number: &Number) -> Seen<'_>
@@ -30,19 +30,22 @@ fn number_value(number: &Number) -> Seen<'_>
     }
 }
 
-/// The places that a selection takes, in ascending order.
-fn taken_places(
+/// The places that a selection takes, in ascending order. Where there are several workers, they find the first values together.
+fn taken_places<R: Threads + Sync>(
+    rt: &R,
     alloc: Global,
     limit: &Limit,
     bottom: bool,
     values: &[Seen<'_>],
+    workers: u32,
 ) -> Result<Vec<usize>, RunRefused>
-    requires { LimitReady (limit_of limit.now) (map seen_value values.now) }
+    requires some { 0 < workers }
+    requires limit { LimitReady (limit_of limit.now) (map seen_value values.now) }
     ensures { let vs = map seen_value values.now in GivesNumbers result (top_places (reaches (limit_of limit.now) vs) bottom vs) }
 {
     match (limit, bottom) {
-        (Limit::Count(n), false) => top_count(alloc, values, *n),
-        (Limit::Count(n), true) => bottom_count(alloc, values, *n),
+        (Limit::Count(n), false) => count_in_parts(rt, alloc, values, *n, false, workers),
+        (Limit::Count(n), true) => count_in_parts(rt, alloc, values, *n, true, workers),
         (Limit::Sum(number), false) => top_sum(alloc, values, number_value(number)),
         (Limit::Sum(number), true) => bottom_sum(alloc, values, number_value(number)),
         (Limit::Percent(p), false) => top_percent(alloc, values, *p),
@@ -69,29 +72,19 @@ pub(crate) fn rows_at(
     Ok(kept)
 }
 
-/// The values, as they are seen.
-fn seen_all(alloc: Global, values: &[Value]) -> Result<Vec<Seen<'_>>, AllocError>
-    ensures { IfOk result (λ seen. map seen_value seen.items ≡ values.now) }
-{
-    let mut seen = Vec::with_capacity(alloc, values.len())?;
-    for value in values {
-        seen.push(value.seen())?;
-    }
-    Ok(seen)
-}
-
 /// The places of the values that a selection takes, in ascending order.
-pub fn selected_places(
+pub fn selected_places<R: Threads + Sync, G: Gate>(
     alloc: Global,
+    context: &Context<'_, R, G>,
     top: &TopStep,
-    values: &[Value],
+    values: &[Seen<'_>],
 ) -> Result<Vec<usize>, RunRefused>
-    requires limit { LimitReady (top_of top.now).limit values.now }
-    ensures value { let t = top_of top.now in GivesNumbers result (top_places (reaches t.limit values.now) t.bottom values.now) }
+    requires limit { LimitReady (top_of top.now).limit (map seen_value values.now) }
+    ensures value { let t = top_of top.now in let vs = map seen_value values.now in GivesNumbers result (top_places (reaches t.limit vs) t.bottom vs) }
     ensures within { IfOk result (λ places. IsTrue (list_all (λ k. nat_lt k (length values.now)) places.items)) }
 {
-    let seen = seen_all(alloc, values)?;
-    taken_places(alloc, &top.limit, top.bottom, seen.as_slice())
+    let workers = context.workers();
+    taken_places(context.rt(), alloc, &top.limit, top.bottom, values, workers)
 }
 
 /// The places of the rows that a selection takes, in ascending order. Where there are several workers, they work out the values.
@@ -105,14 +98,10 @@ fn places_of<R: Threads + Sync, G: Gate>(
     requires limit { let t = top_of top.now in LimitReady t.limit (values context.now.world t.expr rows.now) }
     ensures { let t = top_of top.now in let vs = values context.now.world t.expr rows.now in GivesNumbers result (top_places (reaches t.limit vs) t.bottom vs) }
 {
-    if context.is_alone() {
-        let seen = seen_values(alloc, context.store(), &top.expr, rows)?;
-        return taken_places(alloc, &top.limit, top.bottom, seen.as_slice());
-    }
     let list = RowList::of_rows(rows);
-    let all = PlacedRows::all(&list);
-    let values = context.values(alloc, &top.expr, &all)?;
-    selected_places(alloc, top, values.as_slice())
+    let workers = context.workers();
+    let seen = list.seen_values(context.rt(), alloc, context.store(), &top.expr, workers)?;
+    selected_places(alloc, context, top, seen.as_slice())
 }
 
 /// The rows that a selection takes, in their order.
