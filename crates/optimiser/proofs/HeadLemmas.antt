@@ -9,14 +9,13 @@ use Rattle.edm_values.specs.Names.{Name, Path}
 use Rattle.edm_values.proofs.OptionFacts.{none_or, some_value}
 use Rattle.edm_model.specs.Models.{Model}
 use Rattle.apply_ast.specs.Trees.{HierName, Key, Keys, OptPipe, Pipe, Step}
-use Rattle.apply_ast.specs.Views.{inner_of, key_of, keys_from, keys_in, pipe_of, pipes_from, pipes_in, step_of}
+use Rattle.apply_ast.specs.Views.{inner_of, key_of, keys_from, keys_in, pipe_of, pipes_from, step_of}
 use Rattle.apply_ast.specs.declared.steps.KeyItem as of_key
 use Rattle.apply_ast.specs.declared.steps.KeyList as of_keys
 use Rattle.apply_ast.specs.declared.steps.Pipe as of_pipe
-use Rattle.apply_ast.specs.declared.steps.PipeList as of_pipes
 use Rattle.apply_ast.specs.declared.steps.Step as of_step
 use Rattle.apply_ast.specs.declared.steps.Step.TheVariants as step
-use Rattle.apply_ast.proofs.ViewEquations.{keys_of-is, pipes_of-is, step_of-Concat, step_of-GroupBy}
+use Rattle.apply_ast.proofs.ViewEquations.{keys_of-is, step_of-GroupBy}
 use Rattle.context_typing.specs.Shapes.{Shape}
 use Rattle.context_typing.specs.Typing.{Customs, group_keys, has_kind, is_nodes, is_sure, rollup_part, rollup_paths, steps_shape}
 use Rattle.rewrite_laws.specs.Rewrites.{branches, grouping_quiet, node_shape, on_node, over, paths}
@@ -25,10 +24,6 @@ use Rattle.optimiser.specs.HeadForms.{branches_enter, grouping_passes, nodes_ent
 use Rattle.optimiser.specs.HeldSegments.{into_branches, into_nodes}
 use Rattle.walk_laws.specs.Walks.{Rules, Test, chooses_nodes, is_late, step_enters, step_lets}
 use Rattle.optimiser.proofs.TypedInside.{nodes-key, nodes-part, nodes-shape}
-
-and-false : (b : Bool) → (b && false) ≡ false
-and-false true = refl
-and-false false = refl
 
 module _ {X Y : Type 0} (t : Y → Bool) (f : X → Option Y) where
   -- a test of all values that were given
@@ -44,27 +39,11 @@ module _ {X Y : Type 0} (t : Y → Bool) (f : X → Option Y) where
       go rest None e = none_or ys (sym e)
       go rest (Some y) e = more rest y (all_some (map f xs)) refl e
 
-  -- where one gives nothing
-  one-missing : (xs : List X) → None ≡ all_some (map f xs) → list_all (λ x. is_some_and t (f x)) xs ≡ false
-  one-missing [] e = none_or [] e
-  one-missing (x ∷ xs) e = go (λ r. one-missing xs r) (f x) e
-    where
-      more : (None ≡ all_some (map f xs) → list_all (λ x. is_some_and t (f x)) xs ≡ false) → (y : Y) (r : Option (List Y)) → r ≡ all_some (map f xs) → None ≡ option_map (λ zs. y ∷ zs) r → (t y && list_all (λ x. is_some_and t (f x)) xs) ≡ false
-      more rest y None r e = ap (λ b. t y && b) (rest r) ∙ and-false (t y)
-      more rest y (Some zs) r e = none_or (y ∷ zs) e
-
-      go : (None ≡ all_some (map f xs) → list_all (λ x. is_some_and t (f x)) xs ≡ false) → (o : Option Y) → None ≡ all_some (o ∷ map f xs) → (is_some_and t o && list_all (λ x. is_some_and t (f x)) xs) ≡ false
-      go rest None e = refl
-      go rest (Some y) e = more rest y (all_some (map f xs)) refl e
-
 module _ (m : Model) (c : Customs) where
   -- ---- branches
 
   pub branches-given : (S : Shape) (ps : List Pipe) (Ss : List Shape) → Some Ss ≡ all_some (map (steps_shape m c S) ps) → (λ (t : Test). into_branches m Ss t.expr) ≡ branches_enter m c S ps
   branches-given S ps Ss e = λ i t. then_some (all-given (λ Z. has_kind is_boolean_kind m Z t.expr) (steps_shape m c S) ps Ss e i) t.expr
-
-  pub branches-missing : (S : Shape) (ps : List Pipe) → None ≡ all_some (map (steps_shape m c S) ps) → (λ (t : Test). None) ≡ branches_enter m c S ps
-  branches-missing S ps e = λ i t. then_some (sym (one-missing (λ Z. has_kind is_boolean_kind m Z t.expr) (steps_shape m c S) ps e) i) t.expr
 
   -- ---- groupings
 
@@ -107,9 +86,6 @@ grouping-closed r ks h = λ i t. sym (ap (λ b. is_late r || not b) (nodes-key k
 
 pub grouped : (s : of_step.Step) (ks : of_keys.KeyList) (i : Option of_pipe.Pipe) (l : List of_key.KeyItem) → s ≡ step.GroupBy ks i → l ≡ keys_in ks → step_of s ≡ Step.GroupBy (keys_from (map key_of l)) (inner_of (option_map pipe_of i))
 grouped s ks i l e f = ap step_of e ∙ step_of-GroupBy ks i ∙ ap (λ K. Step.GroupBy K (inner_of (option_map pipe_of i))) (keys_of-is ks ∙ ap (λ l. keys_from (map key_of l)) (sym f))
-
-pub branched : (s : of_step.Step) (ps : of_pipes.PipeList) (l : List of_pipe.Pipe) → s ≡ step.Concat ps → l ≡ pipes_in ps → step_of s ≡ Step.Concat (pipes_from (map pipe_of l))
-branched s ps l e f = ap step_of e ∙ step_of-Concat ps ∙ ap Step.Concat (pipes_of-is ps ∙ ap (λ l. pipes_from (map pipe_of l)) (sym f))
 
 branches-from : (ps : List Pipe) → branches (pipes_from ps) ≡ ps
 branches-from [] = refl

@@ -5,6 +5,7 @@ mod RestLemmas
 pub mod HeadLemmas
 pub mod HeldLists
 pub mod IdleLemmas
+pub mod KnownLemmas
 pub mod PlanMeaning
 pub mod SteppingLemmas
 pub mod TypedInside

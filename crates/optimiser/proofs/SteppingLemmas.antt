@@ -17,7 +17,9 @@ use Rattle.context_typing.specs.ShapeTypes.{has_types}
 use Rattle.context_typing.specs.Typing.{Customs, after, step_shape, steps_shape}
 use Rattle.context_typing.proofs.TypingEquations.{steps_shape-Then}
 use Rattle.rewrite_forms.proofs.CutLists.{dropped-next}
-use Rattle.optimiser.specs.HeldSegments.{Frame, are_right, are_there, enters, is_right, is_there, made, outline, passes, segment_of, segments_of, test_of}
+use Rattle.optimiser.specs.HeldSegments.{Frame, are_right, are_there, enters, is_known_at, is_right, is_there, made, outline, passes, segment_of, segments_of, test_of}
+use Rattle.optimiser.specs.KnownSteps.{is_known}
+use Rattle.optimiser.specs.declared.known.Known.{Known}
 use Rattle.optimiser.specs.IdleForms.{before_aggregate, frame, is_put, joined_last, segment, stepped}
 use Rattle.walk_laws.specs.Walks as spec
 use Rattle.optimiser.specs.declared.held.Head.TheVariants as head
@@ -38,13 +40,13 @@ new-segment r m c S S' s ss at g is same place lets through into none bare = λ 
 pub more-right : (m : Model) (gs : List Segment) (g : Segment) → are_right m gs ≡ true → is_right m g.entry ≡ true → are_right m (gs ++ g ∷ []) ≡ true
 more-right m gs g all one = ap (list_all (λ x. is_right m x.1)) (map-append outline gs (g ∷ [])) ∙ all-append (λ x. is_right m x.1) (map outline gs) (outline g ∷ []) all (and_from _ _ one refl)
 
-pub more-there : (m : Model) (c : Customs) (ss : List Step) (gs : List Segment) (g : Segment) → are_there m c ss gs ≡ true → is_there m c ss g.head ≡ true → are_there m c ss (gs ++ g ∷ []) ≡ true
-more-there m c ss gs g all one = ap (list_all (λ x. is_there m c ss x.0)) (map-append outline gs (g ∷ [])) ∙ all-append (λ x. is_there m c ss x.0) (map outline gs) (outline g ∷ []) all (and_from _ _ one refl)
+pub more-there : (m : Model) (c : Customs) (ss : List Step) (ks : List Known) (gs : List Segment) (g : Segment) → are_there m c ss ks gs ≡ true → is_there m c ss ks g.head ≡ true → are_there m c ss ks (gs ++ g ∷ []) ≡ true
+more-there m c ss ks gs g all one = ap (list_all (λ x. is_there m c ss ks x.0)) (map-append outline gs (g ∷ [])) ∙ all-append (λ x. is_there m c ss ks x.0) (map outline gs) (outline g ∷ []) all (and_from _ _ one refl)
 
 -- a typed step is at its place
-pub step-there : (m : Model) (c : Customs) (ss : List Step) (at : ℕ) (S S' : Shape) (s : Step) → S' ≡ S → has_types m S ≡ true → slice_get ss at ≡ Some s → is_some (step_shape m c S s) ≡ true → is_there m c ss (head.Written at S') ≡ true
-step-there m c ss at S S' s same types place typed =
-    (λ i. has_types m (same i) && is_some_and (λ x. is_some (step_shape m c (same i) x)) (place i)) ∙ and_from _ _ types typed
+pub step-there : (m : Model) (c : Customs) (ss : List Step) (ks : List Known) (at : ℕ) (S S' : Shape) (s : Step) (k : Known) → S' ≡ S → has_types m S ≡ true → slice_get ss at ≡ Some s → slice_get ks at ≡ Some k → is_some (step_shape m c S s) ≡ true → is_known m c S s k ≡ true → is_there m c ss ks (head.Written at S') ≡ true
+step-there m c ss ks at S S' s k same types place here typed known =
+    (λ i. has_types m (same i) && is_some_and (λ x. is_some (step_shape m c (same i) x) && is_known_at m c (same i) x (here i)) (place i)) ∙ and_from _ _ types (and_from _ _ typed known)
 
 -- the steps behind a typed one are typed
 pub rest-typed : {X : Type 0} (m : Model) (c : Customs) (f : X → Step) (S S' : Shape) (xs : List X) (i : ℕ) (d : X) → i < length xs → d ≡ get_or xs i d → is_some (steps_shape m c S (pipe (map f (drop i xs)))) ≡ true

@@ -1,5 +1,5 @@
 -- The steps of segments, one segment after the other.
-use Rattle.std.proofs.Common.{◌≡◌, refl, sym, ◌∙◌, ap, ℕ, ◌<◌, ◌==◌, true, false, List, [], ◌∷◌, ◌++◌, Option, Some, None, get_or, length, map}
+use Rattle.std.proofs.Common.{◌≡◌, refl, sym, ◌∙◌, ap, ℕ, ◌<◌, ◌==◌, true, false, ◌&&◌, List, [], ◌∷◌, ◌++◌, Option, Some, None, get_or, length, map}
 use Rattle.std.specs.Prelude.{option_map, option_to_list, is_some, slice_get}
 use Rattle.std.proofs.Math.Dec.{eqb-suc-zero}
 use Rattle.std.proofs.lemmas.Bool.{and_parts, true≢false}
@@ -13,14 +13,16 @@ use Rattle.apply_ast.specs.Views.{expr_of}
 use Rattle.context_typing.specs.Shapes.{Shape}
 use Rattle.context_typing.specs.ShapeTypes.{has_types}
 use Rattle.context_typing.specs.Typing.{Customs, step_shape}
-use Rattle.optimiser.specs.HeldSegments.{Frame, is_there, made, outline, segment_of, segments_of, test_of}
+use Rattle.optimiser.specs.HeldSegments.{Frame, is_known_at, is_there, made, outline, segment_of, segments_of, test_of}
 use Rattle.optimiser.specs.IdleForms.{frame}
 use Rattle.optimiser.specs.WalkForms.{of_filters}
 use Rattle.walk_laws.specs.Walks as spec
 use Rattle.rewrite_laws.specs.Rewrites.{pipe_or_identity}
 use Rattle.optimiser.specs.declared.held.Entry.{Entry}
 use Rattle.optimiser.specs.declared.held.Entry.TheVariants as entry
+use Rattle.optimiser.specs.KnownSteps.{is_known}
 use Rattle.optimiser.specs.declared.held.Head.{Head}
+use Rattle.optimiser.specs.declared.known.Known.{Known}
 use Rattle.optimiser.specs.declared.held.Head.TheVariants as head
 use Rattle.optimiser.specs.declared.held.Segment.{Segment}
 use Rattle.optimiser.specs.declared.held.Test.{Test}
@@ -41,19 +43,26 @@ pub written-head : (r : spec.Rules) (m : Model) (c : Customs) (ss : List Step) (
 written-head r m c ss k S s s' es place e =
     ap Some (e ∙ ap (spec.settled_step r m c S s) (sym (append-nil es))) ∙ ap (option_map (λ s. spec.settled_step r m c S s (es ++ []))) (sym place)
 
--- a step that is at its place is typed there
-pub there-typed : (m : Model) (c : Customs) (ss : List Step) (k : ℕ) (S : Shape) (s : Step) → slice_get ss k ≡ Some s → is_there m c ss (head.Written k S) ≡ true → is_some (step_shape m c S s) ≡ true
-there-typed m c ss k S s place h = sym (ap (is_some_and (λ s. is_some (step_shape m c S s))) place) ∙ (and_parts (has_types m S) _ h).1
+-- a step that is at its place is typed there, and what is known of it is so
+module _ (m : Model) (c : Customs) (ss : List Step) (ks : List Known) (k : ℕ) (S : Shape) where
+  pub there-types : is_there m c ss ks (head.Written k S) ≡ true → has_types m S ≡ true
+  there-types h = (and_parts (has_types m S) _ h).0
 
-pub there-types : (m : Model) (c : Customs) (ss : List Step) (k : ℕ) (S : Shape) → is_there m c ss (head.Written k S) ≡ true → has_types m S ≡ true
-there-types m c ss k S h = (and_parts (has_types m S) _ h).0
+  both : (s : Step) → slice_get ss k ≡ Some s → is_there m c ss ks (head.Written k S) ≡ true → (is_some (step_shape m c S s) && is_known_at m c S s (slice_get ks k)) ≡ true
+  both s place h = sym (ap (is_some_and (λ s. is_some (step_shape m c S s) && is_known_at m c S s (slice_get ks k))) place) ∙ (and_parts (has_types m S) _ h).1
 
-pub there-within : (m : Model) (c : Customs) (ss : List Step) (k : ℕ) (S : Shape) → is_there m c ss (head.Written k S) ≡ true → k < length ss
-there-within m c ss k S h = go (slice_get ss k) refl (and_parts (has_types m S) _ h).1
-  where
-    go : (o : Option Step) → slice_get ss k ≡ o → is_some_and (λ s. is_some (step_shape m c S s)) o ≡ true → k < length ss
-    go None e t = cc
-    go (Some s) e t = slice_get_within ss k s e
+  pub there-typed : (s : Step) → slice_get ss k ≡ Some s → is_there m c ss ks (head.Written k S) ≡ true → is_some (step_shape m c S s) ≡ true
+  there-typed s place h = (and_parts (is_some (step_shape m c S s)) _ (both s place h)).0
+
+  pub there-known : (s : Step) (x : Known) → slice_get ss k ≡ Some s → slice_get ks k ≡ Some x → is_there m c ss ks (head.Written k S) ≡ true → is_known m c S s x ≡ true
+  there-known s x place here h = sym (ap (is_known_at m c S s) here) ∙ (and_parts (is_some (step_shape m c S s)) _ (both s place h)).1
+
+  pub known-within : (s : Step) → slice_get ss k ≡ Some s → is_there m c ss ks (head.Written k S) ≡ true → k < length ks
+  known-within s place h = go (slice_get ks k) refl (and_parts (is_some (step_shape m c S s)) _ (both s place h)).1
+    where
+      go : (o : Option Known) → slice_get ks k ≡ o → is_known_at m c S s o ≡ true → k < length ks
+      go None e t = cc
+      go (Some x) e t = slice_get_within ks k x e
 
 -- ---- filters alone
 

@@ -14,6 +14,8 @@ use Rattle.context_typing.specs.ShapeTypes.{has_types}
 use Rattle.context_typing.specs.Typing.{Customs, has_kind, is_sure, step_shape}
 use Rattle.rewrite_laws.specs.Rewrites.{is_among, on_node, over, paths, with_paths}
 use Rattle.walk_laws.specs.Walks as spec
+use Rattle.optimiser.specs.KnownSteps.{is_known}
+use Rattle.optimiser.specs.declared.known.Known.{Known}
 use Rattle.optimiser.specs.declared.held.Entry.{Entry}
 use Rattle.optimiser.specs.declared.held.Entry.TheVariants as entry
 use Rattle.optimiser.specs.declared.held.Head.{Head}
@@ -51,13 +53,13 @@ into_nodes m ps S k e = then_some (is_nonempty (paths e) && over ps e && has_kin
 -- as what a filter goes into a step
 abbrev pub enters : Model → Entry → spec.Test → Option Expr
 enters m entry.Closed t = None
-enters m (entry.Branches Ss) t = into_branches m Ss.items t.expr
+enters m (entry.Branches Ss) t = into_branches m Ss.now t.expr
 enters m (entry.Related a) t = into_related a.now t.expr
 enters m (entry.Nodes ps S k) t = if t.sure then into_nodes m ps.items S k t.expr else None
 
 -- the shapes of an entry are of the model
 abbrev pub is_right : Model → Entry → Bool
-is_right m (entry.Branches Ss) = list_all (has_types m) Ss.items
+is_right m (entry.Branches Ss) = list_all (has_types m) Ss.now
 is_right m (entry.Nodes ps S k) = has_types m S
 is_right m e = true
 
@@ -98,14 +100,18 @@ IsKept gs gs' = (p : Head × Entry → Bool) → IsTrue (list_all p (map outline
 abbrev pub are_right : Model → List Segment → Bool
 are_right m gs = list_all (λ x. is_right m x.1) (map outline gs)
 
--- a step is at its place, and typed there on a shape of the model
-abbrev pub is_there : Model → Customs → List Step → Head → Bool
-is_there m c ss (head.Written k S) = has_types m S && is_some_and (λ s. is_some (step_shape m c S s)) (slice_get ss k)
-is_there m c ss h = true
+-- what is known of the step at a place is so on a shape
+abbrev pub is_known_at : Model → Customs → Shape → Step → Option Known → Bool
+is_known_at m c S s k = is_some_and (is_known m c S s) k
+
+-- a step is at its place, and typed there on a shape of the model; what is known of the steps is so of it
+abbrev pub is_there : Model → Customs → List Step → List Known → Head → Bool
+is_there m c ss ks (head.Written k S) = has_types m S && is_some_and (λ s. is_some (step_shape m c S s) && is_known_at m c S s (slice_get ks k)) (slice_get ss k)
+is_there m c ss ks h = true
 
 -- all steps are at their places
-abbrev pub are_there : Model → Customs → List Step → List Segment → Bool
-are_there m c ss gs = list_all (λ x. is_there m c ss x.0) (map outline gs)
+abbrev pub are_there : Model → Customs → List Step → List Known → List Segment → Bool
+are_there m c ss ks gs = list_all (λ x. is_there m c ss ks x.0) (map outline gs)
 
 -- a filter passes the segments from a place on
 abbrev pub IsPast : Model → Frame → spec.Test → List Segment → ℕ → Type 0

@@ -11,6 +11,7 @@ pub use Rattle.walk_laws.specs.Walks
 pub mod HeadForms
 pub mod HeldSegments
 pub mod IdleForms
+pub mod KnownSteps
 pub mod Plans
 pub mod RestForms
 pub mod WalkForms

@@ -1,5 +1,5 @@
 //! Segments at the end of a walk, and the steps of segments.
-ghost use Rattle.std.specs.Prelude.{◌≡◌, ◌++◌, IfOk, IsTrue, OnOk, is_some, map, option_map, option_to_list};
+ghost use Rattle.std.specs.Prelude.{◌≡◌, ◌++◌, IfOk, IsTrue, List, OnOk, is_some, map, option_map, option_to_list};
 ghost use Rattle.std.specs.Bool.{then_some};
 ghost use Rattle.edm_model.specs.Models as seen;
 ghost use Rattle.edm_model.specs.Soundness.{IsSound};
@@ -12,12 +12,15 @@ ghost use Rattle.context_typing.specs.Typing as typing;
 ghost use Rattle.rewrite_laws.specs.Rewrites as rule;
 ghost use Rattle.optimiser.specs.HeldSegments as held;
 ghost use Rattle.optimiser.specs.IdleForms as idle;
+ghost use Rattle.optimiser.specs.KnownSteps.{are_known};
+ghost use Rattle.optimiser.specs.declared.known.Known.{Known};
 ghost use Rattle.optimiser.specs.WalkForms as form;
 ghost use Rattle.optimiser.specs.WalkRules.{rules_named};
 ghost use Rattle.walk_laws.specs.Walks as spec;
 
 use crate::held::{Segment, Test};
 use crate::idle::drop_idle;
+use crate::known::Known;
 use crate::putting::put_filters;
 use crate::rules::{Rules, is_late};
 use crate::stepping::{front, put_steps};
@@ -86,9 +89,8 @@ pub(crate) fn put_end<'a>(
 ) -> Result<(), AllocError>
     requires types { IsTrue (has_types m.now shape.now) }
     requires right { IsTrue (held.are_right m.now segments.old.items) }
-    requires there { IsTrue (held.are_there m.now (readings c.now) (map step_of steps.now) segments.old.items) }
     ensures value { OnOk result (held.segments_of m.now (idle.frame (rules_named rules) (readings c.now) (map step_of steps.now)) segments.new.items ≡ form.ended (option_map (λ p. p.now) climbed.entry) m.now shape.now (map expr_of entered.now) (held.segments_of m.now (idle.frame (rules_named rules) (readings c.now) (map step_of steps.now)) segments.old.items)) }
-    ensures there { OnOk result (IsTrue (held.are_there m.now (readings c.now) (map step_of steps.now) segments.new.items)) }
+    ensures there { (ks : List Known) → IsTrue (held.are_there m.now (readings c.now) (map step_of steps.now) ks segments.old.items) → OnOk result (IsTrue (held.are_there m.now (readings c.now) (map step_of steps.now) ks segments.new.items)) }
 {
     put_filters(segments, alloc, m, shape, entered)?;
     drop_before(segments, steps, climbed);
@@ -103,6 +105,7 @@ pub(crate) fn put_pipe<'a>(
     c: &Customs,
     rules: Rules,
     steps: &'a [Step],
+    known: &'a [Known],
     start: &Shape,
     entered: &[Expr],
     climbed: Option<&Path>,
@@ -111,10 +114,11 @@ pub(crate) fn put_pipe<'a>(
     requires customs { AreTypedOver m.now c.now }
     requires sound { IsSound m.now }
     requires typed { IsTrue (is_some (typing.steps_shape m.now (readings c.now) start.now (tree.pipe (map step_of steps.now)))) }
+    requires known { IsTrue (are_known m.now (readings c.now) start.now (tree.pipe (map step_of steps.now)) known.now) }
     ensures value { IfOk result (λ v. held.segments_of m.now (idle.frame (rules_named rules) (readings c.now) (map step_of steps.now)) v.items ≡ form.put_walk (rules_named rules) m.now (readings c.now) start.now (tree.pipe (map step_of steps.now)) (map expr_of entered.now) (option_map (λ p. p.now) climbed.entry)) }
-    ensures there { IfOk result (λ v. IsTrue (held.are_there m.now (readings c.now) (map step_of steps.now) v.items)) }
+    ensures there { IfOk result (λ v. IsTrue (held.are_there m.now (readings c.now) (map step_of steps.now) known.now v.items)) }
 {
-    let (mut segments, shape) = put_steps(alloc, m, c, rules, steps, start)?;
+    let (mut segments, shape) = put_steps(alloc, m, c, rules, steps, known, start)?;
     put_end(
         &mut segments,
         alloc,

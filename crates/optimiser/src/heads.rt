@@ -1,7 +1,7 @@
 //! Which filters pass a step, and which go into it.
-ghost use Rattle.std.specs.Prelude.{◌≡◌, ◌&&◌, ◌||◌, not, IfOk, IfSome, IsTrue, is_some, map, option_map};
+ghost use Rattle.std.specs.Prelude.{◌≡◌, ◌&&◌, ◌||◌, not, IfOk, IfSome, IsTrue, is_some, map};
 ghost use Rattle.edm_model.specs.Soundness.{IsSound};
-ghost use Rattle.apply_ast.specs.Views.{inner_of, join_of, key_of, keys_from, pipe_of, pipes_of, step_of};
+ghost use Rattle.apply_ast.specs.Views.{join_of, key_of, keys_from, step_of};
 ghost use Rattle.context_typing.specs.Readings.{AreTypedOver, readings};
 ghost use Rattle.context_typing.specs.ShapeTypes.{has_types};
 ghost use Rattle.context_typing.specs.Typing as typing;
@@ -10,17 +10,17 @@ ghost use Rattle.rewrite_forms.specs.GroupForms as groups;
 ghost use Rattle.edm_model.specs.Models as seen;
 ghost use Rattle.context_typing.specs.Shapes as shapes;
 ghost use Rattle.optimiser.specs.HeadForms as form;
+ghost use Rattle.optimiser.specs.KnownSteps as known;
 ghost use Rattle.optimiser.specs.WalkRules.{rules_named};
 ghost use Rattle.walk_laws.specs.Walks as spec;
 
 use crate::held::{Entry, Passage};
 use crate::rules::{Rules, is_late};
-use apply_ast::{JoinStep, KeyItem, KeyList, Pipe, PipeList, Step};
+use apply_ast::{JoinStep, KeyItem, KeyList, PipeList, Step};
 use context_typing::{Customs, Shape, is_risky, join_target, set_shape};
 use edm_model::Model;
 use rewrite_forms::{
-    branch_shapes, chosen_nodes, grouping_quiet, in_every_row, inner_quiet, order_sure,
-    recursive_key,
+    chosen_nodes, grouping_quiet, in_every_row, inner_quiet, order_sure, recursive_key,
 };
 use std::alloc::{AllocError, Global};
 
@@ -201,26 +201,6 @@ fn nodes_entry<'a>(
     }
 }
 
-/// Which filters go into branches.
-fn branches_entry<'a>(
-    alloc: Global,
-    m: &Model,
-    c: &Customs,
-    shape: &Shape,
-    branches: &[Pipe],
-) -> Result<Entry<'a>, AllocError>
-    requires types { IsTrue (has_types m.now shape.now) }
-    requires customs { AreTypedOver m.now c.now }
-    requires sound { IsSound m.now }
-    ensures value { IfOk result (λ e. held.enters m.now e ≡ form.branches_enter m.now (readings c.now) shape.now (map pipe_of branches.now)) }
-    ensures right { IfOk result (λ e. IsTrue (held.is_right m.now e)) }
-{
-    match branch_shapes(alloc, m, c, shape, branches)? {
-        Some(shapes) => Ok(Entry::Branches(shapes)),
-        None => Ok(Entry::Closed),
-    }
-}
-
 /// Which filters go into a join.
 fn join_entry<'a>(rules: Rules, join: &'a JoinStep) -> Entry<'a>
     ensures value { (m : seen.Model) (c : typing.Customs) (S : shapes.Shape) → held.enters m result ≡ spec.step_enters (rules_named rules) m c S (join_of join.now) }
@@ -233,7 +213,7 @@ fn join_entry<'a>(rules: Rules, join: &'a JoinStep) -> Entry<'a>
     }
 }
 
-/// Which filters go into a step. It is passed whether it lets filters pass.
+/// Which filters go into a step. It is passed whether it lets filters pass, and the shapes at the ends of its branches.
 pub(crate) fn entry_of<'a>(
     alloc: Global,
     m: &Model,
@@ -241,12 +221,14 @@ pub(crate) fn entry_of<'a>(
     rules: Rules,
     shape: &Shape,
     step: &'a Step,
+    ends: &'a [Shape],
     lets: bool,
 ) -> Result<Entry<'a>, AllocError>
     requires types { IsTrue (has_types m.now shape.now) }
     requires customs { AreTypedOver m.now c.now }
     requires sound { IsSound m.now }
     requires typed { IsTrue (is_some (typing.step_shape m.now (readings c.now) shape.now (step_of step.now))) }
+    requires ends { IsTrue (known.ends_known m.now (readings c.now) shape.now (step_of step.now) ends.now) }
     requires judged { lets ≡ spec.step_lets m.now (readings c.now) shape.now (step_of step.now) }
     ensures value { IfOk result (λ e. held.enters m.now e ≡ spec.step_enters (rules_named rules) m.now (readings c.now) shape.now (step_of step.now)) }
     ensures right { IfOk result (λ e. IsTrue (held.is_right m.now e)) }
@@ -256,7 +238,7 @@ pub(crate) fn entry_of<'a>(
             let may = may_choose(rules, lets);
             nodes_entry(alloc, m, c, keys.as_slice(), may)
         }
-        Step::Concat(branches) => branches_entry(alloc, m, c, shape, branches.as_slice()),
+        Step::Concat(_) => Ok(Entry::Branches(ends)),
         Step::Join(join) => Ok(join_entry(rules, join)),
         Step::Compute(_) => Ok(Entry::Closed),
         Step::OrderBy(_) => Ok(Entry::Closed),

@@ -45,7 +45,7 @@ pub(crate) enum Entry<'a> {
     /// None.
     Closed,
     /// Those that are a test on each of these shapes.
-    Branches(Vec<Shape>),
+    Branches(&'a [Shape]),
     /// Those whose paths all lie under this alias.
     Related(&'a Name),
     /// Sure ones over these paths that are a sure test on this shape, with this name in place of each path.
@@ -199,7 +199,7 @@ pub(crate) fn enters(
 {
     match entry {
         Entry::Closed => Ok(None),
-        Entry::Branches(shapes) => into_branches(alloc, m, shapes.as_slice(), &test.expr),
+        Entry::Branches(shapes) => into_branches(alloc, m, shapes, &test.expr),
         Entry::Related(alias) => into_related(alloc, alias, &test.expr),
         Entry::Nodes(paths, shape, key) => {
             if !test.sure {

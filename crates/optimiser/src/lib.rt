@@ -17,10 +17,12 @@
 //! rewrite by a later rule, and the walk again, until no rule applies. `next_rewrite` makes one rewrite, for comparisons.
 //!
 //! `plans` has the plan, `walking` the walk, `unbranched` whether a pipeline has a concatenation, `resting` whether its filters
-//! rest, `factoring` the steps that come out of branches, and `rewriting` the one rewrite. Below `walking`, `held` has the segments of a walk, a step with the filters behind it; `heads` says which filters
-//! pass a step and which go into it; `idle` drops steps that are idle at the end; `putting` puts filters, `stepping` the steps
-//! of a pipeline, and `ends` the filters that have gone to its end. `rules` has the rules of a walk, and `inside` laws of what
-//! is typed inside a typed step.
+//! rest, `factoring` the steps that come out of branches, and `rewriting` the one rewrite. Below `walking`, `known` has what is
+//! known of the steps of a pipeline before a walk comes to them: the shapes at the ends of branches, and those behind steps that
+//! hold pipelines, so that no branch is typed again. `held` has the segments of a walk, a step with the filters behind it;
+//! `heads` says which filters pass a step and which go into it; `idle` drops steps that are idle at the end; `putting` puts
+//! filters, `stepping` the steps of a pipeline, and `ends` the filters that have gone to its end. `rules` has the rules of a walk,
+//! and `inside` laws of what is typed and known inside a typed step.
 #![tactic(auto)]
 
 mod ends;
@@ -29,6 +31,7 @@ mod heads;
 mod held;
 mod idle;
 mod inside;
+mod known;
 mod plans;
 mod putting;
 mod resting;

@@ -8,6 +8,7 @@ ghost use Rattle.context_typing.specs.Readings.{AreTypedOver, readings};
 ghost use Rattle.context_typing.specs.Shapes as shapes;
 ghost use Rattle.context_typing.specs.ShapeTypes.{has_types};
 ghost use Rattle.context_typing.specs.Typing as typing;
+ghost use Rattle.optimiser.specs.KnownSteps as facts;
 ghost use Rattle.optimiser.specs.WalkForms as form;
 ghost use Rattle.optimiser.specs.WalkRules.{rules_named};
 ghost use Rattle.walk_laws.specs.Walks as spec;
@@ -15,9 +16,11 @@ ghost use Rattle.walk_laws.specs.Walks as spec;
 use crate::ends::{climbed_by, of_filters, pipe_or_identity, put_pipe, put_segment};
 use crate::held::{Head, Segment, Test};
 use crate::inside::{
-    branch_is_typed, branches_are_typed, grouping_is_typed, key_is_typed, nodes_are_typed,
-    place_is_there, related_is_typed, starts_are_typed, step_is_typed,
+    branch_is_among, branch_is_known, branch_is_typed, branches_are_known, branches_are_typed,
+    grouping_is_typed, key_is_typed, nodes_are_typed, place_is_there, related_is_typed,
+    starts_are_typed, step_is_typed,
 };
+use crate::known::{Known, known_pipe};
 use crate::rules::Rules;
 use apply_ast::{ClimbStep, Expr, JoinStep, KeyItem, KeyList, Path, Pipe, PipeList, Step};
 use context_typing::{Customs, Shape, join_target, nodes_of, set_shape};
@@ -61,8 +64,42 @@ fn walked_pipe(
     requires typed { IsTrue (is_some (typing.steps_shape m.now (readings c.now) start.now (pipe_of pipe.now))) }
     ensures { IfOk result (λ p. pipe_of p ≡ form.walked (rules_named rules) m.now (readings c.now) start.now (pipe_of pipe.now) (map expr_of entered.now) (option_map (λ p. p.now) climbed.entry)) }
 {
+    let (known, _end) = known_pipe(alloc, m, c, pipe, start)?;
+    walked_known(
+        alloc,
+        m,
+        c,
+        rules,
+        pipe,
+        start,
+        known.as_slice(),
+        entered,
+        climbed,
+    )
+}
+
+/// The same of a pipeline of whose steps something is known.
+#[cycle(walked)]
+fn walked_known(
+    alloc: Global,
+    m: &Model,
+    c: &Customs,
+    rules: Rules,
+    pipe: &Pipe,
+    start: &Shape,
+    known: &[Known],
+    entered: &[Expr],
+    climbed: Option<&Path>,
+) -> Result<Pipe, AllocError>
+    requires types { IsTrue (has_types m.now start.now) }
+    requires customs { AreTypedOver m.now c.now }
+    requires sound { IsSound m.now }
+    requires typed { IsTrue (is_some (typing.steps_shape m.now (readings c.now) start.now (pipe_of pipe.now))) }
+    requires known { IsTrue (facts.are_known m.now (readings c.now) start.now (pipe_of pipe.now) known.now) }
+    ensures { IfOk result (λ p. pipe_of p ≡ form.walked (rules_named rules) m.now (readings c.now) start.now (pipe_of pipe.now) (map expr_of entered.now) (option_map (λ p. p.now) climbed.entry)) }
+{
     let written = pipe.steps();
-    let segments = put_pipe(alloc, m, c, rules, written, start, entered, climbed)?;
+    let segments = put_pipe(alloc, m, c, rules, written, known, start, entered, climbed)?;
     let mut steps = Vec::new(alloc);
     for segment in segments {
         let (head, entered, tests) = taken_apart(segment);
@@ -76,10 +113,11 @@ fn walked_pipe(
                 continue;
             }
             Head::Written(at, shape) => {
-                place_is_there(m, c, written, at, &shape);
+                place_is_there(m, c, written, known, at, &shape);
                 let step = &written[at];
-                step_is_typed(m, c, written, at, &shape, step);
-                let made = settled_step(alloc, m, c, rules, step, &shape, entered.as_slice())?;
+                let of = &known[at];
+                step_is_typed(m, c, written, known, at, &shape, step, of);
+                let made = settled_step(alloc, m, c, rules, step, &shape, of, entered.as_slice())?;
                 put_segment(&mut steps, Some(made), tests)?;
                 continue;
             }
@@ -97,12 +135,14 @@ fn settled_step(
     rules: Rules,
     step: &Step,
     shape: &Shape,
+    of: &Known,
     entered: &[Expr],
 ) -> Result<Step, AllocError>
     requires types { IsTrue (has_types m.now shape.now) }
     requires customs { AreTypedOver m.now c.now }
     requires sound { IsSound m.now }
     requires typed { IsTrue (is_some (typing.step_shape m.now (readings c.now) shape.now (step_of step.now))) }
+    requires known { IsTrue (facts.is_known m.now (readings c.now) shape.now (step_of step.now) of.now) }
     ensures { IfOk result (λ s. step_of s ≡ spec.settled_step (rules_named rules) m.now (readings c.now) shape.now (step_of step.now) (map expr_of entered.now)) }
 {
     match step {
@@ -114,7 +154,11 @@ fn settled_step(
         }
         Step::Concat(branches) => {
             branches_are_typed(m, c, shape, step, branches);
-            Ok(Step::Concat(settled_branches(alloc, m, c, rules, branches, shape, entered)?))
+            branches_are_known(m, c, shape, step, branches, of);
+            let inside = of.inside.as_slice();
+            Ok(Step::Concat(settled_branches(
+                alloc, m, c, rules, branches, shape, inside, entered,
+            )?))
         }
         Step::Join(join) => Ok(Step::Join(settled_join(alloc, m, c, rules, join, shape, entered)?)),
         Step::Climb(climb) => Ok(Step::Climb(settled_climb(alloc, m, c, rules, climb, shape)?)),
@@ -188,19 +232,25 @@ fn settled_branches(
     rules: Rules,
     branches: &PipeList,
     shape: &Shape,
+    inside: &[Vec<Known>],
     entered: &[Expr],
 ) -> Result<PipeList, AllocError>
     requires types { IsTrue (has_types m.now shape.now) }
     requires customs { AreTypedOver m.now c.now }
     requires sound { IsSound m.now }
     requires typed { IsTrue (form.branches_typed m.now (readings c.now) shape.now (map pipe_of (pipes_in branches.now))) }
+    requires known { IsTrue (facts.branches_known m.now (readings c.now) shape.now (pipes_of branches.now) inside.now) }
     ensures { IfOk result (λ l. pipes_of l ≡ spec.settled_branches (rules_named rules) m.now (readings c.now) shape.now (pipes_of branches.now) (map expr_of entered.now)) }
 {
     let mut settled = Vec::new(alloc);
     let all = branches.as_slice();
     for (i, branch) in all.iter().enumerate() {
         branch_is_typed(m, c, shape, branches, all, i, branch);
-        settled.push(walked_pipe(alloc, m, c, rules, branch, shape, entered, None)?)?;
+        branch_is_among(m, c, shape, branches, all, inside, i);
+        let of = &inside[i];
+        branch_is_known(m, c, shape, branches, all, inside, i, branch, of);
+        let known = of.as_slice();
+        settled.push(walked_known(alloc, m, c, rules, branch, shape, known, entered, None)?)?;
     }
     Ok(PipeList::new(settled))
 }

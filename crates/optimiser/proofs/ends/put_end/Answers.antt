@@ -17,8 +17,8 @@ returns-clause-value c =
     c.drop_before.ensures.value m r cs ∙ ap (dropped (option_map (λ p. p.now) c.args.climbed)) (c.in_ok-put_filters.ensures.value (frame r cs (map step_of c.args.steps.now)))
 
 pub returns-clause-there : goal.returns-clause-there
-returns-clause-there c =
+returns-clause-there c ks there =
     let m = c.args.m.now in
     let cs = readings c.args.c.now in
     let ss = map step_of c.args.steps.now in
-    c.drop_before.ensures.kept (λ x. is_there m cs ss x.0) (ap (list_all (λ x. is_there m cs ss x.0)) c.in_ok-put_filters.ensures.kept ∙ c.requires.there)
+    c.drop_before.ensures.kept (λ x. is_there m cs ss ks x.0) (ap (list_all (λ x. is_there m cs ss ks x.0)) c.in_ok-put_filters.ensures.kept ∙ there)

@@ -1,16 +1,13 @@
-use Rattle.std.proofs.Common.{◌≤◌, sym, ◌∙◌, arith, length, map}
+use Rattle.std.proofs.Common.{◌<◌, ◌≤◌, sym, ◌∙◌, arith, length, map}
 use Rattle.apply_ast.specs.Views.{step_of}
 use Rattle.context_typing.specs.Readings.{readings}
 use Rattle.optimiser.specs.HeldSegments.{segments_of}
 use Rattle.optimiser.specs.IdleForms.{frame}
 use Rattle.optimiser.specs.WalkRules.{rules_named}
+use Rattle.optimiser.proofs.KnownLemmas.{next-known}
 use Rattle.optimiser.proofs.SteppingLemmas.{behind-next, placed, rest-typed}
 use Rattle.optimiser.proofs.WalkTrees.{put-all, put-next}
 use Rattle.optimiser.proofs.stepping.put_steps.Goals as goal
-
-pub put_step-requires-clause-typed : goal.put_step-requires-clause-typed
-put_step-requires-clause-typed c =
-    (rest-typed c.args.m.now (readings c.args.c.now) step_of c.loop-at.shape c.loop-at.shape c.args.steps.now c.loop-at.at c.index-steps-at.result c.loop-at-test.true c.index-steps-at.is c.loop-at.invariant.typed).0
 
 pub put_step-requires-clause-there : goal.put_step-requires-clause-there
 put_step-requires-clause-there c = placed step_of c.args.steps.now c.loop-at.at c.index-steps-at.result c.loop-at-test.true c.index-steps-at.is
@@ -25,13 +22,15 @@ loop-at-preserved c =
     let i = c.loop-at.at in
     let d = c.index-steps-at.result in
     let S = c.loop-at.shape in
-    let S' = c.in_ok-next.next in record {
+    let S' = c.in_ok-next.next in
+    let lt : i < length c.args.known.now = c.one_is_known.ensures in record {
       value = put-next r m cs step_of S S' xs i d (segments_of m w c.loop-at.segments.items) _ c.loop-at-test.true c.index-steps-at.is c.in_ok-put_step.ensures.value c.in_ok-next.ensures.value ∙ c.loop-at.invariant.value;
       shape = behind-next m cs step_of S S' xs i d c.loop-at-test.true c.index-steps-at.is c.in_ok-next.ensures.value ∙ c.loop-at.invariant.shape;
       types = c.in_ok-next.ensures.types;
       typed = (rest-typed m cs step_of S S' xs i d c.loop-at-test.true c.index-steps-at.is c.loop-at.invariant.typed).1 c.in_ok-next.ensures.value;
       right = c.in_ok-put_step.ensures.right;
-      there = c.in_ok-put_step.ensures.there c.loop-at.invariant.there;
+      there = c.in_ok-put_step.ensures.there c.args.known.now c.next_is_known.ensures.place c.loop-at.invariant.there;
+      known = (next-known m cs step_of S S' xs i d c.args.known.now c.index-known-at.result c.loop-at-test.true c.index-steps-at.is lt c.index-known-at.is c.loop-at.invariant.known).1 c.in_ok-next.ensures.value;
     }
 
 pub returns-clause-value : goal.returns-clause-value

@@ -7,6 +7,7 @@ use Rattle.context_typing.specs.ShapeTypes.{has_types}
 use Rattle.context_typing.specs.Typing.{steps_shape}
 use Rattle.optimiser.specs.HeldSegments.{are_right, are_there, segments_of}
 use Rattle.optimiser.specs.IdleForms.{frame}
+use Rattle.optimiser.specs.KnownSteps.{are_known}
 use Rattle.optimiser.specs.WalkRules.{rules_named}
 use Rattle.walk_laws.specs.Walks as spec
 use Rattle.optimiser.proofs.stepping.put_steps.Given as goal
@@ -19,5 +20,6 @@ invariant-loop-at l = record {
   types : has_types l.m l.shape ≡ true;
   typed : is_some (steps_shape l.m (readings l.c) l.shape (pipe (map step_of (drop l.at l.steps)))) ≡ true;
   right : are_right l.m l.segments.items ≡ true;
-  there : are_there l.m (readings l.c) (map step_of l.steps) l.segments.items ≡ true;
+  there : are_there l.m (readings l.c) (map step_of l.steps) l.known l.segments.items ≡ true;
+  known : are_known l.m (readings l.c) l.shape (pipe (map step_of (drop l.at l.steps))) (drop l.at l.known) ≡ true;
 }

@@ -26,33 +26,33 @@ either f g (inr b) = g b
 
 -- ---- the steps of a pipeline
 
-pub walked_pipe-place_is_there-requires : goal.walked_pipe-place_is_there-requires
-walked_pipe-place_is_there-requires t c =
+pub walked_known-place_is_there-requires : goal.walked_known-place_is_there-requires
+walked_known-place_is_there-requires t c =
     let m = c.args.m.now in
     let cs = readings c.args.c.now in
     let gs = c.in_ok-segments.segments.items in
     let x = YieldsList-turn (YieldsList-from_vec {s = c.into_iter-segment-iterator.result} gs (search rules) (search rules))
     c.loop-segment.yielded c.loop-segment.segment-iterator c.loop-segment.yielded_by c.next.result c.next.new.self c.in-Some.segment c.in-Some.is c.next.ensures.steps in
-    record { there = one-there m cs (map step_of c.steps-written.result.now) gs (length c.loop-segment.yielded) c.in-Some.segment (head.Written c.in-Written.at c.in-Written.shape) c.in_ok-segments.ensures.there x.0 x.1 (sym c.in-Written.is ∙ c.taken_apart-head.ensures.head) }
+    record { there = one-there m cs (map step_of c.steps-written.result.now) c.args.known.now gs (length c.loop-segment.yielded) c.in-Some.segment (head.Written c.in-Written.at c.in-Written.shape) c.in_ok-segments.ensures.there x.0 x.1 (sym c.in-Written.is ∙ c.taken_apart-head.ensures.head) }
 
-pub walked_pipe-loop-segment-preserved-in-Front : goal.walked_pipe-loop-segment-preserved-in-Front
-walked_pipe-loop-segment-preserved-in-Front t c =
+pub walked_known-loop-segment-preserved-in-Front : goal.walked_known-loop-segment-preserved-in-Front
+walked_known-loop-segment-preserved-in-Front t c =
     let m = c.args.m.now in
     let w = frame (rules_named c.args.rules) (readings c.args.c.now) (map step_of c.steps-written.result.now) in
     let g = c.in-Some.segment in
     steps-past m w c.loop-segment.yielded g (map step_of c.loop-segment.steps.items) (map step_of c.put_segment.new.steps.items) None _ c.loop-segment.invariant c.taken_apart-head.ensures.tests c.in_ok-put_segment-in-Front.ensures
     (ap (λ h. made m w h (map expr_of g.entered.items) []) (sym c.in-Front.is ∙ c.taken_apart-head.ensures.head))
 
-pub walked_pipe-loop-segment-preserved-in-Count : goal.walked_pipe-loop-segment-preserved-in-Count
-walked_pipe-loop-segment-preserved-in-Count t c =
+pub walked_known-loop-segment-preserved-in-Count : goal.walked_known-loop-segment-preserved-in-Count
+walked_known-loop-segment-preserved-in-Count t c =
     let m = c.args.m.now in
     let w = frame (rules_named c.args.rules) (readings c.args.c.now) (map step_of c.steps-written.result.now) in
     let g = c.in-Some.segment in
     steps-past m w c.loop-segment.yielded g (map step_of c.loop-segment.steps.items) (map step_of c.put_segment-in-Count.new.steps.items) (Some (step_of (step.TopBy c.in-Count.top))) _ c.loop-segment.invariant c.taken_apart-head.ensures.tests c.in_ok-put_segment-in-Count.ensures
     (ap Some (step_of-TopBy c.in-Count.top) ∙ ap (λ h. made m w h (map expr_of g.entered.items) []) (sym c.in-Count.is ∙ c.taken_apart-head.ensures.head))
 
-pub walked_pipe-loop-segment-preserved : goal.walked_pipe-loop-segment-preserved
-walked_pipe-loop-segment-preserved t c =
+pub walked_known-loop-segment-preserved : goal.walked_known-loop-segment-preserved
+walked_known-loop-segment-preserved t c =
     let m = c.args.m.now in
     let r = rules_named c.args.rules in
     let cs = readings c.args.c.now in

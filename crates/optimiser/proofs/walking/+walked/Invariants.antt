@@ -10,8 +10,8 @@ use Rattle.walk_laws.specs.Walks as spec
 use Rattle.optimiser.proofs.walking.+walked.Given as goal
 
 -- the steps so far are those of the segments so far
-abbrev pub invariant-walked_pipe-loop-segment : goal.invariant-walked_pipe-loop-segment
-invariant-walked_pipe-loop-segment l = map step_of l.steps.items ≡ spec.all_steps (segments_of l.m (frame (rules_named l.rules) (readings l.c) (map step_of l.written)) l.yielded)
+abbrev pub invariant-walked_known-loop-segment : goal.invariant-walked_known-loop-segment
+invariant-walked_known-loop-segment l = map step_of l.steps.items ≡ spec.all_steps (segments_of l.m (frame (rules_named l.rules) (readings l.c) (map step_of l.written)) l.yielded)
 
 abbrev pub invariant-settled_branches-loop-i : goal.invariant-settled_branches-loop-i
 invariant-settled_branches-loop-i l = map pipe_of l.settled.items ≡ map (λ p. walked (rules_named l.rules) l.m (readings l.c) l.shape (pipe_of p) (map expr_of l.entered) None) (take l.i l.all)

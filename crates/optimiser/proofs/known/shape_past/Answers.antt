@@ -4,7 +4,7 @@ use Rattle.apply_ast.proofs.ViewEquations.{step_of-Filter, step_of-Identity}
 use Rattle.context_typing.specs.Readings.{readings}
 use Rattle.context_typing.specs.Typing.{after}
 use Rattle.optimiser.proofs.WalkTrees.{after-Filter, after-Identity}
-use Rattle.optimiser.proofs.stepping.shape_past.Goals as goal
+use Rattle.optimiser.proofs.known.shape_past.Goals as goal
 
 pub returns-in-Identity-clause-value : goal.returns-in-Identity-clause-value
 returns-in-Identity-clause-value c =
