@@ -18,11 +18,12 @@ use Rattle.apply_ast.specs.declared.steps.Step.TheVariants as step
 use Rattle.apply_ast.proofs.ViewEquations.{keys_of-is, step_of-GroupBy}
 use Rattle.context_typing.specs.Shapes.{Shape}
 use Rattle.context_typing.specs.Typing.{Customs, group_keys, has_kind, is_nodes, is_sure, rollup_part, rollup_paths, steps_shape}
-use Rattle.rewrite_laws.specs.Rewrites.{branches, grouping_quiet, node_shape, on_node, over, paths}
+use Rattle.rewrite_laws.specs.Rewrites.{grouping_quiet, node_shape, on_node, over, paths}
 use Rattle.rewrite_forms.specs.GroupForms.{chosen_nodes, in_every_row, recursive_key}
 use Rattle.optimiser.specs.HeadForms.{branches_enter, grouping_passes, nodes_enter}
 use Rattle.optimiser.specs.HeldSegments.{into_branches, into_nodes}
 use Rattle.walk_laws.specs.Walks.{Rules, Test, chooses_nodes, is_late, step_enters, step_lets}
+use Rattle.optimiser.proofs.KnownLemmas.{branches-from}
 use Rattle.optimiser.proofs.TypedInside.{nodes-key, nodes-part, nodes-shape}
 
 module _ {X Y : Type 0} (t : Y → Bool) (f : X → Option Y) where
@@ -87,13 +88,9 @@ grouping-closed r ks h = λ i t. sym (ap (λ b. is_late r || not b) (nodes-key k
 pub grouped : (s : of_step.Step) (ks : of_keys.KeyList) (i : Option of_pipe.Pipe) (l : List of_key.KeyItem) → s ≡ step.GroupBy ks i → l ≡ keys_in ks → step_of s ≡ Step.GroupBy (keys_from (map key_of l)) (inner_of (option_map pipe_of i))
 grouped s ks i l e f = ap step_of e ∙ step_of-GroupBy ks i ∙ ap (λ K. Step.GroupBy K (inner_of (option_map pipe_of i))) (keys_of-is ks ∙ ap (λ l. keys_from (map key_of l)) (sym f))
 
-branches-from : (ps : List Pipe) → branches (pipes_from ps) ≡ ps
-branches-from [] = refl
-branches-from (p ∷ ps) = ap (λ l. p ∷ l) (branches-from ps)
-
 pub concat-enters : (r : Rules) (m : Model) (c : Customs) (S : Shape) (s : Step) (ps : List Pipe) → s ≡ Step.Concat (pipes_from ps) → branches_enter m c S ps ≡ step_enters r m c S s
 concat-enters r m c S s ps e =
-    (λ i t. then_some (list_all (λ p. is_some_and (λ S'. has_kind is_boolean_kind m S' t.expr) (steps_shape m c S p)) (sym (branches-from ps) i)) t.expr)
+    (λ i t. then_some (list_all (λ p. is_some_and (λ S'. has_kind is_boolean_kind m S' t.expr) (steps_shape m c S p)) (sym (branches-from m c ps) i)) t.expr)
     ∙ ap (step_enters r m c S) (sym e)
 
 both-orders : {A : Type 0} (l g n s : Bool) (x y : A) → (if l && g && n && s then x else y) ≡ (if l && n && g && s then x else y)

@@ -26,6 +26,7 @@ use Rattle.rewrite_laws.specs.TreeEquality.{option_same, same_bool}
 use Rattle.rewrite_laws.proofs.SameExpressions.{same-bool}
 use Rattle.walk_laws.specs.Walks.{shape_behind}
 use Rattle.optimiser.specs.KnownSteps.{are_known, branches_known, column_same, ends_known, inside_known, is_behind, is_concat, is_known, prefix_same, root_same, shape_same, type_same}
+use Rattle.optimiser.proofs.TypedInside.{chain-there}
 use Rattle.optimiser.specs.WalkForms.{branches_typed}
 use Rattle.optimiser.specs.declared.known.Known.{Known, out-Known}
 
@@ -151,10 +152,6 @@ module _ (m : Model) (c : Customs) where
   all-behind S (p ∷ ps) h =
       let x = and_parts (is_some (steps_shape m c S p)) _ h in
       ap (λ o. all_some (o ∷ map (steps_shape m c S) ps)) (typed-behind p S x.0) ∙ ap (option_map (λ Ss. shape_behind m c S p ∷ Ss)) (all-behind S ps x.1)
-
-  chain-there : {A B : Type 0} (f : A → Option B) (o : Option A) → is_some (option_and_then f o) ≡ true → is_some o ≡ true
-  chain-there f None h = h
-  chain-there f (Some x) h = refl
 
   -- the shape behind a typed concatenation
   pub concat-behind : (S : Shape) (ps : List Pipe) (Ss : List Shape) (s : Step) → s ≡ Step.Concat (pipes_from ps) → is_some (step_shape m c S s) ≡ true → Ss ≡ map (shape_behind m c S) ps → step_shape m c S s ≡ concat_shape m Ss

@@ -25,7 +25,7 @@ if-there : {A : Type 0} (b : Bool) (o : Option A) → is_some (if b then o else 
 if-there true o h = (refl, h)
 if-there false o h = cc
 
-chain-there : {A B : Type 0} (f : A → Option B) (o : Option A) → is_some (option_and_then f o) ≡ true → is_some o ≡ true
+pub chain-there : {A B : Type 0} (f : A → Option B) (o : Option A) → is_some (option_and_then f o) ≡ true → is_some o ≡ true
 chain-there f None h = h
 chain-there f (Some x) h = refl
 
