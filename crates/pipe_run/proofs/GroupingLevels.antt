@@ -56,7 +56,7 @@ module _ (x : Context) (h : HierName) (p : Path) (T : OptPipe) (ks : Keys) (has 
   abbrev nodes : Outcome
   nodes = inner_mean x.world (readings x.customs) (set_shape f.type) (λ l. Some l) T (rows x.world f.set)
 
-  shown-is : keys_shown x.world (readings x.customs) ks ≡ option_map shown_of nodes
+  pub shown-is : keys_shown x.world (readings x.customs) ks ≡ option_map shown_of nodes
   shown-is =
       recursive-shown x.world (readings x.customs) h p T ks has ready.few
       ∙ key_shown-Recursive x.world (readings x.customs) h p T

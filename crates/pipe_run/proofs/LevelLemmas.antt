@@ -323,3 +323,24 @@ levels-run x root S S' ks T l shown L placed R =
             free = λ m g r e made. all-each (fits w G.each) (λ i. columns_differ (extended i (keyed level.0 g.0)).columns) r (fit g.1 r made) (λ i h. keyed-columns w G.each i level.0 g.0 (fit-parts w G.each i h) distinct apart);
           },
     )
+
+-- the same on some of the instances: the inner pipeline runs on them, and an instance that it makes alone has no column of a key
+pub record TypedApart (x : Context) (root : Option ℕ) (S : Shape) (ks : Keys) (T : Pipe) (l : List Instance) : Type 0 where
+  pub shape : Shape
+  pub runs : RunsFrom x root S shape T l
+  pub apart : (i : Instance) (vs : List Value) → mean x.world (readings x.customs) S T l ≡ Some (i ∷ []) → columns_differ (extended i (keyed (key_paths (group_keys ks)) vs)).columns ≡ true
+
+pub typed-apart : (x : Context) (root : Option ℕ) (S S' : Shape) (ks : Keys) (T : Pipe) (l : List Instance) → IsLoaded x.world → StepRunsFrom x root S S' (Step.GroupBy ks (OptPipe.SomePipe T)) l → (js : List ℕ) → TypedApart x root S ks T (at_places l js)
+typed-apart x root S S' ks T l L R js =
+    let w = x.world in
+    let c = readings x.customs in
+    let G = grouping-parts w.model c S S' ks (OptPipe.SomePipe T) R.runs.typed in
+    let long = if_else-parts (is_long T) (steps_shape w.model c S T) G.each (sym (inner_shape-SomePipe w.model c S no_shape T) ∙ G.inner) in
+    let fit = fit-at_places w S l js R.runs.fit in
+    record {
+      shape = G.each;
+      runs = record { runs = record { customs = R.runs.customs; lawful = R.runs.lawful; typed = long.1; fit = fit }; root_is = R.root_is };
+      apart = λ i vs m.
+          let own = loaded-mean_fits w c S G.each T (at_places l js) (i ∷ []) L R.runs.customs R.runs.lawful (long.0, long.1) fit m in
+          keyed-columns w G.each i (key_paths (group_keys ks)) vs (fit-parts w G.each i (and_parts (fits w G.each i) true own).0) G.differ G.apart;
+    }

@@ -18,6 +18,9 @@ pub mod ListsInTurn
 pub mod NextItems
 pub mod NodeKeys
 pub mod NodeLevels
+pub mod PlacedRuns
+pub mod TotalLaws
+pub mod TotalsRun
 pub mod ReadyParts
 pub mod RelatedLemmas
 pub mod RootLemmas

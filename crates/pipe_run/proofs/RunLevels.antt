@@ -32,7 +32,7 @@ slice-at xs n d h e = slice_get-get_or xs n d h ∙ ap Some (sym e)
 
 -- ---- the groups of a level
 
-sum-append : (xs ys : List ℕ) → sum (xs ++ ys) ≡ sum xs + sum ys
+pub sum-append : (xs ys : List ℕ) → sum (xs ++ ys) ≡ sum xs + sum ys
 sum-append [] ys = let e : sum ys ≡ 0 + sum ys = omega arith in e
 sum-append (x ∷ xs) ys = let a = sum-cons x (xs ++ ys) in let b = sum-cons x xs in let u = sum-append xs ys in omega (arith, a, b, u)
 

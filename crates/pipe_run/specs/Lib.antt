@@ -23,3 +23,4 @@ pub mod Levels
 pub mod RecursiveKeys
 pub mod Roots
 pub mod Selections
+pub mod Totals

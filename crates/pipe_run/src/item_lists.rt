@@ -157,7 +157,7 @@ fn value_at<R: Threads + Sync, G: Gate>(
 }
 
 /// The values at place k, where there are some.
-fn list_at(lists: &[ItemList], k: usize) -> Option<&ItemList>
+pub(crate) fn list_at(lists: &[ItemList], k: usize) -> Option<&ItemList>
     ensures { option_map (λ o. o.now) result ≡ slice_get lists.now k }
 {
     lists.get(k)

@@ -5,7 +5,8 @@
 //! `row_values`, by as many threads as there are workers, and `orderby` is that of `row_orders`; `aggregations` has `aggregate`, of rows or a frame.
 //! `run_grouping` runs a `groupby` on a list of instances, which are rows or a frame: `levels` finds the groups of each level, and
 //! `recursive` those of each node of a recursive rollup; `item_lists` works out the values of an aggregation once for all groups,
-//! and `groups` makes rows of groups and puts key columns on them. `selections` takes rows from the top and the bottom, and
+//! and `groups` makes rows of groups and puts key columns on them. `totals` runs a recursive rollup that is the only key where an
+//! aggregation alone is made of each group: over neighbours in the order of the nodes, without groups. `selections` takes rows from the top and the bottom, and
 //! `selected_places` has the places of the values that one takes; `joins` says what a join takes; `hierarchies` has climbs and
 //! traversals, and the places of the instances of a list that they take; `copies` copies rows for pipelines that share them. `roots` follows the type at the empty prefix from one
 //! transformation to the next, which custom aggregates are looked up by.
@@ -35,6 +36,7 @@ mod pipes;
 mod recursive;
 mod roots;
 mod selections;
+mod totals;
 
 pub use aggregations::aggregated;
 pub use contexts::Context;

@@ -8,7 +8,7 @@ ghost use Rattle.edm_model.specs.Models.{Navigation};
 ghost use Rattle.edm_data.specs.References.{count};
 ghost use Rattle.apply_ast.specs.Trees as tree;
 ghost use Rattle.apply_ast.specs.Trees.{pipe};
-ghost use Rattle.apply_ast.specs.Views.{climb_of, hier_of, inner_of, join_of, keys_of, pipe_of, pipes_in, pipes_of, step_of, top_of};
+ghost use Rattle.apply_ast.specs.Views.{agg_of, climb_of, hier_of, inner_of, join_of, keys_of, pipe_of, pipes_in, pipes_of, step_of, top_of};
 ghost use Rattle.context_typing.specs.Readings.{readings};
 ghost use Rattle.context_typing.specs.Shapes.{Shape, set_shape};
 ghost use Rattle.context_typing.specs.Typing as typing;
@@ -25,6 +25,7 @@ ghost use Rattle.pipe_run.specs.Conditions.{AreReady, BranchesReady, BranchesRun
 ghost use Rattle.pipe_run.specs.Costs.{application, applications, cost, given_applications, inner_cost, keys_cost, step_cost};
 ghost use Rattle.pipe_run.specs.ItemLists.{AreFirstLists};
 ghost use Rattle.pipe_run.specs.Levels.{GivesLevels, group_made, level_lists, level_made};
+ghost use Rattle.pipe_run.specs.Totals.{totals_step};
 
 use crate::aggregations::aggregated;
 use crate::contexts::Context;
@@ -37,6 +38,7 @@ use crate::levels::{Level, all_paths, levels_of};
 use crate::recursive::node_levels;
 use crate::roots::root_after;
 use crate::selections::select_rows;
+use crate::totals::{NodeTotals, node_totals, total_rows};
 use apply_ast::{
     ClimbStep, HierName, JoinStep, KeyItem, KeyList, Name, Path, Pipe, PipeList, Step, TopStep,
 };
@@ -337,6 +339,70 @@ pub fn run_step<R: Threads + Sync, G: Gate, L: Ledger>(
 /// is none. No row is made of an instance that an aggregation at the front of the inner pipeline reads.
 #[cycle(run)]
 pub fn run_grouping<R: Threads + Sync, G: Gate, L: Ledger>(
+    alloc: Global,
+    context: &Context<'_, R, G>,
+    root: &Option<TypeId>,
+    step: &Step,
+    rows: &RowList<'_>,
+    steps: &mut Steps<L>,
+) -> Result<Vec<Row>, RunRefused>
+    requires grouping { IsTrue (is_grouping (step_of step.now)) }
+    requires ready { StepReadyFrom context.now root.now (step_of step.now) rows.now }
+    requires named { AreReady context.now (step_hierarchies (step_of step.now)) }
+    ensures mean { (S S' : Shape) → StepRunsFrom context.now root.now S S' (step_of step.now) rows.now
+        → Gives result (step_mean context.now.world (readings context.now.customs) S (step_of step.now) rows.now) }
+    ensures steps { (S S' : Shape) → StepRunsFrom context.now root.now S S' (step_of step.now) rows.now
+        → steps.new ≤ steps.old + step_cost context.now.world (readings context.now.customs) S (step_of step.now) rows.now }
+    ensures grown { steps.old ≤ steps.new }
+{
+    let Some(totals) = node_totals(step) else {
+        return run_by_levels(alloc, context, root, step, rows, steps);
+    };
+    match step {
+        Step::GroupBy(keys, _) => {
+            let items = keys.as_slice();
+            if items.len() == 0 {
+                return run_by_levels(alloc, context, root, step, rows, steps);
+            }
+            match &items[0] {
+                KeyItem::Recursive(_, _, shown) => {
+                    run_totals(alloc, context, root, &totals, shown, rows, steps)
+                }
+                _ => run_by_levels(alloc, context, root, step, rows, steps),
+            }
+        }
+        _ => run_by_levels(alloc, context, root, step, rows, steps),
+    }
+}
+
+/// What a recursive rollup gives on a list, where it is the only key and an aggregation alone is made of each group.
+#[cycle(run)]
+fn run_totals<R: Threads + Sync, G: Gate, L: Ledger>(
+    alloc: Global,
+    context: &Context<'_, R, G>,
+    root: &Option<TypeId>,
+    totals: &NodeTotals<'_>,
+    shown: &Option<Pipe>,
+    rows: &RowList<'_>,
+    steps: &mut Steps<L>,
+) -> Result<Vec<Row>, RunRefused>
+    requires ready { StepReadyFrom context.now root.now (totals_step (hier_of totals.now.hier.now) totals.now.path.now (inner_of (option_map pipe_of shown.now)) (map agg_of totals.now.items.now)) rows.now }
+    requires named { AreReady context.now (step_hierarchies (totals_step (hier_of totals.now.hier.now) totals.now.path.now (inner_of (option_map pipe_of shown.now)) (map agg_of totals.now.items.now))) }
+    ensures mean { let s = totals_step (hier_of totals.now.hier.now) totals.now.path.now (inner_of (option_map pipe_of shown.now)) (map agg_of totals.now.items.now) in
+        (S S' : Shape) → StepRunsFrom context.now root.now S S' s rows.now → Gives result (step_mean context.now.world (readings context.now.customs) S s rows.now) }
+    ensures steps { let s = totals_step (hier_of totals.now.hier.now) totals.now.path.now (inner_of (option_map pipe_of shown.now)) (map agg_of totals.now.items.now) in
+        (S S' : Shape) → StepRunsFrom context.now root.now S S' s rows.now → steps.new ≤ steps.old + step_cost context.now.world (readings context.now.customs) S s rows.now }
+    ensures grown { steps.old ≤ steps.new }
+{
+    data_is_loaded(context.store());
+    let shown = run_shown(alloc, context, totals.hier, shown, steps)?;
+    total_rows(alloc, context, root, totals, shown.as_slice(), rows, steps)
+}
+
+/// What a grouping gives on a list, level by level: what the inner pipeline makes of each group of each level, or a row for each group where there
+/// is none. No row is made of an instance that an aggregation at the front of the inner pipeline reads.
+#[cycle(run)]
+fn run_by_levels<R: Threads + Sync, G: Gate, L: Ledger>(
     alloc: Global,
     context: &Context<'_, R, G>,
     root: &Option<TypeId>,

@@ -29,7 +29,7 @@ use Rattle.pipe_run.specs.Levels.{Level, group_made, level_made}
 use Rattle.pipe_run.specs.Roots.{LeadsTo}
 use Rattle.pipe_run.proofs.GroupLemmas.{next-sum}
 use Rattle.pipe_run.proofs.LevelLemmas.{keys-least, keys-ready}
-use Rattle.pipe_run.proofs.RunLevels.{group-run, last-joined, level-costs, levels-err, next-group, next-joined, next-level, next-refused, read-key, read-places, total-charge}
+use Rattle.pipe_run.proofs.RunLevels.{group-run, last-joined, level-costs, levels-err, next-group, next-joined, next-level, next-refused, read-key, read-places, slice-at, total-charge}
 use Rattle.std.specs.Global.{Vec}
 use Rattle.std.proofs.lemmas.List.{length-map, map-append}
 use Rattle.std.proofs.lemmas.List.Folds.{flat_map-map}
@@ -45,7 +45,7 @@ use Rattle.pipe_run.proofs.RelatedLemmas.{join-run, lists-made, made-mean, relat
 use Rattle.edm_data.specs.References.{count}
 use Rattle.context_typing.specs.Typing.{hierarchy_at, plain_paths, rollup_paths}
 use Rattle.apply_meaning.specs.Instances as instances
-use Rattle.hier_rows.specs.HierRows.{AreRootsBelow}
+use Rattle.hier_rows.specs.HierRows.{AreNodesBelow, AreRootsBelow}
 use Rattle.pipe_run.specs.Hierarchies.{climb_from, traversal}
 use Rattle.pipe_run.specs.RecursiveKeys.{is_flat_key}
 use Rattle.pipe_run.proofs.ClimbLemmas.{climb-costs, climb-means, climb-of, traverse-run}
@@ -54,6 +54,9 @@ use Rattle.edm_values.proofs.OptionFacts.{some_value}
 use Rattle.pipe_run.proofs.GroupingLevels.{all-flat, flat-gives, met-key, next-among, next-flat_key, node-gives, shown-gives, shown-least}
 use Rattle.pipe_run.proofs.KeyParts.{recursive, recursive-part}
 use Rattle.pipe_run.proofs.ShownRun.{shown-below, shown-err, shown-rows, shown-run}
+use Rattle.pipe_run.proofs.TotalLaws.{totals-ready}
+use Rattle.pipe_run.specs.Totals.{totals_step}
+use Rattle.pipe_run.proofs.TotalsRun.{found-key, hier-ready, key-named, shown-same, totals-err, totals-gives, totals-least, totals-spent}
 use Rattle.pipe_run.proofs.pipes.+run.Goals as goal
 use Rattle.pipe_run.proofs.pipes.+run.Goals.{grouping_levels-in-Plain, grouping_levels-in-Rollup}
 
@@ -763,27 +766,27 @@ run_step-returns-in-GroupBy-clause-steps g t c = λ S S' R.
 pub run_step-returns-in-GroupBy-clause-grown : goal.run_step-returns-in-GroupBy-clause-grown
 run_step-returns-in-GroupBy-clause-grown g t c = omega (arith, c.run_grouping.ensures.grown)
 
-pub run_grouping-grouping_levels-requires-clause-of : goal.run_grouping-grouping_levels-requires-clause-of
-run_grouping-grouping_levels-requires-clause-of g t c κs within =
+pub run_by_levels-grouping_levels-requires-clause-of : goal.run_by_levels-grouping_levels-requires-clause-of
+run_by_levels-grouping_levels-requires-clause-of g t c κs within =
     let r = c.requires.ready in
     all-fit-of c.args.context.now.world r.0 c.args.rows.now (r.2).runs.fit
 
-pub run_grouping-grouping_levels-requires-clause-all : goal.run_grouping-grouping_levels-requires-clause-all
-run_grouping-grouping_levels-requires-clause-all g t c κs within = c.as_slice-paths.ensures.value ∙ c.in_ok-paths-in-GroupBy.ensures.value
+pub run_by_levels-grouping_levels-requires-clause-all : goal.run_by_levels-grouping_levels-requires-clause-all
+run_by_levels-grouping_levels-requires-clause-all g t c κs within = c.as_slice-paths.ensures.value ∙ c.in_ok-paths-in-GroupBy.ensures.value
 
-pub run_grouping-grouping_levels-requires-clause-ready : goal.run_grouping-grouping_levels-requires-clause-ready
-run_grouping-grouping_levels-requires-clause-ready g t c κs within =
+pub run_by_levels-grouping_levels-requires-clause-ready : goal.run_by_levels-grouping_levels-requires-clause-ready
+run_by_levels-grouping_levels-requires-clause-ready g t c κs within =
     let r = c.requires.ready in
     keys-ready c.args.context.now c.args.root.now r.0 r.1 (keys_of c.in-GroupBy.keys) (inner_of (option_map pipe_of c.in-GroupBy.inner)) c.args.rows.now
     (subst (λ s. StepRunsFrom c.args.context.now c.args.root.now r.0 r.1 s c.args.rows.now) (ap step_of c.in-GroupBy.is ∙ step_of-GroupBy c.in-GroupBy.keys c.in-GroupBy.inner) r.2)
 
-pub run_grouping-grouping_levels-requires-clause-named : goal.run_grouping-grouping_levels-requires-clause-named
-run_grouping-grouping_levels-requires-clause-named g t c κs within =
+pub run_by_levels-grouping_levels-requires-clause-named : goal.run_by_levels-grouping_levels-requires-clause-named
+run_by_levels-grouping_levels-requires-clause-named g t c κs within =
     let x = c.args.context.now in
     ready-front x (keys_hierarchies (keys_of c.in-GroupBy.keys)) (inner_hierarchies (inner_of (option_map pipe_of c.in-GroupBy.inner))) (subst (λ s. AreReady x (step_hierarchies s)) (ap step_of c.in-GroupBy.is ∙ step_of-GroupBy c.in-GroupBy.keys c.in-GroupBy.inner) c.requires.named)
 
-pub run_grouping-returns-in_err-levels-in-GroupBy-clause-mean : goal.run_grouping-returns-in_err-levels-in-GroupBy-clause-mean
-run_grouping-returns-in_err-levels-in-GroupBy-clause-mean g t c = λ S S' R.
+pub run_by_levels-returns-in_err-levels-in-GroupBy-clause-mean : goal.run_by_levels-returns-in_err-levels-in-GroupBy-clause-mean
+run_by_levels-returns-in_err-levels-in-GroupBy-clause-mean g t c = λ S S' R.
     let x = c.args.context.now in
     let l = c.args.rows.now in
     let ks = keys_of c.in-GroupBy.keys in
@@ -792,8 +795,8 @@ run_grouping-returns-in_err-levels-in-GroupBy-clause-mean g t c = λ S S' R.
     let whole = step-mean-on x S (ap step_of c.in-GroupBy.is ∙ step_of-GroupBy c.in-GroupBy.keys c.in-GroupBy.inner) refl in
     rw (p.1, p.2) (subst (Gives (Err c.in_err-levels-in-GroupBy.field-0.0)) (sym whole) (levels-err x.world (readings x.customs) S ks T l c.in_err-levels-in-GroupBy.field-0.0 c.in_err-levels-in-GroupBy.ensures.levels))
 
-pub run_grouping-returns-in_err-levels-in-GroupBy-clause-steps : goal.run_grouping-returns-in_err-levels-in-GroupBy-clause-steps
-run_grouping-returns-in_err-levels-in-GroupBy-clause-steps g t c = λ S S' R.
+pub run_by_levels-returns-in_err-levels-in-GroupBy-clause-steps : goal.run_by_levels-returns-in_err-levels-in-GroupBy-clause-steps
+run_by_levels-returns-in_err-levels-in-GroupBy-clause-steps g t c = λ S S' R.
     let x = c.args.context.now in
     let l = c.args.rows.now in
     let ks = keys_of c.in-GroupBy.keys in
@@ -803,28 +806,28 @@ run_grouping-returns-in_err-levels-in-GroupBy-clause-steps g t c = λ S S' R.
     let whole = step-cost-on x S {l = l} (ap step_of c.in-GroupBy.is ∙ step_of-GroupBy c.in-GroupBy.keys c.in-GroupBy.inner) refl in
     omega (arith, spent, least, whole)
 
-pub run_grouping-returns-in_err-levels-in-GroupBy-clause-grown : goal.run_grouping-returns-in_err-levels-in-GroupBy-clause-grown
-run_grouping-returns-in_err-levels-in-GroupBy-clause-grown g t c = omega (arith, c.grouping_levels.ensures.grown)
+pub run_by_levels-returns-in_err-levels-in-GroupBy-clause-grown : goal.run_by_levels-returns-in_err-levels-in-GroupBy-clause-grown
+run_by_levels-returns-in_err-levels-in-GroupBy-clause-grown g t c = omega (arith, c.grouping_levels.ensures.grown)
 
-pub run_grouping-first_lists-requires-after_bounds : goal.run_grouping-first_lists-requires-after_bounds
-run_grouping-first_lists-requires-after_bounds g t c κs within =
+pub run_by_levels-first_lists-requires-after_bounds : goal.run_by_levels-first_lists-requires-after_bounds
+run_by_levels-first_lists-requires-after_bounds g t c κs within =
     let r = c.requires.ready in
     all-fit-of c.args.context.now.world r.0 c.args.rows.now (r.2).runs.fit
 
-pub run_grouping-returns-in_err-lists-in-Some-clause-steps : goal.run_grouping-returns-in_err-lists-in-Some-clause-steps
-run_grouping-returns-in_err-lists-in-Some-clause-steps g t c = λ S S' R.
+pub run_by_levels-returns-in_err-lists-in-Some-clause-steps : goal.run_by_levels-returns-in_err-lists-in-Some-clause-steps
+run_by_levels-returns-in_err-lists-in-Some-clause-steps g t c = λ S S' R.
     let x = c.args.context.now in
     let spent = c.grouping_levels.ensures.steps in
     let least = keys-least x.world (readings x.customs) S (keys_of c.in-GroupBy.keys) (inner_of (option_map pipe_of c.in-GroupBy.inner)) c.args.rows.now in
     let whole = step-cost-on x S {l = c.args.rows.now} (ap step_of c.in-GroupBy.is ∙ step_of-GroupBy c.in-GroupBy.keys c.in-GroupBy.inner) refl in
     omega (arith, spent, least, whole)
 
-pub run_grouping-run_levels-requires-clause-lists : goal.run_grouping-run_levels-requires-clause-lists
-run_grouping-run_levels-requires-clause-lists g t c κs within =
+pub run_by_levels-run_levels-requires-clause-lists : goal.run_by_levels-run_levels-requires-clause-lists
+run_by_levels-run_levels-requires-clause-lists g t c κs within =
     subst (AreFirstLists c.args.context.now.world c.args.rows.now (pipe_of c.in-Some.pipe)) (sym c.as_slice-lists.ensures.value) c.in_ok-lists-in-Some.ensures
 
-pub run_grouping-run_levels-requires-clause-ready : goal.run_grouping-run_levels-requires-clause-ready
-run_grouping-run_levels-requires-clause-ready g t c κs within =
+pub run_by_levels-run_levels-requires-clause-ready : goal.run_by_levels-run_levels-requires-clause-ready
+run_by_levels-run_levels-requires-clause-ready g t c κs within =
     let r = c.requires.ready in
     let x = c.args.context.now in
     let l = c.args.rows.now in
@@ -833,23 +836,23 @@ run_grouping-run_levels-requires-clause-ready g t c κs within =
     let u = grouping-run c.in_ok-levels-in-GroupBy.levels (subst IsLoaded c.store.ensures.value c.data_is_loaded.ensures.value) c.in_ok-levels-in-GroupBy.ensures.levels c.as_slice-levels.ensures.value (step-runs-on e refl r.2) in
     (r.0, u.shape, u.runs)
 
-pub run_grouping-run_levels-requires-clause-named : goal.run_grouping-run_levels-requires-clause-named
-run_grouping-run_levels-requires-clause-named g t c κs within =
+pub run_by_levels-run_levels-requires-clause-named : goal.run_by_levels-run_levels-requires-clause-named
+run_by_levels-run_levels-requires-clause-named g t c κs within =
     let x = c.args.context.now in
     let ks = keys_of c.in-GroupBy.keys in
     let e = ap step_of c.in-GroupBy.is ∙ step_of-GroupBy c.in-GroupBy.keys c.in-GroupBy.inner ∙ ap (λ o. tree.Step.GroupBy ks (inner_of (option_map pipe_of o))) c.in-Some.is in
     ready-back x (keys_hierarchies ks) (inner_hierarchies (tree.OptPipe.SomePipe (pipe_of c.in-Some.pipe))) (subst (λ s. AreReady x (step_hierarchies s)) e c.requires.named)
 
-pub run_grouping-key_rows-requires : goal.run_grouping-key_rows-requires
-run_grouping-key_rows-requires g t c =
+pub run_by_levels-key_rows-requires : goal.run_by_levels-key_rows-requires
+run_by_levels-key_rows-requires g t c =
     let r = c.requires.ready in
     let x = c.args.context.now in
     let l = c.args.rows.now in
     let ks = keys_of c.in-GroupBy.keys in
     record { differ = (levels-found c.in_ok-levels-in-GroupBy.levels (step-runs-on (ap step_of c.in-GroupBy.is ∙ step_of-GroupBy c.in-GroupBy.keys c.in-GroupBy.inner) refl r.2) c.in_ok-levels-in-GroupBy.ensures.levels c.as_slice.ensures.value).differ }
 
-pub run_grouping-returns-in-Some-clause-mean : goal.run_grouping-returns-in-Some-clause-mean
-run_grouping-returns-in-Some-clause-mean g t c = λ S S' R.
+pub run_by_levels-returns-in-Some-clause-mean : goal.run_by_levels-returns-in-Some-clause-mean
+run_by_levels-returns-in-Some-clause-mean g t c = λ S S' R.
     let x = c.args.context.now in
     let l = c.args.rows.now in
     let ks = keys_of c.in-GroupBy.keys in
@@ -857,8 +860,8 @@ run_grouping-returns-in-Some-clause-mean g t c = λ S S' R.
     let u = grouping-run c.in_ok-levels-in-GroupBy.levels (subst IsLoaded c.store.ensures.value c.data_is_loaded.ensures.value) c.in_ok-levels-in-GroupBy.ensures.levels c.as_slice-levels.ensures.value (step-runs-on e refl R) in
     subst (Gives c.run_levels.result) (sym u.means ∙ sym (step-mean-on x S e refl)) (c.run_levels.ensures.mean S u.shape u.runs)
 
-pub run_grouping-returns-in-Some-clause-steps : goal.run_grouping-returns-in-Some-clause-steps
-run_grouping-returns-in-Some-clause-steps g t c = λ S S' R.
+pub run_by_levels-returns-in-Some-clause-steps : goal.run_by_levels-returns-in-Some-clause-steps
+run_by_levels-returns-in-Some-clause-steps g t c = λ S S' R.
     let x = c.args.context.now in
     let l = c.args.rows.now in
     let ks = keys_of c.in-GroupBy.keys in
@@ -870,11 +873,11 @@ run_grouping-returns-in-Some-clause-steps g t c = λ S S' R.
     let whole = step-cost-on x S {l = l} e refl in
     omega (arith, found, spent, least, whole)
 
-pub run_grouping-returns-in-Some-clause-grown : goal.run_grouping-returns-in-Some-clause-grown
-run_grouping-returns-in-Some-clause-grown g t c = omega (arith, c.grouping_levels.ensures.grown, c.run_levels.ensures.grown)
+pub run_by_levels-returns-in-Some-clause-grown : goal.run_by_levels-returns-in-Some-clause-grown
+run_by_levels-returns-in-Some-clause-grown g t c = omega (arith, c.grouping_levels.ensures.grown, c.run_levels.ensures.grown)
 
-pub run_grouping-returns-in-GroupBy-clause-mean : goal.run_grouping-returns-in-GroupBy-clause-mean
-run_grouping-returns-in-GroupBy-clause-mean g t c = λ S S' R.
+pub run_by_levels-returns-in-GroupBy-clause-mean : goal.run_by_levels-returns-in-GroupBy-clause-mean
+run_by_levels-returns-in-GroupBy-clause-mean g t c = λ S S' R.
     let x = c.args.context.now in
     let l = c.args.rows.now in
     let ks = keys_of c.in-GroupBy.keys in
@@ -882,8 +885,8 @@ run_grouping-returns-in-GroupBy-clause-mean g t c = λ S S' R.
     let u = levels-found c.in_ok-levels-in-GroupBy.levels (step-runs-on e refl R) c.in_ok-levels-in-GroupBy.ensures.levels c.as_slice.ensures.value in
     step-mean-on x S e refl ∙ u.rows ∙ ap Some (sym c.in_ok-key_rows-in-None.ensures.rows)
 
-pub run_grouping-returns-in_err-key_rows-in-None-clause-steps : goal.run_grouping-returns-in_err-key_rows-in-None-clause-steps
-run_grouping-returns-in_err-key_rows-in-None-clause-steps g t c = λ S S' R.
+pub run_by_levels-returns-in_err-key_rows-in-None-clause-steps : goal.run_by_levels-returns-in_err-key_rows-in-None-clause-steps
+run_by_levels-returns-in_err-key_rows-in-None-clause-steps g t c = λ S S' R.
     let x = c.args.context.now in
     let l = c.args.rows.now in
     let ks = keys_of c.in-GroupBy.keys in
@@ -895,11 +898,11 @@ run_grouping-returns-in_err-key_rows-in-None-clause-steps g t c = λ S S' R.
     let whole = step-cost-on x S {l = l} e refl in
     omega (arith, found, spent, least, whole)
 
-pub run_grouping-returns-in_err-key_rows-in-None-clause-grown : goal.run_grouping-returns-in_err-key_rows-in-None-clause-grown
-run_grouping-returns-in_err-key_rows-in-None-clause-grown g t c = omega (arith, c.grouping_levels.ensures.grown, c.key_rows.ensures.grown)
+pub run_by_levels-returns-in_err-key_rows-in-None-clause-grown : goal.run_by_levels-returns-in_err-key_rows-in-None-clause-grown
+run_by_levels-returns-in_err-key_rows-in-None-clause-grown g t c = omega (arith, c.grouping_levels.ensures.grown, c.key_rows.ensures.grown)
 
-pub run_grouping-returns-in-GroupBy-clause-steps : goal.run_grouping-returns-in-GroupBy-clause-steps
-run_grouping-returns-in-GroupBy-clause-steps g t c = λ S S' R.
+pub run_by_levels-returns-in-GroupBy-clause-steps : goal.run_by_levels-returns-in-GroupBy-clause-steps
+run_by_levels-returns-in-GroupBy-clause-steps g t c = λ S S' R.
     let x = c.args.context.now in
     let l = c.args.rows.now in
     let ks = keys_of c.in-GroupBy.keys in
@@ -911,8 +914,8 @@ run_grouping-returns-in-GroupBy-clause-steps g t c = λ S S' R.
     let whole = step-cost-on x S {l = l} e refl in
     omega (arith, found, spent, least, whole)
 
-pub run_grouping-returns-in-GroupBy-clause-grown : goal.run_grouping-returns-in-GroupBy-clause-grown
-run_grouping-returns-in-GroupBy-clause-grown g t c = omega (arith, c.grouping_levels.ensures.grown, c.key_rows.ensures.grown)
+pub run_by_levels-returns-in-GroupBy-clause-grown : goal.run_by_levels-returns-in-GroupBy-clause-grown
+run_by_levels-returns-in-GroupBy-clause-grown g t c = omega (arith, c.grouping_levels.ensures.grown, c.key_rows.ensures.grown)
 
 -- ---- a selection
 
@@ -1695,6 +1698,183 @@ grouping_levels-returns-clause-levels g t c =
     let x = c.args.context.now in
     let flat = all-flat c.args.keys.now c.as_slice-items.result.now c.loop-key.key-index c.as_slice-items.ensures.value (omega (arith, c.loop-key-test.false)) (c.loop-key.invariant).0 in
     flat-gives c.levels_of.result x.world (readings x.customs) (keys_of c.args.keys.now) c.args.rows.now flat c.levels_of.ensures
+
+-- ---- a recursive rollup with an aggregation alone
+
+pub run_totals-run_shown-requires-clause-there : goal.run_totals-run_shown-requires-clause-there
+run_totals-run_shown-requires-clause-there g t c κs within =
+    let x = c.args.context.now in
+    let h = hier_of c.args.totals.now.hier.now in
+    let p = c.args.totals.now.path.now in
+    let T = inner_of (option_map pipe_of c.args.shown.now) in
+    let items = map agg_of c.args.totals.now.items.now in
+    let r = c.requires.ready in
+    let u = found-key x h p T items c.args.root.now r.0 r.1 c.args.rows.now r.2 in
+    ap is_some u.at
+
+pub run_totals-run_shown-requires-clause-index : goal.run_totals-run_shown-requires-clause-index
+run_totals-run_shown-requires-clause-index g t c κs within =
+    let x = c.args.context.now in
+    let h = hier_of c.args.totals.now.hier.now in
+    let p = c.args.totals.now.path.now in
+    let T = inner_of (option_map pipe_of c.args.shown.now) in
+    let items = map agg_of c.args.totals.now.items.now in
+    hier-ready x h p T items c.requires.named
+
+pub run_totals-run_shown-requires-clause-ready : goal.run_totals-run_shown-requires-clause-ready
+run_totals-run_shown-requires-clause-ready g t c κs within =
+    let x = c.args.context.now in
+    let h = hier_of c.args.totals.now.hier.now in
+    let p = c.args.totals.now.path.now in
+    let T = inner_of (option_map pipe_of c.args.shown.now) in
+    let items = map agg_of c.args.totals.now.items.now in
+    let r = c.requires.ready in
+    let u = found-key x h p T items c.args.root.now r.0 r.1 c.args.rows.now r.2 in
+    u.shown
+
+pub run_totals-run_shown-requires-clause-named : goal.run_totals-run_shown-requires-clause-named
+run_totals-run_shown-requires-clause-named g t c κs within =
+    let x = c.args.context.now in
+    let h = hier_of c.args.totals.now.hier.now in
+    let p = c.args.totals.now.path.now in
+    let T = inner_of (option_map pipe_of c.args.shown.now) in
+    let items = map agg_of c.args.totals.now.items.now in
+    (key-named x h p T items c.requires.named).0
+
+pub run_totals-returns-in_err-shown-clause-mean : goal.run_totals-returns-in_err-shown-clause-mean
+run_totals-returns-in_err-shown-clause-mean g t c = λ S S' R.
+    let x = c.args.context.now in
+    let h = hier_of c.args.totals.now.hier.now in
+    let p = c.args.totals.now.path.now in
+    let T = inner_of (option_map pipe_of c.args.shown.now) in
+    let items = map agg_of c.args.totals.now.items.now in
+    let u = found-key x h p T items c.args.root.now S S' c.args.rows.now R in
+    let q = err_from_is_err_and c.from_residual.result c.from_residual.ensures.1 in
+    rw (q.1, q.2) (totals-err x h p T items c.args.root.now S S' c.args.rows.now R u.place u.at c.in_err-shown.field-0.0 (c.in_err-shown.ensures.shown u.place u.at))
+
+pub run_totals-returns-in_err-shown-clause-steps : goal.run_totals-returns-in_err-shown-clause-steps
+run_totals-returns-in_err-shown-clause-steps g t c = λ S S' R.
+    let x = c.args.context.now in
+    let h = hier_of c.args.totals.now.hier.now in
+    let p = c.args.totals.now.path.now in
+    let T = inner_of (option_map pipe_of c.args.shown.now) in
+    let items = map agg_of c.args.totals.now.items.now in
+    let u = found-key x h p T items c.args.root.now S S' c.args.rows.now R in
+    let spent = c.run_shown.ensures.steps u.place u.at in
+    let least = totals-least x h p T items c.args.root.now S S' c.args.rows.now R u.place u.at in
+    omega (arith, spent, least)
+
+pub run_totals-returns-in_err-shown-clause-grown : goal.run_totals-returns-in_err-shown-clause-grown
+run_totals-returns-in_err-shown-clause-grown g t c = omega (arith, c.run_shown.ensures.grown)
+
+pub run_totals-total_rows-requires-clause-of : goal.run_totals-total_rows-requires-clause-of
+run_totals-total_rows-requires-clause-of g t c κs within =
+    let r = c.requires.ready in
+    all-fit-of c.args.context.now.world r.0 c.args.rows.now (r.2).runs.fit
+
+pub run_totals-total_rows-requires-clause-there : goal.run_totals-total_rows-requires-clause-there
+run_totals-total_rows-requires-clause-there g t c κs within =
+    let x = c.args.context.now in
+    let h = hier_of c.args.totals.now.hier.now in
+    let p = c.args.totals.now.path.now in
+    let T = inner_of (option_map pipe_of c.args.shown.now) in
+    let items = map agg_of c.args.totals.now.items.now in
+    let r = c.requires.ready in
+    let u = found-key x h p T items c.args.root.now r.0 r.1 c.args.rows.now r.2 in
+    ap is_some u.at
+
+pub run_totals-total_rows-requires-clause-index : goal.run_totals-total_rows-requires-clause-index
+run_totals-total_rows-requires-clause-index g t c κs within =
+    let x = c.args.context.now in
+    let h = hier_of c.args.totals.now.hier.now in
+    let p = c.args.totals.now.path.now in
+    let T = inner_of (option_map pipe_of c.args.shown.now) in
+    let items = map agg_of c.args.totals.now.items.now in
+    hier-ready x h p T items c.requires.named
+
+pub run_totals-total_rows-requires-clause-shown : goal.run_totals-total_rows-requires-clause-shown
+run_totals-total_rows-requires-clause-shown g t c κs within = λ f at. subst (AreNodesBelow (count c.args.context.now.world f.set)) (sym c.as_slice.ensures.value) (c.in_ok-shown.ensures.within f at)
+
+pub run_totals-total_rows-requires-clause-ready : goal.run_totals-total_rows-requires-clause-ready
+run_totals-total_rows-requires-clause-ready g t c κs within =
+    let x = c.args.context.now in
+    let h = hier_of c.args.totals.now.hier.now in
+    let p = c.args.totals.now.path.now in
+    let T = inner_of (option_map pipe_of c.args.shown.now) in
+    let items = map agg_of c.args.totals.now.items.now in
+    let r = c.requires.ready in
+    totals-ready x c.args.root.now r.0 r.1 h p T items c.args.rows.now (subst IsLoaded c.store.ensures.value c.data_is_loaded.ensures.value) r.2
+
+pub run_totals-returns-clause-mean : goal.run_totals-returns-clause-mean
+run_totals-returns-clause-mean g t c = λ S S' R.
+    let x = c.args.context.now in
+    let h = hier_of c.args.totals.now.hier.now in
+    let p = c.args.totals.now.path.now in
+    let T = inner_of (option_map pipe_of c.args.shown.now) in
+    let items = map agg_of c.args.totals.now.items.now in
+    let u = found-key x h p T items c.args.root.now S S' c.args.rows.now R in
+    totals-gives x h p T items c.args.root.now S S' c.args.rows.now R u.place u.at c.as_slice.result.now (c.in_ok-shown.ensures.shown u.place u.at ∙ ap Some (sym c.as_slice.ensures.value)) c.total_rows.result (c.total_rows.ensures.rows u.place S u.at R.root_is)
+
+pub run_totals-returns-clause-steps : goal.run_totals-returns-clause-steps
+run_totals-returns-clause-steps g t c = λ S S' R.
+    let x = c.args.context.now in
+    let h = hier_of c.args.totals.now.hier.now in
+    let p = c.args.totals.now.path.now in
+    let T = inner_of (option_map pipe_of c.args.shown.now) in
+    let items = map agg_of c.args.totals.now.items.now in
+    let u = found-key x h p T items c.args.root.now S S' c.args.rows.now R in
+    let chosen = c.run_shown.ensures.steps u.place u.at in
+    let made = c.total_rows.ensures.steps u.place S u.at R.root_is in
+    let least = totals-spent x h p T items c.args.root.now S S' c.args.rows.now R u.place u.at c.as_slice.result.now (c.in_ok-shown.ensures.shown u.place u.at ∙ ap Some (sym c.as_slice.ensures.value)) in
+    omega (arith, chosen, made, least)
+
+pub run_totals-returns-clause-grown : goal.run_totals-returns-clause-grown
+run_totals-returns-clause-grown g t c = omega (arith, c.run_shown.ensures.grown, c.total_rows.ensures.grown)
+
+-- ---- either way
+
+pub run_grouping-run_totals-requires-clause-ready : goal.run_grouping-run_totals-requires-clause-ready
+run_grouping-run_totals-requires-clause-ready g t c κs within =
+    let r = c.requires.ready in
+    let k = c.in-Some.totals in
+    let same = shown-same c.args.step.now c.in-GroupBy.keys c.in-GroupBy.field-1 c.index-items-0.result c.in-Recursive.field-0 c.in-Recursive.field-1 c.in-Recursive.shown (hier_of k.hier.now) k.path.now (inner_of (option_map pipe_of k.shown.now)) (map agg_of k.items.now)
+    (ap step_of c.in-GroupBy.is ∙ step_of-GroupBy c.in-GroupBy.keys c.in-GroupBy.field-1) c.in-Some.ensures
+    (ap (λ ks. slice_get ks 0) (sym c.as_slice-items.ensures.value) ∙ slice-at c.as_slice-items.result.now 0 c.index-items-0.result (omega (arith, c.if-items-eq0.false)) c.index-items-0.is)
+    (ap key_of c.in-Recursive.is ∙ key_of-Recursive c.in-Recursive.field-0 c.in-Recursive.field-1 c.in-Recursive.shown) in
+    let e = c.in-Some.ensures ∙ ap (λ o. totals_step (hier_of k.hier.now) k.path.now o (map agg_of k.items.now)) (sym same) in
+    (r.0, r.1, subst (λ s. StepRunsFrom c.args.context.now c.args.root.now r.0 r.1 s c.args.rows.now) e r.2)
+
+pub run_grouping-run_totals-requires-clause-named : goal.run_grouping-run_totals-requires-clause-named
+run_grouping-run_totals-requires-clause-named g t c κs within =
+    let k = c.in-Some.totals in
+    let same = shown-same c.args.step.now c.in-GroupBy.keys c.in-GroupBy.field-1 c.index-items-0.result c.in-Recursive.field-0 c.in-Recursive.field-1 c.in-Recursive.shown (hier_of k.hier.now) k.path.now (inner_of (option_map pipe_of k.shown.now)) (map agg_of k.items.now)
+    (ap step_of c.in-GroupBy.is ∙ step_of-GroupBy c.in-GroupBy.keys c.in-GroupBy.field-1) c.in-Some.ensures
+    (ap (λ ks. slice_get ks 0) (sym c.as_slice-items.ensures.value) ∙ slice-at c.as_slice-items.result.now 0 c.index-items-0.result (omega (arith, c.if-items-eq0.false)) c.index-items-0.is)
+    (ap key_of c.in-Recursive.is ∙ key_of-Recursive c.in-Recursive.field-0 c.in-Recursive.field-1 c.in-Recursive.shown) in
+    let e = c.in-Some.ensures ∙ ap (λ o. totals_step (hier_of k.hier.now) k.path.now o (map agg_of k.items.now)) (sym same) in
+    subst (λ s. AreReady c.args.context.now (step_hierarchies s)) e c.requires.named
+
+pub run_grouping-returns-in-Recursive-clause-mean : goal.run_grouping-returns-in-Recursive-clause-mean
+run_grouping-returns-in-Recursive-clause-mean g t c = λ S S' R.
+    let k = c.in-Some.totals in
+    let same = shown-same c.args.step.now c.in-GroupBy.keys c.in-GroupBy.field-1 c.index-items-0.result c.in-Recursive.field-0 c.in-Recursive.field-1 c.in-Recursive.shown (hier_of k.hier.now) k.path.now (inner_of (option_map pipe_of k.shown.now)) (map agg_of k.items.now)
+    (ap step_of c.in-GroupBy.is ∙ step_of-GroupBy c.in-GroupBy.keys c.in-GroupBy.field-1) c.in-Some.ensures
+    (ap (λ ks. slice_get ks 0) (sym c.as_slice-items.ensures.value) ∙ slice-at c.as_slice-items.result.now 0 c.index-items-0.result (omega (arith, c.if-items-eq0.false)) c.index-items-0.is)
+    (ap key_of c.in-Recursive.is ∙ key_of-Recursive c.in-Recursive.field-0 c.in-Recursive.field-1 c.in-Recursive.shown) in
+    let e = c.in-Some.ensures ∙ ap (λ o. totals_step (hier_of k.hier.now) k.path.now o (map agg_of k.items.now)) (sym same) in
+    subst (Gives c.run_totals.result) (sym (step-mean-on c.args.context.now S {l = c.args.rows.now} e refl)) (c.run_totals.ensures.mean S S' (step-runs-on e refl R))
+
+pub run_grouping-returns-in-Recursive-clause-steps : goal.run_grouping-returns-in-Recursive-clause-steps
+run_grouping-returns-in-Recursive-clause-steps g t c = λ S S' R.
+    let k = c.in-Some.totals in
+    let same = shown-same c.args.step.now c.in-GroupBy.keys c.in-GroupBy.field-1 c.index-items-0.result c.in-Recursive.field-0 c.in-Recursive.field-1 c.in-Recursive.shown (hier_of k.hier.now) k.path.now (inner_of (option_map pipe_of k.shown.now)) (map agg_of k.items.now)
+    (ap step_of c.in-GroupBy.is ∙ step_of-GroupBy c.in-GroupBy.keys c.in-GroupBy.field-1) c.in-Some.ensures
+    (ap (λ ks. slice_get ks 0) (sym c.as_slice-items.ensures.value) ∙ slice-at c.as_slice-items.result.now 0 c.index-items-0.result (omega (arith, c.if-items-eq0.false)) c.index-items-0.is)
+    (ap key_of c.in-Recursive.is ∙ key_of-Recursive c.in-Recursive.field-0 c.in-Recursive.field-1 c.in-Recursive.shown) in
+    let e = c.in-Some.ensures ∙ ap (λ o. totals_step (hier_of k.hier.now) k.path.now o (map agg_of k.items.now)) (sym same) in
+    let spent = c.run_totals.ensures.steps S S' (step-runs-on e refl R) in
+    let whole = step-cost-on c.args.context.now S {l = c.args.rows.now} e refl in
+    omega (arith, spent, whole)
 
 -- ---- the nodes that are shown
 
