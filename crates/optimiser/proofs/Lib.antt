@@ -1,3 +1,4 @@
+mod ApartLemmas
 mod FactorLemmas
 mod PlanSteps
 mod PlanTurns

@@ -16,9 +16,10 @@ use Rattle.context_typing.proofs.LawfulShapes.{own_is_lawful}
 use Rattle.rewrite_laws.specs.RewriteLaws.{IsTypedFrom, MayStandFor}
 use Rattle.rewrite_laws.specs.Rewrites.{IsPlanOf, first_rewrite, next, rewritten}
 use Rattle.rewrite_laws.proofs.PlanEnds.{plan_of_next, plan_of_settled, rewrites_left, rewrites_left-next}
+use Rattle.walk_laws.specs.Apart.{stays_apart}
 use Rattle.walk_laws.specs.Factored.{factored, pipe_rests}
-use Rattle.walk_laws.specs.Walks.{All, Early, is_unbranched, rules_of, walk}
-use Rattle.walk_laws.specs.WalkLaws.{EarlyWalkIsPlan, EarlyWalkKeepsMeaning, FactoringIsRewriting, IsFactored, LaterRulesFollow, WalkIsPlan, next_by, rewritten_by}
+use Rattle.walk_laws.specs.Walks.{All, Early, rules_of, walk}
+use Rattle.walk_laws.specs.WalkLaws.{ApartWalkIsPlan, EarlyWalkIsPlan, EarlyWalkKeepsMeaning, FactoringIsRewriting, IsFactored, LaterRulesFollow, next_by, rewritten_by}
 use Rattle.optimiser.specs.Plans.{IsFirstOf, IsTurn, IsTypedPlan, IsWalked, IsWithFactored, later_rules}
 use Rattle.optimiser.proofs.PlanSteps.{found-append, typing-kept}
 
@@ -36,14 +37,14 @@ module _ (m : Model) (c : Customs) where
       let P : Pipe → Type 0 = λ p. MayStandFor IsLoaded m c S t.shape (pipe_of t.pipe) p in
       typing-kept m c t q w.set w.shape (subst P (sym w.pipe) (law m c S t.shape (pipe_of t.pipe) (typed-from t customs typing)))
 
-  -- where there is no concatenation the walk by all rules makes the plan
-  pub walk-plan : (t q : Typed) → WalkIsPlan → IsTrue (customs_typed m c) → IsTyping m c t → IsTrue (is_unbranched (pipe_of t.pipe)) → IsWalked All m c t q → IsTypedPlan m c t q
-  walk-plan t q law customs typing flat w =
+  -- where concatenations stay apart the walk by all rules makes the plan
+  pub walk-plan : (t q : Typed) → ApartWalkIsPlan → IsTrue (customs_typed m c) → IsTyping m c t → IsTrue (stays_apart (pipe_of t.pipe)) → IsWalked All m c t q → IsTypedPlan m c t q
+  walk-plan t q law customs typing apart w =
       let S = shape_of_set m t.set in
       record {
         set = w.set;
         shape = w.shape;
-        pipe = subst (IsPlanOf m c S (pipe_of t.pipe)) (sym w.pipe) (law m c S t.shape (pipe_of t.pipe) (typed-from t customs typing) flat);
+        pipe = subst (IsPlanOf m c S (pipe_of t.pipe)) (sym w.pipe) (law m c S t.shape (pipe_of t.pipe) (typed-from t customs typing) apart);
       }
 
   -- ---- rewrites, one after the other

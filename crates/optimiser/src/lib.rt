@@ -12,11 +12,12 @@
 //! applies to it, and it means the same, refusal included, and names no other hierarchy (`meaning`).
 //!
 //! A plan is not made rewrite by rewrite. `walk_laws` defines a walk over a pipeline, and has the laws by which `plans` uses it: a
-//! pipeline without a concatenation becomes its plan in one walk by all rules. Any other is settled in one walk by the rules that
-//! come first; where its filters rest then, all steps that come out of branches are put before their concatenations; then comes one
-//! rewrite by a later rule, and the walk again, until no rule applies. `next_rewrite` makes one rewrite, for comparisons.
+//! pipeline becomes its plan in one walk by all rules where two branches of each concatenation begin with different steps for good,
+//! as where there is no concatenation. Any other is settled in one walk by the rules that come first; where its filters rest then,
+//! all steps that come out of branches are put before their concatenations; then comes one rewrite by a later rule, and the walk
+//! again, until no rule applies. `next_rewrite` makes one rewrite, for comparisons.
 //!
-//! `plans` has the plan, `walking` the walk, `unbranched` whether a pipeline has a concatenation, `resting` whether its filters
+//! `plans` has the plan, `walking` the walk, `apart` whether branches begin with different steps for good, `resting` whether filters
 //! rest, `factoring` the steps that come out of branches, and `rewriting` the one rewrite. Below `walking`, `known` has what is
 //! known of the steps of a pipeline before a walk comes to them: the shapes at the ends of branches, and those behind steps that
 //! hold pipelines, so that no branch is typed again. `held` has the segments of a walk, a step with the filters behind it;
@@ -25,6 +26,7 @@
 //! and `inside` laws of what is typed and known inside a typed step.
 #![tactic(auto)]
 
+mod apart;
 mod ends;
 mod factoring;
 mod heads;
@@ -38,7 +40,6 @@ mod resting;
 mod rewriting;
 mod rules;
 mod stepping;
-mod unbranched;
 mod walking;
 
 pub use plans::{Plan, optimise};

@@ -14,19 +14,19 @@ ghost use Rattle.walk_laws.specs.Walks as walks;
 ghost use Rattle.optimiser.specs.Plans.{AreOneTyping, IsPlan, IsTurn, IsTypedPlan, IsWalked, IsWithFactored, own_of, written_of};
 ghost use Rattle.optimiser.specs.WalkRules.{rules_named};
 
+use crate::apart::stays_apart;
 use crate::factoring::factored;
 use crate::resting::pipe_rests;
 use crate::rewriting::later_rewrite;
 use crate::rules::Rules;
-use crate::unbranched::is_unbranched;
 use crate::walking::walk;
 use apply_ast::Pipe;
 use context_typing::{Customs, Typed, set_shape};
 use edm_model::Model;
 use std::alloc::{AllocError, Global};
 use walk_laws::{
-    early_walk_is_plan, early_walk_keeps_meaning, factoring_is_rewriting, later_rules_follow,
-    walk_is_plan,
+    apart_walk_is_plan, early_walk_is_plan, early_walk_keeps_meaning, factoring_is_rewriting,
+    later_rules_follow,
 };
 
 /// A pipeline that was written, and the pipeline that is run in its place. Where nothing is in its place, it is run itself.
@@ -133,8 +133,8 @@ fn turned(alloc: Global, m: &Model, c: &Customs, t: &Typed) -> Result<Typed, All
     Ok(walked)
 }
 
-/// The plan of a typed pipeline. One walk by all rules makes it of a pipeline without a concatenation. Any other is settled by the
-/// rules that come first, and again behind each rewrite by a later rule, until none applies.
+/// The plan of a typed pipeline. One walk by all rules makes it where the branches of concatenations stay apart. Any other is settled
+/// by the rules that come first, and again behind each rewrite by a later rule, until none applies.
 fn planned(alloc: Global, m: &Model, c: &Customs, t: &Typed) -> Result<Typed, AllocError>
     requires set { IsSet m.now t.now.set }
     requires customs { AreTypedOver m.now c.now }
@@ -142,8 +142,8 @@ fn planned(alloc: Global, m: &Model, c: &Customs, t: &Typed) -> Result<Typed, Al
     requires typing { IsTyping m.now (readings c.now) t.now }
     ensures { IfOk result (IsTypedPlan m.now (readings c.now) t.now) }
 {
-    walk_is_plan();
-    if is_unbranched(&t.pipe) {
+    apart_walk_is_plan();
+    if stays_apart(&t.pipe) {
         return walked(alloc, m, c, Rules::All, t);
     }
     let mut current = turned(alloc, m, c, t)?;

@@ -41,7 +41,7 @@ fn place_behind<'a>(place: Place<'a>, step: &'a Step) -> Place<'a>
 }
 
 /// Whether a filter is neither split nor always true.
-fn is_one(e: &Expr) -> bool
+pub(crate) fn is_one(e: &Expr) -> bool
     ensures { result ≡ spec.is_one (expr_of e.now) }
 {
     match e {

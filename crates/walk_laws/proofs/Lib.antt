@@ -1,3 +1,7 @@
+mod ApartPlaces
+mod ApartPlan
+mod ApartRules
+mod ApartSteps
 mod FactoredSame
 mod Factoring
 mod FilterRest

@@ -33,7 +33,7 @@ use Rattle.walk_laws.proofs.WalkRules.{aggregate-put, compute-put, count-put, id
 use Rattle.walk_laws.proofs.WalkSteps.{groups-put, join-put, nodes-put, outer_join-put, rollup-put, traverse-put}
 use Rattle.walk_laws.proofs.WalkUnbranched.{KeepsUnbranched, aggregate-kept, branches-kept, compute-kept, count-kept, factor-kept, grouping-kept, identity-kept, idle-kept, join-kept, nodes-kept, order-kept, outer_join-kept, related-kept, split-kept, traverse-kept, true-kept}
 
-first-of_two : {X : Type 0} (a b : Option X) (x : X) → first_some a b ≡ Some x → (a ≡ Some x) ⊎ ((a ≡ None) × (b ≡ Some x))
+pub first-of_two : {X : Type 0} (a b : Option X) (x : X) → first_some a b ≡ Some x → (a ≡ Some x) ⊎ ((a ≡ None) × (b ≡ Some x))
 first-of_two None b x e = inr (refl, e)
 first-of_two (Some y) b x e = inl e
 
@@ -42,7 +42,7 @@ none-of_two None b e = (refl, e)
 none-of_two (Some y) b e = none_or y (sym e)
 
 -- where a search finds nothing, no element gives anything
-found-none : {X Y : Type 0} (f : X → Option Y) (xs : List X) → find_map f xs ≡ None → (x : X) → Contains xs x → f x ≡ None
+pub found-none : {X Y : Type 0} (f : X → Option Y) (xs : List X) → find_map f xs ≡ None → (x : X) → Contains xs x → f x ≡ None
 found-none {X} {Y} f xs e x k = each-contains (λ x. f x ≡ None) xs x (go xs e) k
   where
     go : (xs : List X) → find_map f xs ≡ None → Each (λ x. f x ≡ None) xs

@@ -6,6 +6,7 @@ pub use Rattle.context_typing.specs.Typing
 pub use Rattle.apply_meaning.specs.MeaningLaws
 pub use Rattle.rewrite_laws.specs.RewriteLaws
 pub use Rattle.rewrite_laws.specs.Rewrites
+pub mod Apart
 pub mod Factored
 pub mod Walks
 pub mod WalkLaws

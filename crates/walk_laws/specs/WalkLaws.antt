@@ -8,6 +8,7 @@ use Rattle.context_typing.specs.Shapes.{Shape}
 use Rattle.context_typing.specs.Typing.{Customs}
 use Rattle.rewrite_laws.specs.RewriteLaws.{IsTypedFrom, MayStandFor}
 use Rattle.rewrite_laws.specs.Rewrites.{IsPlanOf, first_rewrite, next, rewritten, rules}
+use Rattle.walk_laws.specs.Apart.{stays_apart}
 use Rattle.walk_laws.specs.Factored.{factored, pipe_rests}
 use Rattle.walk_laws.specs.Walks.{Rules, All, Early, is_unbranched, rules_of, walk}
 
@@ -27,6 +28,10 @@ IsPlanBy w m c S p q = ((n : ℕ) × (rewritten_by n w m c S p ≡ Some q)) × (
 -- a typed pipeline without a concatenation, settled in one walk by all rules, is its plan
 abbrev pub WalkIsPlan : Type 0
 WalkIsPlan = (m : Model) (c : Customs) (S S' : Shape) (p : Pipe) → IsTypedFrom m c S S' p → IsTrue (is_unbranched p) → IsPlanOf m c S p (walk All m c S p)
+
+-- so is one whose concatenations stay apart
+abbrev pub ApartWalkIsPlan : Type 0
+ApartWalkIsPlan = (m : Model) (c : Customs) (S S' : Shape) (p : Pipe) → IsTypedFrom m c S S' p → IsTrue (stays_apart p) → IsPlanOf m c S p (walk All m c S p)
 
 -- a typed pipeline, settled in one walk by the first eight rules, is what it becomes by them
 abbrev pub EarlyWalkIsPlan : Type 0

@@ -6,13 +6,13 @@ use Rattle.optimiser.specs.Plans.{IsFirstOf, IsTypedPlan, IsWalked, later_rules}
 use Rattle.optimiser.proofs.PlanTurns.{turn-first, turn-less, turn-turned, turned-plan, walk-plan}
 use Rattle.optimiser.proofs.plans.planned.Goals as goal
 
-pub returns-then-is_unbranched : goal.returns-then-is_unbranched
-returns-then-is_unbranched c =
+pub returns-then-stays_apart : goal.returns-then-stays_apart
+returns-then-stays_apart c =
     let m = c.args.m.now in
     let cs = readings c.args.c.now in
     let t = c.args.t.now in
-    let flat = sym c.is_unbranched.ensures.value ∙ c.if-is_unbranched.true in
-    IfOk-weaker c.walked.result (IsWalked All m cs t) (IsTypedPlan m cs t) (λ q w. walk-plan m cs t q c.walk_is_plan.ensures.law c.requires.whole c.requires.typing flat w) c.walked.ensures
+    let apart = sym c.stays_apart.ensures.value ∙ c.if-stays_apart.true in
+    IfOk-weaker c.walked.result (IsWalked All m cs t) (IsTypedPlan m cs t) (λ q w. walk-plan m cs t q c.apart_walk_is_plan.ensures.law c.requires.whole c.requires.typing apart w) c.walked.ensures
 
 pub loop-current-init : goal.loop-current-init
 loop-current-init c = turn-first c.args.m.now (readings c.args.c.now) c.args.t.now c.in_ok-current.current c.in_ok-current.ensures
