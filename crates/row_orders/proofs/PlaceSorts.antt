@@ -21,7 +21,7 @@ use Rattle.apply_ast.specs.Trees.{OrderItem}
 use Rattle.apply_meaning.specs.Instances.{Instance, no_instance, val}
 use Rattle.apply_meaning.specs.Meaning.{order_before, order_values, refused_at_beyond, values}
 use Rattle.row_orders.specs.Orders.{RankedPlace, RankedRow, before, item_values, ranked}
-use Rattle.row_orders.specs.Places.{GivesNumbered, GivesOrder, numbered}
+use Rattle.row_orders.specs.Places.{ArePlacesInOrder, GivesNumbered, GivesOrder, numbered}
 use Rattle.row_orders.proofs.OrderLemmas.{before-order, values-before, values_cmp_total}
 
 -- ---- values with their places
@@ -117,3 +117,18 @@ item-refused w x l vs r e h = ap (λ b. then_some (not b) r) (ap (list_any is_be
 pub order-refused : (e : Refused) (w : World) (x : OrderItem) (l : List Instance) (vs : List Value) (r : List Instance) → vs ≡ values w x.expr l → GivesNumbered (Err e) vs → GivesOrder (Err e) l (refused_at_beyond (order_values w (x ∷ []) l) r)
 order-refused Range w x l vs r e h = item-refused w x l vs r e h
 order-refused Memory w x l vs r e h = tt
+
+-- places in order of values on instances are those of the instances in their order
+pub ordered-places : (w : World) (x : OrderItem) (l : List Instance) (vs : List Value) (zs : List RankedPlace) (places : List ℕ)
+    → vs ≡ values w x.expr l → zs ≡ numbered 0 vs → list_any is_beyond vs ≡ false → ArePlacesInOrder x zs places
+    → refused_at_beyond (order_values w (x ∷ []) l) (sorted (order_before w (x ∷ [])) l) ≡ Some (at_places l places)
+ordered-places w x l vs zs places e numbers sure o =
+    item-sure w x l vs (sorted (order_before w (x ∷ [])) l) e sure
+    ∙ ap Some (sym (places-order w x l vs e zs o.list numbers o.up o.stable))
+    ∙ ap (λ ks. Some (at_places l ks)) (sym o.are)
+
+-- and places of the list
+pub ordered-within : (x : OrderItem) (vs : List Value) (zs : List RankedPlace) (places : List ℕ)
+    → zs ≡ numbered 0 vs → ArePlacesInOrder x zs places → list_all (λ k. nat_lt k (length vs)) places ≡ true
+ordered-within x vs zs places numbers o =
+    ap (list_all (λ k. nat_lt k (length vs))) o.are ∙ places-within vs x zs o.list numbers o.up o.stable

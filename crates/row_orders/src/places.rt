@@ -8,59 +8,45 @@ ghost use Rattle.apply_meaning.specs.Instances.{Instance};
 ghost use Rattle.apply_meaning.specs.Meaning.{order_before, order_values, refused_at_beyond, values as values_on};
 ghost use Rattle.row_orders.specs.Orders as spec;
 ghost use Rattle.row_orders.specs.Orders.{first_value};
-ghost use Rattle.row_orders.specs.Places.{GivesNumbered, GivesOrder};
+ghost use Rattle.row_orders.specs.Places.{ArePlacesInOrder, GivesOrder};
 
-use crate::values::item_order;
+use crate::sort_keys::{Numbered, SortKey, decimal_keys, int_keys, seen_keys};
 use apply_ast::OrderItem;
 use apply_meaning::RunRefused;
-use edm_values::{Seen, Value};
+use edm_values::Value;
 use std::alloc::{AllocError, Global};
 use std::cmp::Ordering;
-use std::marker::Model;
-
-/// A value with its place.
-#[derive(Drop)]
-struct Numbered<'a> {
-    value: Seen<'a>,
-    place: usize,
-}
-
-impl<'a> Model for Numbered<'a> {
-    ghost use Rattle.std.specs.Prelude.{[], ◌∷◌};
-    ghost use Rattle.edm_values.specs.Values.{seen_value};
-    ghost use Rattle.row_orders.specs.Orders.{RankedPlace};
-
-    ghost Value = { RankedPlace };
-
-    ghost view = { λ r. (seen_value r.value ∷ [], r.place) };
-}
-
-/// The values with their places.
-fn numbered_values<'a>(alloc: Global, values: &'a [Value]) -> Result<Vec<Numbered<'a>>, RunRefused>
-    ensures { GivesNumbered result values.now }
-{
-    let mut numbered = Vec::with_capacity(alloc, values.len())?;
-    for (place, value) in values.iter().enumerate() {
-        match value.seen() {
-            Seen::Beyond => return Err(RunRefused::Range),
-            value => numbered.push(Numbered { value, place })?,
-        }
-    }
-    Ok(numbered)
-}
 
 /// The places alone.
-fn places_alone(alloc: Global, numbered: &[Numbered<'_>]) -> Result<Vec<usize>, AllocError>
-    ensures { IfOk result (λ places. places.items ≡ map (λ x. x.1) numbered.now) }
+fn places_alone<K: SortKey>(alloc: Global, keys: &[Numbered<K>]) -> Result<Vec<usize>, AllocError>
+    ensures { IfOk result (λ places. places.items ≡ map (λ x. x.1) keys.now) }
 {
-    let mut places = Vec::with_capacity(alloc, numbered.len())?;
-    for one in numbered {
+    let mut places = Vec::with_capacity(alloc, keys.len())?;
+    for one in keys {
         places.push(one.place)?;
     }
     Ok(places)
 }
 
-/// The places of instances in the order of an item that has these values on them; those that tie stand as before.
+/// The places of the values in the order of an item; those that tie stand as before.
+fn places_in_order<K: SortKey>(
+    alloc: Global,
+    item: &OrderItem,
+    keys: Vec<Numbered<K>>,
+) -> Result<Vec<usize>, AllocError>
+    ensures { IfOk result (λ places. ArePlacesInOrder (item_of item.now) keys.items places.items) }
+{
+    let mut keys = keys;
+    keys.sort_by(
+        |a: &Numbered<K>, b: &Numbered<K>| -> Ordering
+            ensures { result ≡ spec.item_cmp item.entry.now.desc (first_value (a.now).0) (first_value (b.now).0) }
+        { a.key.order(&b.key, item.desc) },
+    )?;
+    Ok(places_alone(alloc, keys.as_slice())?)
+}
+
+/// The places of instances in the order of an item that has these values on them; those that tie stand as before. Integers alone,
+/// and decimals alone, are sorted as such.
 pub fn item_places(
     alloc: Global,
     item: &OrderItem,
@@ -70,11 +56,12 @@ pub fn item_places(
         → let xs = item_of item.now ∷ [] in GivesOrder result l (refused_at_beyond (order_values w xs l) (sorted (order_before w xs) l)) }
     ensures within { IfOk result (λ places. IsTrue (list_all (λ k. nat_lt k (length values.now)) places.items)) }
 {
-    let mut numbered = numbered_values(alloc, values)?;
-    numbered.sort_by(
-        |a: &Numbered<'_>, b: &Numbered<'_>| -> Ordering
-            ensures { result ≡ spec.item_cmp item.entry.now.desc (first_value (a.now).0) (first_value (b.now).0) }
-        { item_order(item, a.value, b.value) },
-    )?;
-    Ok(places_alone(alloc, numbered.as_slice())?)
+    if let Some(keys) = int_keys(alloc, values)? {
+        return Ok(places_in_order(alloc, item, keys)?);
+    }
+    if let Some(keys) = decimal_keys(alloc, values)? {
+        return Ok(places_in_order(alloc, item, keys)?);
+    }
+    let keys = seen_keys(alloc, values)?;
+    Ok(places_in_order(alloc, item, keys)?)
 }
