@@ -1,8 +1,8 @@
 //! Frames: lists of instances that are kept by columns.
-ghost use Rattle.std.specs.Prelude.{◌≡◌, ◌+◌, ◌≤◌, ◌<◌, ◌++◌, [], ℕ, List, IsTrue, IfOk, IfSome, true, filter, get_or, length, map, nat_lt, take, drop};
-ghost use Rattle.std.specs.List.{All, list_all};
+ghost use Rattle.std.specs.Prelude.{◌≡◌, ◌+◌, ◌≤◌, ◌<◌, ◌++◌, [], ℕ, List, IsTrue, IfOk, IfSome, false, true, filter, get_or, length, map, nat_lt, take, drop};
+ghost use Rattle.std.specs.List.{All, list_all, list_any};
 ghost use Rattle.edm_values.specs.Lists.{at_places};
-ghost use Rattle.edm_values.specs.Values.{is_value, seen_value};
+ghost use Rattle.edm_values.specs.Values.{is_beyond, is_value, seen_value};
 ghost use Rattle.edm_model.specs.LookUps.{IsSet};
 ghost use Rattle.apply_ast.specs.Views.{expr_of, named_of};
 ghost use Rattle.apply_meaning.specs.Instances as meaning;
@@ -10,10 +10,12 @@ ghost use Rattle.apply_meaning.specs.Instances.{extended, no_instance, root_of, 
 ghost use Rattle.apply_meaning.specs.Meaning.{key_list, values, refused_at_beyond};
 ghost use Rattle.apply_meaning.specs.Running.{all_free, all_of, new_columns as columns_of};
 ghost use Rattle.row_frames.specs.Frames as spec;
-ghost use Rattle.row_frames.specs.Keys.{key_columns, seen_columns};
+ghost use Rattle.row_frames.specs.Keys.{key_column, key_columns, seen_columns};
 ghost use Rattle.row_frames.specs.Own.{IsOwn};
+ghost use Rattle.value_codes.specs.Codes.{AreCodes};
 
 use crate::chosen::picks_at;
+use crate::codes::codes_of;
 use crate::computed::{computed_tables, new_columns, rows_in_order};
 use crate::frame_readers::{FrameReader, reader_over};
 use crate::joined::{copied_picks, joined_picks, joined_tables, shared_tables};
@@ -35,6 +37,7 @@ use std::alloc::{AllocError, Global};
 use std::marker::Model;
 use std::sync::ledger::Ledger;
 use std::thread::Threads;
+use value_codes::Codes;
 
 /// A list of instances: tables, and the rows of these that are picked, in their order.
 #[derive(Debug, Drop)]
@@ -266,6 +269,32 @@ impl Frame {
         ensures value { IfSome result (λ o. All (IsOwn store.now path.now o.0 o.1.at) self.now) }
     {
         property_of(store, self.tables.as_slice(), path)
+    }
+
+    /// Numbers in place of the values of a path on the instances, where it is a property by which the entities of one set refer to
+    /// others: 0 of null, and else one more than the place of what the entity refers to.
+    pub fn codes<R: Threads + Sync>(
+        &self,
+        rt: &R,
+        alloc: Global,
+        store: &Data,
+        path: &Path,
+        workers: u32,
+    ) -> Result<Option<Codes>, AllocError>
+        requires some { 0 < workers }
+        requires of { IsTrue (all_of store.now self.now) }
+        ensures value { IfOk result (λ o. IfSome o (AreCodes (key_column store.now self.now path.now))) }
+        ensures within { IfOk result (λ o. IfSome o (λ _. list_any is_beyond (key_column store.now self.now path.now) ≡ false)) }
+    {
+        codes_of(
+            rt,
+            alloc,
+            store,
+            self.tables.as_slice(),
+            self.picks.as_slice(),
+            path,
+            workers,
+        )
     }
 
     /// The instances on which the expression is true. No row is made or moved. The instances may be cut into so many parts, each for

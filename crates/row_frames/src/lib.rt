@@ -15,9 +15,11 @@
 //! nothing that is shared. Where all rows are of one table, an expression with operators is worked out block by block (`blocks`):
 //! the operands in some rows first, and then the operator on these. `reader` has the values of an expression as a list of which none
 //! is kept (`frame_readers`): one of them, or what a partial keeps of all, which are folded where they are read (`folded`).
+//! `codes` has small numbers in place of the values of a path, where this is a property by which entities refer to others
+//! (`references`): those of the places of what they refer to.
 //!
 //! The crate stands on `apply_meaning` for rows, the values of expressions and what a run returns, on `context_typing` and
-//! `apply_ast` for paths and expressions, on `par_stages` and `seen_partials` for folds, and on `edm_data`, `edm_model` and
+//! `apply_ast` for paths and expressions, on `par_stages` and `seen_partials` for folds, on `value_codes` for numbers in place of values, and on `edm_data`, `edm_model` and
 //! `edm_values` for the data.
 //!
 //! It promises that a frame is a list of instances, and that each call gives what its definition says of that list, for every number
@@ -26,6 +28,7 @@
 
 mod blocks;
 mod chosen;
+mod codes;
 mod computed;
 mod folded;
 mod frame_readers;
@@ -41,6 +44,7 @@ mod parts;
 mod picks;
 mod placed;
 mod readers;
+mod references;
 mod seen;
 mod tables;
 mod values;

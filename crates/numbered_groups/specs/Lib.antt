@@ -1,0 +1,5 @@
+pub use Rattle.value_codes.specs.Codes
+pub use Rattle.aggregate_ops.specs.KeyTables
+pub mod Found
+pub mod Levels
+pub mod Numbered

@@ -1,0 +1,87 @@
+//! Numbers in place of the values of a path in the rows that are picked.
+ghost use Rattle.std.specs.Prelude.{◌≡◌, ◌<◌, ◌+◌, IfOk, IfSome, IsTrue, false, length};
+ghost use Rattle.std.specs.List.{All, list_any};
+ghost use Rattle.edm_values.specs.Values.{is_beyond};
+ghost use Rattle.apply_meaning.specs.Running.{all_of};
+ghost use Rattle.row_frames.specs.Frames as spec;
+ghost use Rattle.row_frames.specs.Keys.{key_column};
+ghost use Rattle.row_frames.specs.LinkCodes.{IsLinkCode};
+ghost use Rattle.value_codes.specs.Above.{AreCoded};
+ghost use Rattle.value_codes.specs.Codes.{AreCodes};
+
+use crate::own::property_of;
+use crate::picks::picked_root;
+use crate::references::reference;
+use crate::tables::{Pick, Table};
+use apply_ast::Path;
+use apply_meaning::data_is_loaded;
+use edm_data::{Data, LinkedPlaces};
+use std::alloc::{AllocError, Global};
+use std::thread::Threads;
+use value_codes::Codes;
+
+/// The number of what the entity of a row that is picked refers to, which is one of so many.
+fn link_code(tables: &[Table], links: &LinkedPlaces<'_>, count: u32, pick: &Pick) -> Option<u32>
+    requires tables { All spec.IsTable tables.now }
+    requires within { pick.now.table < length tables.now }
+    ensures code { IfSome result (IsLinkCode tables.now links.now pick.now) }
+    ensures below { IfSome result (λ c. c < count + 1) }
+{
+    let root = picked_root(tables, *pick)?;
+    match links.at(root.at) {
+        Some(at) if at < count => Some(at + 1),
+        Some(_) => None,
+        None => Some(0),
+    }
+}
+
+/// The number of what the entity of each row that is picked refers to, which is one of so many.
+fn link_codes(
+    alloc: Global,
+    tables: &[Table],
+    picks: &[Pick],
+    links: &LinkedPlaces<'_>,
+    count: u32,
+) -> Result<Option<Codes>, AllocError>
+    requires tables { All spec.IsTable tables.now }
+    requires within { All (λ x. x.table < length tables.now) picks.now }
+    ensures { IfOk result (λ o. IfSome o (λ c. AreCoded (IsLinkCode tables.now links.now) picks.now c.codes)) }
+{
+    let mut codes = Vec::with_capacity(alloc, picks.len())?;
+    for pick in picks {
+        match link_code(tables, links, count, pick) {
+            Some(code) => codes.push(code)?,
+            None => return Ok(None),
+        }
+    }
+    Ok(Some(Codes::new(codes, count as usize + 1)))
+}
+
+/// The numbers of the values of a path in the rows that are picked, where it is a property of the entities of one set by which these
+/// refer to others: they are those of what the entities refer to.
+pub(crate) fn codes_of<R: Threads + Sync>(
+    _rt: &R,
+    alloc: Global,
+    store: &Data,
+    tables: &[Table],
+    picks: &[Pick],
+    path: &Path,
+    _workers: u32,
+) -> Result<Option<Codes>, AllocError>
+    requires some { 0 < _workers }
+    requires tables { All spec.IsTable tables.now }
+    requires within { All (λ x. x.table < length tables.now) picks.now }
+    requires of { IsTrue (all_of store.now (spec.all_picked tables.now picks.now)) }
+    ensures value { IfOk result (λ o. IfSome o (AreCodes (key_column store.now (spec.all_picked tables.now picks.now) path.now))) }
+    ensures within { IfOk result (λ o. IfSome o (λ _. list_any is_beyond (key_column store.now (spec.all_picked tables.now picks.now) path.now) ≡ false)) }
+{
+    let Some((set, p)) = property_of(store, tables, path) else {
+        return Ok(None);
+    };
+    data_is_loaded(store);
+    let Some((nav, count)) = reference(store, set, p) else {
+        return Ok(None);
+    };
+    let links = store.linked_places(set, nav);
+    link_codes(alloc, tables, picks, &links, count)
+}

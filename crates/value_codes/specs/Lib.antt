@@ -1,0 +1,3 @@
+pub use Rattle.edm_values.specs.Values
+pub mod Above
+pub mod Codes
