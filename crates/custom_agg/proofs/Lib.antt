@@ -3,3 +3,4 @@ pub mod FoldLemmas
 pub mod GroupResults
 pub mod NamedCustoms
 pub mod TypedCustoms
+pub mod NumberedResults

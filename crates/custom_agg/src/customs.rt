@@ -11,8 +11,9 @@ ghost use Rattle.custom_agg.specs.CustomValues.{group_results, value_by_id, Have
 
 use crate::definitions::definition;
 use crate::groups::{group_values, groups_by};
+use crate::numbered::numbered_results;
 use aggregate_ops::aggregate_values;
-use apply_ast::Expr;
+use apply_ast::{Expr, Path};
 use apply_meaning::{Row, data_is_loaded};
 use context_typing::{Customs, ReadCustom};
 use edm_data::Data;
@@ -43,6 +44,31 @@ fn over_all<R: Threads + Sync, G: Gate>(
     rows.aggregate(rt, alloc, store, e, method, workers, gate)
 }
 
+/// What a method gives on the values of an expression on the rows of each group by paths, in order of first appearance.
+fn results_by<R: Threads + Sync, G: Gate>(
+    rt: &R,
+    alloc: Global,
+    store: &Data,
+    e: &Expr,
+    method: Method,
+    paths: &[Path],
+    rows: &PlacedRows<'_>,
+    workers: u32,
+    gate: &G,
+) -> Result<Vec<Value>, AllocError>
+    requires some { 0 < workers }
+    requires few { workers ≤ 64 }
+    requires of { IsTrue (all_of store.now rows.now) }
+    requires foldable { AreFoldable method (spec.values store.now (expr_of e.now) rows.now) }
+    ensures { IfOk result (λ vs. vs.items ≡ group_results store.now (expr_of e.now) method paths.now rows.now) }
+{
+    if let Some(list) = rows.whole() {
+        return numbered_results(rt, alloc, store, e, method, paths, list, workers, gate);
+    }
+    let groups = groups_by(rt, alloc, store, paths, rows, workers, gate)?;
+    group_values(rt, alloc, store, e, method, rows, &groups, workers, gate)
+}
+
 /// What an outer method gives on the results of a method on the groups of the rows by the paths of a reading.
 fn over_groups<R: Threads + Sync, G: Gate>(
     rt: &R,
@@ -63,9 +89,8 @@ fn over_groups<R: Threads + Sync, G: Gate>(
     ensures { IfOk result (λ v. v ≡ aggregate outer (group_results store.now (expr_of read.now.of) method read.now.per rows.now)) }
 {
     let paths = read.per.as_slice();
-    let groups = groups_by(rt, alloc, store, paths, rows, workers, gate)?;
-    let results = group_values(
-        rt, alloc, store, &read.of, method, rows, &groups, workers, gate,
+    let results = results_by(
+        rt, alloc, store, &read.of, method, paths, rows, workers, gate,
     )?;
     aggregate_values(rt, alloc, outer, results.as_slice(), workers, gate)
 }

@@ -32,7 +32,7 @@ any-none [] = refl
 any-none (x ∷ l) = any-none l
 
 -- whether one of the values is, is told by columns as by rows
-any-across : (w : World) (ks : List Path) (l : List Instance) → list_any is_beyond (flat_map (key_column w l) ks) ≡ list_any is_beyond (flat_map (key_list w ks) l)
+pub any-across : (w : World) (ks : List Path) (l : List Instance) → list_any is_beyond (flat_map (key_column w l) ks) ≡ list_any is_beyond (flat_map (key_list w ks) l)
 any-across w [] l = sym (any-none l)
 any-across w (p ∷ ks) l =
     list_any-append is_beyond (key_column w l p) (flat_map (key_column w l) ks)

@@ -59,7 +59,11 @@ pub fn group<R: Threads + Sync, G: Gate>(
 }
 
 /// Copies of the key paths and of the level paths behind them.
-fn all_paths(alloc: Global, keys: &[Path], levels: &[Path]) -> Result<Vec<Path>, AllocError>
+pub(crate) fn all_paths(
+    alloc: Global,
+    keys: &[Path],
+    levels: &[Path],
+) -> Result<Vec<Path>, AllocError>
     ensures { IfOk result (λ paths. paths.items ≡ keys.now ++ levels.now) }
 {
     let mut paths = Vec::new(alloc);
@@ -74,7 +78,7 @@ fn all_paths(alloc: Global, keys: &[Path], levels: &[Path]) -> Result<Vec<Path>,
 
 /// How many values of a key list the coarsest level of a rollup goes by: those of the keys, and one more where the keys alone are
 /// no level.
-fn least_front(keys: &[Path], with_all: bool) -> usize
+pub(crate) fn least_front(keys: &[Path], with_all: bool) -> usize
     ensures { result ≡ (if with_all then length keys.now else length keys.now + 1) }
 {
     if with_all { keys.len() } else { keys.len() + 1 }

@@ -33,13 +33,13 @@ use Rattle.row_orders.specs.Ranks.{GivesNumbers}
 
 -- ---- without a recursive rollup
 
-flat-part : (ks : Keys) → are_flat_keys ks ≡ true → is_nodes (rollup_part (group_keys ks)) ≡ false
+pub flat-part : (ks : Keys) → are_flat_keys ks ≡ true → is_nodes (rollup_part (group_keys ks)) ≡ false
 flat-part Keys.NoKeys h = refl
 flat-part (Keys.MoreKeys (Key.Plain p) ks) h = flat-part ks h
 flat-part (Keys.MoreKeys (Key.Rollup all ps) ks) h = refl
 flat-part (Keys.MoreKeys (Key.Recursive x p T) ks) h = cc
 
-flat-by : (w : World) (part : RollupPart) (plain : List Path) (l : List Instance) → is_nodes part ≡ false → levels_by w part plain [] l ≡ map (level_on w l) (level_paths plain part)
+pub flat-by : (w : World) (part : RollupPart) (plain : List Path) (l : List Instance) → is_nodes part ≡ false → levels_by w part plain [] l ≡ map (level_on w l) (level_paths plain part)
 flat-by w RollupPart.NoRollup plain l h = refl
 flat-by w (RollupPart.Levels all ps) plain l h = refl
 flat-by w (RollupPart.Nodes x p) plain l h = cc

@@ -6,6 +6,8 @@ pub mod ConcatLemmas
 pub mod CostEquations
 pub mod CustomLemmas
 pub mod GroupLemmas
+pub mod GroupTotalLaws
+pub mod GroupTotalRuns
 pub mod GroupingLevels
 pub mod GroupingRun
 pub mod ItemLists
@@ -14,6 +16,7 @@ pub mod KeyParts
 pub mod KeysApart
 pub mod LevelLemmas
 pub mod LevelPlaces
+pub mod ListedColumns
 pub mod ListsInTurn
 pub mod NextItems
 pub mod NodeKeys

@@ -31,11 +31,11 @@ use Rattle.pipe_run.specs.Levels.{level_lists, level_made, node_levels}
 use Rattle.pipe_run.specs.Totals.{TotalsReady, total_row, totals, totals_at, totals_step}
 
 -- an aggregation alone
-abbrev alone : List AggItem → Pipe
+abbrev pub alone : List AggItem → Pipe
 alone items = Pipe.Then (Step.Aggregate items) Pipe.End
 
 -- the row that it makes
-abbrev made_of : World → Customs → Shape → List AggItem → List Instance → Instance
+abbrev pub made_of : World → Customs → Shape → List AggItem → List Instance → Instance
 made_of w c S items l = record no_instance { columns = map (item_value w c S l) items }
 
 pub alone-mean : (w : World) (c : Customs) (S : Shape) (items : List AggItem) (l : List Instance) → mean w c S (alone items) l ≡ Some (made_of w c S items l ∷ [])

@@ -17,6 +17,7 @@ pub use Rattle.rollup_rec.specs.Rollups
 pub mod Conditions
 pub mod Contexts
 pub mod Costs
+pub mod GroupTotals
 pub mod Hierarchies
 pub mod ItemLists
 pub mod Levels

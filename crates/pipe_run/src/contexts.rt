@@ -1,22 +1,24 @@
 //! What a run works with.
 ghost use Rattle.std.specs.Prelude.{◌≡◌, ◌++◌, ◌+◌, ◌<◌, ◌≤◌, All, Some, IfOk, IfSome, IsTrue, is_some, filter, length, map, nat_lt, true};
 ghost use Rattle.std.specs.List.{list_all};
-ghost use Rattle.edm_values.specs.Lists.{at_places};
+ghost use Rattle.edm_values.specs.Lists.{at_places, places};
 ghost use Rattle.edm_values.specs.Values.{is_value};
 ghost use Rattle.edm_model.specs.LookUps.{HierarchyPlace, IsCustom, IsSet};
 ghost use Rattle.edm_data.specs.Nodes.{parents_of};
 ghost use Rattle.apply_ast.specs.Views.{expr_of, hier_of, named_of};
 ghost use Rattle.context_typing.specs.Readings.{AreTypedOver, readings, typed_at};
-ghost use Rattle.context_typing.specs.Typing.{customs_typed, hierarchy_at};
+ghost use Rattle.context_typing.specs.Typing.{RollupPart, customs_typed, hierarchy_at};
 ghost use Rattle.apply_meaning.specs.Aggregates as aggregates;
 ghost use Rattle.apply_meaning.specs.Instances.{extended, val};
-ghost use Rattle.apply_meaning.specs.Meaning.{key_list, refused_at_beyond, values};
+ghost use Rattle.apply_meaning.specs.Meaning.{key_list, level_paths, refused_at_beyond, values};
 ghost use Rattle.apply_meaning.specs.Running.{Gives, all_free, all_of, new_columns};
 ghost use Rattle.aggregate_ops.specs.KeyTables.{HasWidth};
 ghost use Rattle.aggregate_ops.specs.Partials.{AreFoldable};
 ghost use Rattle.custom_agg.specs.CustomValues.{value_by_id, HaveRoot};
 ghost use Rattle.group_rollup.specs.Groupings.{groups, level_groups, GivesFor};
+ghost use Rattle.group_rollup.specs.NumberedBy.{AreNumberedBy, AreNumberedByEach};
 ghost use Rattle.hier_states.specs.States.{IsReadyAt};
+ghost use Rattle.numbered_groups.specs.Numbered.{places_with};
 ghost use Rattle.rollup_rec.specs.Rollups.{rolled, width_of};
 
 use aggregate_ops::{Groups, aggregate_places, aggregate_values};
@@ -27,9 +29,10 @@ use custom_agg::custom_at;
 use edm_data::Data;
 use edm_model::CustomId;
 use edm_values::{Method, Value};
-use group_rollup::{group_list, list_keys, rollup_list};
+use group_rollup::{group_list, list_keys, numbered_levels, numbered_list, rollup_list};
 use hier_index::Index;
 use hier_states::{HierState, Nodes, nodes_at};
+use numbered_groups::NumberedGroups;
 use par_stages::{Gate, workers_for};
 use rollup_rec::roll;
 use row_values::{PlacedRows, RowList, compute_rows, filter_rows};
@@ -293,6 +296,61 @@ impl<'a, R: Threads + Sync, G: Gate> Context<'a, R, G> {
         let hands = self.hands(rows.len());
         rollup_list(
             self.rt, alloc, self.store, rows, keys, levels, with_all, hands, self.gate,
+        )
+    }
+
+    /// The groups of a list by key paths, told by numbers.
+    pub(crate) fn numbered(
+        &self,
+        alloc: Global,
+        rows: &RowList<'_>,
+        keys: &[Path],
+    ) -> Result<NumberedGroups, RunRefused>
+        requires { IsTrue (all_of self.now.world rows.now) }
+        ensures { GivesFor (AreNumberedBy self.now.world keys.now rows.now) self.now.world keys.now rows.now result }
+    {
+        let hands = self.hands(rows.len());
+        numbered_list(self.rt, alloc, self.store, rows, keys, hands, self.gate)
+    }
+
+    /// The groups of a list by each level of a rollup, the finest first, told by numbers.
+    pub(crate) fn numbered_levels(
+        &self,
+        alloc: Global,
+        rows: &RowList<'_>,
+        keys: &[Path],
+        levels: &[Path],
+        with_all: bool,
+    ) -> Result<Vec<NumberedGroups>, RunRefused>
+        requires { IsTrue (all_of self.now.world rows.now) }
+        ensures { GivesFor (λ found. AreNumberedByEach self.now.world (level_paths keys.now (RollupPart.Levels with_all levels.now)) rows.now found.items) self.now.world (keys.now ++ levels.now) rows.now result }
+    {
+        let hands = self.hands(rows.len());
+        numbered_levels(
+            self.rt, alloc, self.store, rows, keys, levels, with_all, hands, self.gate,
+        )
+    }
+
+    /// For each group of a list, of whose numbers there are `count`, the aggregate by a method of the values of an expression on its
+    /// instances. All values are of one type.
+    pub(crate) fn aggregates_by(
+        &self,
+        alloc: Global,
+        method: Method,
+        e: &Expr,
+        rows: &RowList<'_>,
+        numbers: &[u32],
+        count: usize,
+    ) -> Result<Vec<Value>, AllocError>
+        requires of { IsTrue (all_of self.now.world rows.now) }
+        requires kind { AreFoldable method (values self.now.world (expr_of e.now) rows.now) }
+        requires size { length numbers.now ≡ length rows.now }
+        requires there { All (λ n. n < count) numbers.now }
+        ensures { IfOk result (λ vs. vs.items ≡ map (λ j. aggregates.aggregate method (at_places (values self.now.world (expr_of e.now) rows.now) (places_with numbers.now j))) (places count)) }
+    {
+        let hands = self.hands(rows.len());
+        rows.aggregates_by(
+            self.rt, alloc, self.store, e, method, numbers, count, hands, self.gate,
         )
     }
 

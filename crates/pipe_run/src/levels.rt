@@ -5,6 +5,7 @@ ghost use Rattle.context_typing.specs.Typing.{group_keys, key_paths, plain_paths
 ghost use Rattle.apply_meaning.specs.Meaning.{level_paths};
 ghost use Rattle.apply_meaning.specs.Running.{all_of};
 ghost use Rattle.group_rollup.specs.Groupings.{groups, GivesFor};
+ghost use Rattle.group_rollup.specs.NumberedBy.{AreNumberedByEach};
 ghost use Rattle.pipe_run.specs.RecursiveKeys.{are_flat_keys};
 ghost use Rattle.pipe_run.specs.Levels.{AreKeys, GivesFlatLevels, part_of, with_node};
 
@@ -13,6 +14,7 @@ use aggregate_ops::{Groups, copies};
 use apply_ast::{KeyItem, KeyList, Path};
 use apply_meaning::RunRefused;
 use edm_values::Value;
+use numbered_groups::NumberedGroups;
 use par_stages::Gate;
 use row_values::RowList;
 use std::alloc::{AllocError, Global};
@@ -29,7 +31,7 @@ struct Rollup<'a> {
 
 /// The keys of a grouping without a recursive rollup.
 #[derive(Drop)]
-struct LevelKeys<'a> {
+pub(crate) struct LevelKeys<'a> {
     plain: Vec<Path>,
     rollup: Option<Rollup<'a>>,
 }
@@ -100,7 +102,7 @@ pub(crate) fn all_paths(alloc: Global, keys: &KeyList) -> Result<Vec<Path>, Allo
 }
 
 /// The keys of a grouping, taken apart.
-fn taken_apart(alloc: Global, keys: &KeyList) -> Result<LevelKeys<'_>, AllocError>
+pub(crate) fn taken_apart(alloc: Global, keys: &KeyList) -> Result<LevelKeys<'_>, AllocError>
     requires { IsTrue (are_flat_keys (keys_of keys.now)) }
     ensures { IfOk result (AreKeys (keys_of keys.now)) }
 {
@@ -112,6 +114,15 @@ fn taken_apart(alloc: Global, keys: &KeyList) -> Result<LevelKeys<'_>, AllocErro
 
 /// A list of one element.
 fn alone(alloc: Global, groups: Groups) -> Result<Vec<Groups>, AllocError>
+    ensures { IfOk result (λ all. all.items ≡ groups ∷ []) }
+{
+    let mut all = Vec::new(alloc);
+    all.push(groups)?;
+    Ok(all)
+}
+
+/// The same of groups that are told by numbers.
+fn alone_numbered(alloc: Global, groups: NumberedGroups) -> Result<Vec<NumberedGroups>, AllocError>
     ensures { IfOk result (λ all. all.items ≡ groups ∷ []) }
 {
     let mut all = Vec::new(alloc);
@@ -137,8 +148,28 @@ fn level_groups<R: Threads + Sync, G: Gate>(
     }
 }
 
+/// The same groups, told by numbers.
+pub(crate) fn numbered_groups<R: Threads + Sync, G: Gate>(
+    alloc: Global,
+    context: &Context<'_, R, G>,
+    keys: &LevelKeys<'_>,
+    rows: &RowList<'_>,
+) -> Result<Vec<NumberedGroups>, RunRefused>
+    requires { IsTrue (all_of context.now.world rows.now) }
+    ensures { let part = part_of keys.now.rollup in
+        GivesFor (λ found. AreNumberedByEach context.now.world (level_paths keys.now.plain part) rows.now found.items) context.now.world (keys.now.plain ++ rollup_paths part) rows.now result }
+{
+    let plain = keys.plain.as_slice();
+    match keys.rollup {
+        Some(rollup) => {
+            context.numbered_levels(alloc, rows, plain, rollup.paths, rollup.with_all)
+        }
+        None => Ok(alone_numbered(alloc, context.numbered(alloc, rows, plain)?)?),
+    }
+}
+
 /// The paths of level k, the finest being level 0: all paths of the keys but the last k.
-fn paths_at<'a>(keys: &LevelKeys<'_>, paths: &'a [Path], k: usize) -> &'a [Path]
+pub(crate) fn paths_at<'a>(keys: &LevelKeys<'_>, paths: &'a [Path], k: usize) -> &'a [Path]
     requires within { k < length (level_paths keys.now.plain (part_of keys.now.rollup)) }
     requires all { paths.now ≡ keys.now.plain ++ rollup_paths (part_of keys.now.rollup) }
     ensures value { Some result.now ≡ slice_get (level_paths keys.now.plain (part_of keys.now.rollup)) k }

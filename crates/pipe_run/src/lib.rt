@@ -6,14 +6,15 @@
 //! `run_grouping` runs a `groupby` on a list of instances, which are rows or a frame: `levels` finds the groups of each level, and
 //! `recursive` those of each node of a recursive rollup; `item_lists` works out the values of an aggregation once for all groups,
 //! and `groups` makes rows of groups and puts key columns on them. `totals` runs a recursive rollup that is the only key where an
-//! aggregation alone is made of each group: over neighbours in the order of the nodes, without groups. `selections` takes rows from the top and the bottom, and
+//! aggregation alone is made of each group: over neighbours in the order of the nodes, without groups; `group_totals` runs any other
+//! keys there, over groups that are told by numbers, where the items are counts and aggregates by methods. `selections` takes rows from the top and the bottom, and
 //! `selected_places` has the places of the values that one takes; `joins` says what a join takes; `hierarchies` has climbs and
 //! traversals, and the places of the instances of a list that they take; `copies` copies rows for pipelines that share them. `roots` follows the type at the empty prefix from one
 //! transformation to the next, which custom aggregates are looked up by.
 //!
 //! The crate stands on `apply_meaning` for rows, the plain transformations and the meaning of pipelines, on `aggregate_ops`,
-//! `custom_agg` and `group_rollup` for aggregates, custom aggregates and groups, on `row_values` for lists of instances and values
-//! of many rows, on `row_orders` for orders, on `join_concat` for joins and concatenation, on `top_family` for selections, on
+//! `custom_agg`, `group_rollup` and `numbered_groups` for aggregates, custom aggregates and groups, on `row_values` and `row_frames` for lists of
+//! instances, values of many rows and columns of keys, on `row_orders` for orders, on `join_concat` for joins and concatenation, on `top_family` for selections, on
 //! `hier_index`, `hier_states`, `hier_rows` and `rollup_rec` for hierarchies, on `par_stages` for gates, on `context_typing` for
 //! typed pipelines and custom aggregates, on `apply_ast` for pipelines, and on `edm_data` and `edm_model` for the data.
 //!
@@ -27,6 +28,7 @@
 mod aggregations;
 mod contexts;
 mod copies;
+mod group_totals;
 mod groups;
 mod hierarchies;
 mod item_lists;

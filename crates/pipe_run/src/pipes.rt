@@ -30,6 +30,7 @@ ghost use Rattle.pipe_run.specs.Totals.{totals_step};
 use crate::aggregations::aggregated;
 use crate::contexts::Context;
 use crate::copies::copy_rows;
+use crate::group_totals::{group_totals, run_group_totals};
 use crate::groups::{key_rows, with_keys};
 use crate::hierarchies::{climb_rows, traverse_rows};
 use crate::item_lists::{ItemList, aggregated_at, first_lists};
@@ -335,8 +336,7 @@ pub fn run_step<R: Threads + Sync, G: Gate, L: Ledger>(
     }
 }
 
-/// What a grouping gives on a list: what the inner pipeline makes of each group of each level, or a row for each group where there
-/// is none. No row is made of an instance that an aggregation at the front of the inner pipeline reads.
+/// What a grouping gives on a list: what the inner pipeline makes of each group, or a row for each group where there is none.
 #[cycle(run)]
 pub fn run_grouping<R: Threads + Sync, G: Gate, L: Ledger>(
     alloc: Global,
@@ -356,6 +356,9 @@ pub fn run_grouping<R: Threads + Sync, G: Gate, L: Ledger>(
     ensures grown { steps.old ≤ steps.new }
 {
     let Some(totals) = node_totals(step) else {
+        if let Some(groups) = group_totals(step) {
+            return run_group_totals(alloc, context, root, step, &groups, rows, steps);
+        }
         return run_by_levels(alloc, context, root, step, rows, steps);
     };
     match step {
@@ -399,8 +402,7 @@ fn run_totals<R: Threads + Sync, G: Gate, L: Ledger>(
     total_rows(alloc, context, root, totals, shown.as_slice(), rows, steps)
 }
 
-/// What a grouping gives on a list, level by level: what the inner pipeline makes of each group of each level, or a row for each group where there
-/// is none. No row is made of an instance that an aggregation at the front of the inner pipeline reads.
+/// The same, level by level.
 #[cycle(run)]
 fn run_by_levels<R: Threads + Sync, G: Gate, L: Ledger>(
     alloc: Global,

@@ -46,7 +46,7 @@ pub(crate) struct NodeTotals<'a> {
 }
 
 /// The items of a pipeline that is an aggregation alone.
-fn lone_items(pipe: &Pipe) -> Option<&AggList>
+pub(crate) fn lone_items(pipe: &Pipe) -> Option<&AggList>
     ensures { IfSome result (λ items. pipe_of pipe.now ≡ tree.Pipe.Then (tree.Step.Aggregate (map agg_of items.now)) tree.Pipe.End) }
 {
     let steps = pipe.steps();

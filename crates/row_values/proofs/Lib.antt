@@ -4,3 +4,6 @@ pub mod PlacedLemmas
 pub mod Columns
 pub mod RowsLeft
 pub mod ReaderLemmas
+pub mod KeyCodeLemmas
+pub mod GroupFoldLemmas
+pub mod NumberedLemmas

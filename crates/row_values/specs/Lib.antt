@@ -5,3 +5,6 @@ pub mod Answers
 pub mod Placed
 pub mod Columns
 pub mod Readers
+pub use Rattle.aggregate_ops.specs.Partials
+pub use Rattle.numbered_groups.specs.Numbered
+pub mod GroupFolds

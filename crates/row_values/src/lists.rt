@@ -1,8 +1,8 @@
 //! Lists of instances that are read where they stand: rows, or a frame.
-ghost use Rattle.std.specs.Prelude.{◌≡◌, ◌+◌, ◌≤◌, ◌<◌, IfOk, IfSome, IsTrue, get_or, length, map, nat_lt};
-ghost use Rattle.std.specs.List.{All, list_all};
-ghost use Rattle.edm_values.specs.Lists.{at_places};
-ghost use Rattle.edm_values.specs.Values.{seen_value};
+ghost use Rattle.std.specs.Prelude.{◌≡◌, ◌+◌, ◌≤◌, ◌<◌, IfOk, IfSome, IsTrue, false, flat_map, get_or, length, map, nat_lt};
+ghost use Rattle.std.specs.List.{All, list_all, list_any};
+ghost use Rattle.edm_values.specs.Lists.{at_places, places};
+ghost use Rattle.edm_values.specs.Values.{is_beyond, seen_value};
 ghost use Rattle.edm_model.specs.LookUps.{IsSet};
 ghost use Rattle.apply_ast.specs.Views.{expr_of};
 ghost use Rattle.aggregate_ops.specs.Partials.{AreFoldable};
@@ -13,9 +13,13 @@ ghost use Rattle.apply_meaning.specs.Meaning.{values};
 ghost use Rattle.apply_meaning.specs.Running.{all_of};
 ghost use Rattle.row_frames.specs.Keys.{key_column, key_columns, seen_columns};
 ghost use Rattle.row_frames.specs.Own.{IsOwn};
+ghost use Rattle.numbered_groups.specs.Numbered.{AreKeyCodes, places_with};
+ghost use Rattle.value_codes.specs.Codes.{AreCodes};
 
 use crate::aggregates::{frame_aggregate, row_aggregate};
+use crate::key_codes::key_codes;
 use crate::keys::{key_list, key_lists};
+use crate::numbered::list_aggregates;
 use crate::seen::{key_columns_of, seen_of};
 use crate::values::{value_on, values_of};
 use apply_ast::{Expr, Path};
@@ -29,6 +33,7 @@ use std::alloc::{AllocError, Global};
 use std::marker::Model;
 use std::sync::ledger::Ledger;
 use std::thread::Threads;
+use value_codes::Codes;
 
 /// Where the instances stand.
 #[derive(Clone, Copy, Drop)]
@@ -148,6 +153,74 @@ impl<'a> RowList<'a> {
                 frame_aggregate(rt, alloc, store, e, method, frame, workers, gate)
             }
         }
+    }
+
+    /// Numbers in place of the values of a path on the instances, where they are known without a hash, as `Frame::codes` has them;
+    /// none of rows.
+    pub fn codes<R: Threads + Sync>(
+        &self,
+        rt: &R,
+        alloc: Global,
+        store: &Data,
+        path: &Path,
+        workers: u32,
+    ) -> Result<Option<Codes>, AllocError>
+        requires some { 0 < workers }
+        requires of { IsTrue (all_of store.now self.now) }
+        ensures value { IfOk result (λ o. IfSome o (AreCodes (key_column store.now self.now path.now))) }
+        ensures within { IfOk result (λ o. IfSome o (λ _. list_any is_beyond (key_column store.now self.now path.now) ≡ false)) }
+    {
+        match self.source {
+            Source::Rows(_) => Ok(None),
+            Source::Frame(frame) => frame.codes(rt, alloc, store, path, workers),
+        }
+    }
+
+    /// Numbers in place of the values of each path on the instances, and whether one of these values is past its range. They may be
+    /// worked out in so many parts, each by a thread of its own.
+    pub fn key_codes<R: Threads + Sync>(
+        &self,
+        rt: &R,
+        alloc: Global,
+        store: &Data,
+        paths: &[Path],
+        workers: u32,
+    ) -> Result<(Vec<Codes>, bool), AllocError>
+        requires some { 0 < workers }
+        requires of { IsTrue (all_of store.now self.now) }
+        ensures codes { IfOk result (λ r. AreKeyCodes (map (spec.key_list store.now paths.now) self.now) r.0.items) }
+        ensures count { IfOk result (λ r. length r.0.items ≡ length paths.now) }
+        ensures beyond { IfOk result (λ r. r.1 ≡ list_any is_beyond (flat_map (key_column store.now self.now) paths.now)) }
+    {
+        key_codes(rt, alloc, store, self, paths, workers)
+    }
+
+    /// For each group of the instances, of whose numbers there are `count`, the aggregate by a method of the values of an expression
+    /// on its instances. All values are of one type. The instances are cut into pieces, of which the gate is told and which several
+    /// threads may take.
+    pub fn aggregates_by<R: Threads + Sync, G: Gate>(
+        &self,
+        rt: &R,
+        alloc: Global,
+        store: &Data,
+        e: &Expr,
+        method: Method,
+        numbers: &[u32],
+        count: usize,
+        workers: u32,
+        gate: &G,
+    ) -> Result<Vec<Value>, AllocError>
+        requires some { 0 < workers }
+        requires few { workers ≤ 64 }
+        requires of { IsTrue (all_of store.now self.now) }
+        requires kind { AreFoldable method (values store.now (expr_of e.now) self.now) }
+        requires size { length numbers.now ≡ length self.now }
+        requires there { All (λ n. n < count) numbers.now }
+        ensures value { IfOk result (λ vs. vs.items ≡ map (λ j. aggregate method (at_places (values store.now (expr_of e.now) self.now) (places_with numbers.now j))) (places count)) }
+    {
+        list_aggregates(
+            rt, alloc, store, e, method, self, numbers, count, workers, gate,
+        )
     }
 
     /// The values of an expression on the instances at these places.

@@ -1,5 +1,5 @@
 //! Instances that are told by their places in a list, and the values of expressions and keys on them. No row is copied or made.
-ghost use Rattle.std.specs.Prelude.{◌≡◌, ◌<◌, ◌≤◌, IfOk, IsTrue, length, map, nat_lt};
+ghost use Rattle.std.specs.Prelude.{◌≡◌, ◌<◌, ◌≤◌, IfOk, IfSome, IsTrue, length, map, nat_lt};
 ghost use Rattle.std.specs.List.{list_all};
 ghost use Rattle.edm_values.specs.Lists.{at_places};
 ghost use Rattle.apply_ast.specs.Views.{expr_of};
@@ -66,6 +66,16 @@ impl<'a> PlacedRows<'a> {
         match self.places {
             None => list.len(),
             Some(places) => places.len(),
+        }
+    }
+
+    /// The list, where these are all of its instances.
+    pub fn whole(&self) -> Option<&'a RowList<'a>>
+        ensures value { IfSome result (λ list. list.now ≡ self.now) }
+    {
+        match self.places {
+            None => Some(self.list),
+            Some(_) => None,
         }
     }
 

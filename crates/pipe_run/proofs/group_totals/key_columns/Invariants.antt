@@ -1,0 +1,8 @@
+use Rattle.std.proofs.Common.{◌≡◌, length, take}
+use Rattle.apply_meaning.specs.Meaning.{keyed}
+use Rattle.row_frames.specs.Keys.{key_at, seen_columns}
+use Rattle.pipe_run.proofs.group_totals.key_columns.Given as goal
+
+-- the columns so far
+abbrev pub invariant-loop-path : goal.invariant-loop-path
+invariant-loop-path l = l.columns.items ≡ take (length l.yielded) (keyed l.paths (key_at (seen_columns l.lists) l.k))

@@ -1,0 +1,393 @@
+//! Groupings by plain keys and the levels of a rollup whose groups an aggregation makes one row each. The groups are told by
+//! numbers, and no list of the places of each is kept: an item is folded for all groups of a level at once, and a key is read at
+//! the first instance of each group.
+ghost use Rattle.std.specs.Prelude.{◌≡◌, ℕ, ◌+◌, ◌≤◌, ◌<◌, ◌++◌, ◌∷◌, [], All, IfOk, IfSome, IsTrue, flat_map, length, map, pos};
+ghost use Rattle.std.specs.List.{list_all};
+ghost use Rattle.edm_values.specs.declared.Value.{Value as Value'};
+ghost use Rattle.edm_values.specs.Lists.{places};
+ghost use Rattle.apply_ast.specs.Views.{agg_of, key_of, keys_from, keys_of, step_of};
+ghost use Rattle.context_typing.specs.Readings.{readings};
+ghost use Rattle.context_typing.specs.Shapes.{Shape};
+ghost use Rattle.context_typing.specs.Typing.{rollup_paths};
+ghost use Rattle.apply_meaning.specs.Meaning.{keyed, level_paths, step_mean};
+ghost use Rattle.apply_meaning.specs.RowViews.{columns_differ};
+ghost use Rattle.apply_meaning.specs.Running.{Gives, all_of};
+ghost use Rattle.group_rollup.specs.NumberedBy.{AreNumberedBy, AreNumberedByEach};
+ghost use Rattle.numbered_groups.specs.Numbered.{places_with};
+ghost use Rattle.pipe_run.specs.Conditions.{StepReadyFrom, StepRunsFrom};
+ghost use Rattle.pipe_run.specs.Costs.{step_cost};
+ghost use Rattle.pipe_run.specs.GroupTotals as seen;
+ghost use Rattle.pipe_run.specs.GroupTotals.{AreApart, GivesGroupTotals, GroupsReady, IsFoldable, grouped_step, is_folded, item_name, level_totals, row_across, values_by};
+ghost use Rattle.pipe_run.specs.Levels.{level_on, part_of};
+ghost use Rattle.pipe_run.specs.RecursiveKeys.{are_flat_keys};
+ghost use Rattle.row_frames.specs.Keys.{key_at, seen_columns};
+
+use crate::contexts::Context;
+use crate::levels::{LevelKeys, all_paths, numbered_groups, paths_at, taken_apart};
+use crate::totals::lone_items;
+use apply_ast::{AggItem, AggList, KeyItem, KeyList, Name, Path, Step};
+use apply_meaning::{Row, RunRefused, Steps, count, data_is_loaded, path_of};
+use edm_model::TypeId;
+use edm_values::{Seen, Value};
+use numbered_groups::NumberedGroups;
+use par_stages::Gate;
+use row_values::RowList;
+use std::alloc::{AllocError, Global};
+use std::sync::ledger::Ledger;
+use std::thread::Threads;
+
+/// A grouping without a recursive rollup among its keys, whose inner pipeline is an aggregation alone of counts and of aggregates
+/// by methods.
+#[derive(Clone, Copy)]
+pub(crate) struct GroupTotals<'a> {
+    pub keys: &'a KeyList,
+    pub items: &'a AggList,
+}
+
+/// Whether no key is a recursive rollup.
+fn are_flat(keys: &[KeyItem]) -> bool
+    ensures { result ≡ are_flat_keys (keys_from (map key_of keys.now)) }
+{
+    for key in keys {
+        match key {
+            KeyItem::Plain(_) => {}
+            KeyItem::Rollup(..) => {}
+            KeyItem::Recursive(..) => return false,
+        }
+    }
+    true
+}
+
+/// Whether each item is a count or an aggregate by a method.
+fn are_folded(items: &[AggItem]) -> bool
+    ensures { result ≡ list_all is_folded (map agg_of items.now) }
+{
+    for item in items {
+        match item {
+            AggItem::Count(_) => {}
+            AggItem::Standard(..) => {}
+            AggItem::Custom(..) => return false,
+        }
+    }
+    true
+}
+
+/// What keys with an aggregation over them are, where no key is a recursive rollup and no item a custom aggregate.
+fn totals_of<'a>(keys: &'a KeyList, items: &'a AggList) -> Option<GroupTotals<'a>>
+    ensures keys { IfSome result (λ t. t.keys.now ≡ keys.now) }
+    ensures items { IfSome result (λ t. t.items.now ≡ items.now) }
+    ensures flat { IfSome result (λ t. IsTrue (are_flat_keys (keys_of t.keys.now))) }
+    ensures folded { IfSome result (λ t. IsTrue (list_all is_folded (map agg_of t.items.now))) }
+{
+    if !are_flat(keys.as_slice()) {
+        return None;
+    }
+    if !are_folded(items.as_slice()) {
+        return None;
+    }
+    Some(GroupTotals { keys, items })
+}
+
+/// The transformation as such a grouping, where it is one.
+pub(crate) fn group_totals(step: &Step) -> Option<GroupTotals<'_>>
+    ensures step { IfSome result (λ t. step_of step.now ≡ grouped_step (keys_of t.keys.now) (map agg_of t.items.now)) }
+    ensures flat { IfSome result (λ t. IsTrue (are_flat_keys (keys_of t.keys.now))) }
+    ensures folded { IfSome result (λ t. IsTrue (list_all is_folded (map agg_of t.items.now))) }
+{
+    match step {
+        Step::GroupBy(keys, Some(pipe)) => match lone_items(pipe) {
+            Some(items) => totals_of(keys, items),
+            None => None,
+        },
+        _ => None,
+    }
+}
+
+/// One more. An error where it would pass the range of counts.
+fn one_more(n: usize) -> Result<usize, AllocError>
+    ensures { IfOk result (λ m. m ≡ n + 1) }
+{
+    match n.checked_add(1) {
+        Some(more) => Ok(more),
+        None => Err(AllocError),
+    }
+}
+
+/// How many instances each group has, by the number of each instance's group.
+fn counts(alloc: Global, groups: &NumberedGroups) -> Result<Vec<usize>, AllocError>
+    ensures { IfOk result (λ counts. counts.items ≡ map (λ j. length (places_with groups.now.numbers j)) (places (length groups.now.firsts))) }
+{
+    let numbers = groups.numbers();
+    let mut counts = Vec::from_elem(alloc, 0, groups.len())?;
+    for number in numbers {
+        let at = *number as usize;
+        let more = one_more(counts[at])?;
+        counts[at] = more;
+    }
+    Ok(counts)
+}
+
+/// The same as values.
+fn count_values(alloc: Global, groups: &NumberedGroups) -> Result<Vec<Value>, AllocError>
+    ensures { IfOk result (λ vs. vs.items ≡ map (λ j. Value'.Int (pos (length (places_with groups.now.numbers j)))) (places (length groups.now.firsts))) }
+{
+    let counts = counts(alloc, groups)?;
+    let counted = counts.as_slice();
+    let mut values = Vec::with_capacity(alloc, counted.len())?;
+    for n in counted {
+        values.push(count(*n)?)?;
+    }
+    Ok(values)
+}
+
+/// The values of an item on the groups of a list.
+fn item_values<R: Threads + Sync, G: Gate>(
+    alloc: Global,
+    context: &Context<'_, R, G>,
+    item: &AggItem,
+    rows: &RowList<'_>,
+    groups: &NumberedGroups,
+) -> Result<Vec<Value>, AllocError>
+    requires of { IsTrue (all_of context.now.world rows.now) }
+    requires kind { IsFoldable context.now.world rows.now (agg_of item.now) }
+    requires size { length groups.now.numbers ≡ length rows.now }
+    ensures { IfOk result (λ vs. vs.items ≡ values_by context.now.world rows.now groups.now (agg_of item.now)) }
+{
+    match item {
+        AggItem::Count(_) => count_values(alloc, groups),
+        AggItem::Standard(e, method, _) => {
+            let numbers = groups.numbers();
+            let count = groups.len();
+            context.aggregates_by(alloc, *method, e, rows, numbers, count)
+        }
+        AggItem::Custom(..) => Ok(Vec::new(alloc)),
+    }
+}
+
+/// The values of each item on the groups of a list.
+fn item_columns<R: Threads + Sync, G: Gate>(
+    alloc: Global,
+    context: &Context<'_, R, G>,
+    items: &[AggItem],
+    rows: &RowList<'_>,
+    groups: &NumberedGroups,
+) -> Result<Vec<Vec<Value>>, AllocError>
+    requires of { IsTrue (all_of context.now.world rows.now) }
+    requires kind { All (IsFoldable context.now.world rows.now) (map agg_of items.now) }
+    requires size { length groups.now.numbers ≡ length rows.now }
+    ensures { IfOk result (λ cs. map (λ c. c.items) cs.items ≡ map (values_by context.now.world rows.now groups.now) (map agg_of items.now)) }
+{
+    let mut columns = Vec::with_capacity(alloc, items.len())?;
+    for item in items {
+        columns.push(item_values(alloc, context, item, rows, groups)?)?;
+    }
+    Ok(columns)
+}
+
+/// The name of the result of an item.
+fn name_of(item: &AggItem) -> &Name
+    ensures { result.now ≡ item_name (agg_of item.now) }
+{
+    match item {
+        AggItem::Count(name) => name,
+        AggItem::Standard(_, _, name) => name,
+        AggItem::Custom(_, name) => name,
+    }
+}
+
+/// The path of the column of each item.
+fn item_paths(alloc: Global, items: &[AggItem]) -> Result<Vec<Path>, AllocError>
+    ensures { IfOk result (λ all. all.items ≡ map (λ i. item_name i ∷ []) (map agg_of items.now)) }
+{
+    let mut all = Vec::with_capacity(alloc, items.len())?;
+    for item in items {
+        all.push(path_of(alloc, name_of(item))?)?;
+    }
+    Ok(all)
+}
+
+/// The columns of these paths with the values that stand at place k of each list.
+fn value_columns(
+    alloc: Global,
+    paths: &[Path],
+    lists: &[Vec<Value>],
+    k: usize,
+) -> Result<Vec<(Path, Value)>, AllocError>
+    requires { All (λ c. k < length c.items) lists.now }
+    ensures { IfOk result (λ cs. cs.items ≡ keyed paths.now (key_at (map (λ c. c.items) lists.now) k)) }
+{
+    let mut columns = Vec::new(alloc);
+    for (path, list) in paths.iter().zip(lists) {
+        columns.push((path.copy(alloc)?, list[k].seen().own(alloc)?))?;
+    }
+    Ok(columns)
+}
+
+/// The same of values that borrow their texts.
+fn key_columns(
+    alloc: Global,
+    paths: &[Path],
+    lists: &[Vec<Seen<'_>>],
+    k: usize,
+) -> Result<Vec<(Path, Value)>, AllocError>
+    requires { All (λ c. k < length c.items) lists.now }
+    ensures { IfOk result (λ cs. cs.items ≡ keyed paths.now (key_at (seen_columns lists.now) k)) }
+{
+    let mut columns = Vec::new(alloc);
+    for (path, list) in paths.iter().zip(lists) {
+        columns.push((path.copy(alloc)?, list[k].own(alloc)?))?;
+    }
+    Ok(columns)
+}
+
+/// The columns of the items and those of the keys behind them, with the values that stand at place k of each list.
+fn columns_across(
+    alloc: Global,
+    names: &[Path],
+    values: &[Vec<Value>],
+    paths: &[Path],
+    keys: &[Vec<Seen<'_>>],
+    k: usize,
+) -> Result<Vec<(Path, Value)>, AllocError>
+    requires values { All (λ c. k < length c.items) values.now }
+    requires keys { All (λ c. k < length c.items) keys.now }
+    ensures { IfOk result (λ cs. cs.items ≡ keyed names.now (key_at (map (λ c. c.items) values.now) k) ++ keyed paths.now (key_at (seen_columns keys.now) k)) }
+{
+    let mut columns = value_columns(alloc, names, values, k)?;
+    let mut behind = key_columns(alloc, paths, keys, k)?;
+    columns.append(&mut behind)?;
+    Ok(columns)
+}
+
+/// A row for each of so many places, whose columns have the values that stand there: one step a row.
+fn rows_across<L: Ledger>(
+    alloc: Global,
+    names: &[Path],
+    values: &[Vec<Value>],
+    paths: &[Path],
+    keys: &[Vec<Seen<'_>>],
+    count: usize,
+    steps: &mut Steps<L>,
+) -> Result<Vec<Row>, AllocError>
+    requires values { All (λ c. count ≤ length c.items) values.now }
+    requires keys { All (λ c. count ≤ length c.items) keys.now }
+    requires differ { (k : ℕ) → k < count → IsTrue (columns_differ (keyed names.now (key_at (map (λ c. c.items) values.now) k) ++ keyed paths.now (key_at (seen_columns keys.now) k))) }
+    ensures rows { IfOk result (λ made. made.items ≡ map (row_across names.now (map (λ c. c.items) values.now) paths.now (seen_columns keys.now)) (places count)) }
+    ensures steps { steps.new ≤ steps.old + count }
+    ensures grown { steps.old ≤ steps.new }
+{
+    let mut made = Vec::with_capacity(alloc, count)?;
+    for k in 0..count {
+        let columns = columns_across(alloc, names, values, paths, keys, k)?;
+        made.push(Row::make(alloc, Vec::new(alloc), None, columns, steps)?)?;
+    }
+    Ok(made)
+}
+
+/// The rows of the groups by these paths: one step a row.
+fn rows_of_level<R: Threads + Sync, G: Gate, L: Ledger>(
+    alloc: Global,
+    context: &Context<'_, R, G>,
+    items: &[AggItem],
+    paths: &[Path],
+    groups: &NumberedGroups,
+    rows: &RowList<'_>,
+    steps: &mut Steps<L>,
+) -> Result<Vec<Row>, AllocError>
+    requires of { IsTrue (all_of context.now.world rows.now) }
+    requires kind { All (IsFoldable context.now.world rows.now) (map agg_of items.now) }
+    requires folded { IsTrue (list_all is_folded (map agg_of items.now)) }
+    requires numbered { AreNumberedBy context.now.world paths.now rows.now groups.now }
+    requires apart { AreApart context.now.world (map agg_of items.now) rows.now (level_on context.now.world rows.now paths.now) }
+    ensures rows { IfOk result (λ made. made.items ≡ level_totals context.now.world (map agg_of items.now) rows.now (level_on context.now.world rows.now paths.now)) }
+    ensures steps { steps.new ≤ steps.old + length (level_totals context.now.world (map agg_of items.now) rows.now (level_on context.now.world rows.now paths.now)) }
+    ensures grown { steps.old ≤ steps.new }
+{
+    let names = item_paths(alloc, items)?;
+    let names = names.as_slice();
+    let values = item_columns(alloc, context, items, rows, groups)?;
+    let values = values.as_slice();
+    let firsts = groups.firsts();
+    let keys = rows.key_columns_at(alloc, context.store(), paths, firsts)?;
+    let keys = keys.as_slice();
+    rows_across(alloc, names, values, paths, keys, groups.len(), steps)
+}
+
+/// The rows of the groups of all levels, the finest first: one step a row.
+fn rows_of_levels<R: Threads + Sync, G: Gate, L: Ledger>(
+    alloc: Global,
+    context: &Context<'_, R, G>,
+    items: &[AggItem],
+    keys: &LevelKeys<'_>,
+    paths: &[Path],
+    levels: &[NumberedGroups],
+    rows: &RowList<'_>,
+    steps: &mut Steps<L>,
+) -> Result<Vec<Row>, AllocError>
+    requires of { IsTrue (all_of context.now.world rows.now) }
+    requires kind { All (IsFoldable context.now.world rows.now) (map agg_of items.now) }
+    requires folded { IsTrue (list_all is_folded (map agg_of items.now)) }
+    requires all { paths.now ≡ keys.now.plain ++ rollup_paths (part_of keys.now.rollup) }
+    requires numbered { AreNumberedByEach context.now.world (level_paths keys.now.plain (part_of keys.now.rollup)) rows.now levels.now }
+    requires apart { All (λ level. AreApart context.now.world (map agg_of items.now) rows.now (level_on context.now.world rows.now level)) (level_paths keys.now.plain (part_of keys.now.rollup)) }
+    ensures rows { IfOk result (λ made. made.items ≡ flat_map (λ level. level_totals context.now.world (map agg_of items.now) rows.now (level_on context.now.world rows.now level)) (level_paths keys.now.plain (part_of keys.now.rollup))) }
+    ensures steps { steps.new ≤ steps.old + length (flat_map (λ level. level_totals context.now.world (map agg_of items.now) rows.now (level_on context.now.world rows.now level)) (level_paths keys.now.plain (part_of keys.now.rollup))) }
+    ensures grown { steps.old ≤ steps.new }
+{
+    let mut all = Vec::new(alloc);
+    for (k, groups) in levels.iter().enumerate() {
+        let own = paths_at(keys, paths, k);
+        let mut made = rows_of_level(alloc, context, items, own, groups, rows, steps)?;
+        all.append(&mut made)?;
+    }
+    Ok(all)
+}
+
+/// The rows of all groups, and a refusal where a key is Beyond: one step a row.
+fn total_groups<R: Threads + Sync, G: Gate, L: Ledger>(
+    alloc: Global,
+    context: &Context<'_, R, G>,
+    totals: &GroupTotals<'_>,
+    rows: &RowList<'_>,
+    steps: &mut Steps<L>,
+) -> Result<Vec<Row>, RunRefused>
+    requires of { IsTrue (all_of context.now.world rows.now) }
+    requires flat { IsTrue (are_flat_keys (keys_of totals.now.keys.now)) }
+    requires folded { IsTrue (list_all is_folded (map agg_of totals.now.items.now)) }
+    requires ready { GroupsReady context.now.world (keys_of totals.now.keys.now) (map agg_of totals.now.items.now) rows.now }
+    ensures rows { GivesGroupTotals result context.now.world (keys_of totals.now.keys.now) (map agg_of totals.now.items.now) rows.now }
+    ensures steps { steps.new ≤ steps.old + length (seen.group_totals context.now.world (keys_of totals.now.keys.now) (map agg_of totals.now.items.now) rows.now) }
+    ensures grown { steps.old ≤ steps.new }
+{
+    let paths = all_paths(alloc, totals.keys)?;
+    let paths = paths.as_slice();
+    let keys = taken_apart(alloc, totals.keys)?;
+    let levels = numbered_groups(alloc, context, &keys, rows)?;
+    let levels = levels.as_slice();
+    let items = totals.items.as_slice();
+    Ok(rows_of_levels(alloc, context, items, &keys, paths, levels, rows, steps)?)
+}
+
+/// What a transformation that is such a grouping gives on a list.
+pub(crate) fn run_group_totals<R: Threads + Sync, G: Gate, L: Ledger>(
+    alloc: Global,
+    context: &Context<'_, R, G>,
+    root: &Option<TypeId>,
+    step: &Step,
+    totals: &GroupTotals<'_>,
+    rows: &RowList<'_>,
+    steps: &mut Steps<L>,
+) -> Result<Vec<Row>, RunRefused>
+    requires step { step_of step.now ≡ grouped_step (keys_of totals.now.keys.now) (map agg_of totals.now.items.now) }
+    requires flat { IsTrue (are_flat_keys (keys_of totals.now.keys.now)) }
+    requires folded { IsTrue (list_all is_folded (map agg_of totals.now.items.now)) }
+    requires ready { StepReadyFrom context.now root.now (step_of step.now) rows.now }
+    ensures mean { (S S' : Shape) → StepRunsFrom context.now root.now S S' (step_of step.now) rows.now
+        → Gives result (step_mean context.now.world (readings context.now.customs) S (step_of step.now) rows.now) }
+    ensures steps { (S S' : Shape) → StepRunsFrom context.now root.now S S' (step_of step.now) rows.now
+        → steps.new ≤ steps.old + step_cost context.now.world (readings context.now.customs) S (step_of step.now) rows.now }
+    ensures grown { steps.old ≤ steps.new }
+{
+    data_is_loaded(context.store());
+    total_groups(alloc, context, totals, rows, steps)
+}
