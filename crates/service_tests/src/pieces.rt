@@ -13,7 +13,8 @@ use test_support::meetings::Meeting;
 use test_support::samples::SAMPLE;
 
 /// A request for each kind of stage that folds in pieces, and how many pieces of its folds are not alone with four workers over
-/// a long list: four of each fold, of which the custom aggregate has one by its customers and one over their totals.
+/// a long list: four of each fold, of which the custom aggregate has one that numbers its customers, one of their sums and one over
+/// these.
 const STAGES: [(&str, u64); 8] = [
     ("Sales?$apply=aggregate(Amount with sum as Total)\n", 4),
     ("Sales?$apply=aggregate(Amount with min as Least)\n", 4),
@@ -22,7 +23,7 @@ const STAGES: [(&str, u64); 8] = [
         "Sales?$apply=aggregate(OrgID with countdistinct as Orgs)\n",
         4,
     ),
-    ("Sales?$apply=aggregate(Best)\n", 8),
+    ("Sales?$apply=aggregate(Best)\n", 12),
     ("Sales?$apply=groupby((OrgID))\n", 4),
     ("Sales?$apply=groupby((rollup($all,OrgID)))\n", 4),
     (

@@ -11,7 +11,7 @@ use test_support::meetings::Meeting;
 use test_support::samples::{SALES_DATA, SAMPLE};
 
 /// A request for each kind of stage that folds in pieces, and how many pieces of its folds are not alone with two workers: two of
-/// each fold, of which the custom aggregate has one by its customers and one over their totals.
+/// each fold, of which the custom aggregate has one that numbers its customers, one of their sums and one over these.
 const STAGES: &[(&str, u64)] = &[
     ("Sales?$apply=aggregate(Amount with sum as Total)\n", 2),
     ("Sales?$apply=aggregate(Amount with min as Least)\n", 2),
@@ -20,7 +20,7 @@ const STAGES: &[(&str, u64)] = &[
         "Sales?$apply=aggregate(OrgID with countdistinct as Orgs)\n",
         2,
     ),
-    ("Sales?$apply=aggregate(Best)\n", 4),
+    ("Sales?$apply=aggregate(Best)\n", 6),
     ("Sales?$apply=groupby((OrgID))\n", 2),
     ("Sales?$apply=groupby((rollup($all,OrgID)))\n", 2),
     (
