@@ -1,5 +1,5 @@
 -- Lists of which only the elements that are something are kept.
-use Rattle.std.proofs.Common.{◌≡◌, ℕ, ◌+◌, ◌<◌, ◌≤◌, Bool, true, false, List, [], ◌∷◌, ◌++◌, length, get_or, map, nat_eq, refl, sym, ◌∙◌, ap, arith, ⊎_elim, Some, None, Ok, Err, add-one, length-append}
+use Rattle.std.proofs.Common.{◌≡◌, ℕ, zero, suc, ◌+◌, ◌-◌, ◌<◌, ◌≤◌, Bool, true, false, List, [], ◌∷◌, ◌++◌, length, get_or, map, nat_eq, refl, sym, ◌∙◌, ap, arith, ⊎_elim, Some, None, Ok, Err, add-one, length-append}
 use Rattle.std.specs.declared.option.Option.{Option}
 use Rattle.std.specs.Prelude.{Result, MatchResult}
 use Rattle.std.specs.Ordering.{nat_cmp}
@@ -19,7 +19,7 @@ use Rattle.edm_values.specs.Values.{value_in}
 use Rattle.edm_values.specs.declared.Value.{Value}
 use Rattle.edm_data.proofs.KeyOrderLemmas.{position-push}
 use Rattle.edm_data.specs.Columns.{AreBelow, AreRising, kept_at, kept, value_or_null, column_values}
-use Rattle.edm_values.proofs.TopPlaces.{length-places}
+use Rattle.edm_values.proofs.TopPlaces.{length-places, map-places}
 use Rattle.edm_values.proofs.OptionFacts.{first_some-None}
 use Rattle.edm_values.proofs.ListFacts.{slice_get-last}
 use Rattle.edm_values.proofs.SearchFacts.{position-absent}
@@ -141,6 +141,38 @@ column-null at vs n below = ap (map value_or_null) (kept-none at vs n below) ∙
 
 pub length-column : (at : List ℕ) (vs : List Value) (n : ℕ) → length (column_values at vs n) ≡ n
 length-column at vs n = length-map (kept at vs n) value_or_null ∙ length-kept at vs n
+
+-- ---- columns without null
+
+-- places that rise are no less than their own places
+rising_least : (at : List ℕ) (i : ℕ) → AreRising at → i < length at → i ≤ get_or at i 0
+rising_least at zero rising within = omega arith
+rising_least at (suc i) rising within = let e = rising_least at i rising (omega (arith, within)) in let s = rising i (suc i) (omega arith) within in omega (arith, e, s)
+
+-- and have room for those behind them
+rising_most : (at : List ℕ) (n d i : ℕ) → AreBelow n at → AreRising at → i + suc d ≡ length at → get_or at i 0 + d < n
+rising_most at n zero i below rising is = let e = below i (omega (arith, is)) in omega (arith, e)
+rising_most at n (suc d) i below rising is = let e = rising_most at n d (suc i) below rising (omega (arith, is)) in let s = rising i (suc i) (omega arith) (omega (arith, is)) in omega (arith, e, s)
+
+-- so none is left out where there are as many as they may be
+rising_all : (at : List ℕ) (n k : ℕ) → AreBelow n at → AreRising at → length at ≡ n → k < n → get_or at k 0 ≡ k
+rising_all at n k below rising size less =
+    let least = rising_least at k rising (omega (arith, size, less)) in
+    let most = rising_most at n (n - suc k) k below rising (omega (arith, size, less)) in
+    omega (arith, least, most, less)
+
+map_twice : {X Y Z : Type 0} (f : X → Y) (g : Y → Z) (xs : List X) → map g (map f xs) ≡ map (λ x. g (f x)) xs
+map_twice f g [] = refl
+map_twice f g (x ∷ xs) = ap (λ l. g (f x) ∷ l) (map_twice f g xs)
+
+-- a column of which each value is kept has these values
+pub column-whole : (at : List ℕ) (vs : List Value) (n : ℕ) → AreBelow n at → AreRising at → length at ≡ n → length vs ≡ n → column_values at vs n ≡ vs
+column-whole at vs n below rising size count =
+    map_twice (kept_at at vs) value_or_null (places n)
+    ∙ map-agree_places (λ k. value_or_null (kept_at at vs k)) (λ k. get_or vs k Value.Null) n (λ k less.
+    ap (λ o. value_or_null (option_and_then (slice_get vs) o)) (found-rising at k k rising (omega (arith, size, less)) (rising_all at n k below rising size less))
+    ∙ ap value_or_null (slice_get-get_or vs k Value.Null (omega (arith, count, less))))
+    ∙ ap (λ m. map (λ k. get_or vs k Value.Null) (places m)) (sym count) ∙ map-places vs Value.Null
 
 -- ---- what is kept for a place, in a list that is kept
 

@@ -11,6 +11,7 @@ pub mod KeyedLemmas
 pub mod LinkedLemmas
 pub mod LoadLemmas
 pub mod PlaceLemmas
+pub mod PoolLemmas
 pub mod ReaderLemmas
 pub mod ReferenceLemmas
 pub mod RelationLemmas

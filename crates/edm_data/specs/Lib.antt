@@ -15,6 +15,7 @@ pub mod Keys
 pub mod LinkLists
 pub mod Links
 pub mod Nodes
+pub mod NumberedTexts
 pub mod Readers
 pub mod References
 pub mod Refusals

@@ -1,5 +1,5 @@
 //! The values of a property, of which only those that are not null take memory.
-ghost use Rattle.std.specs.Prelude.{◌≡◌, ◌<◌, ◌+◌, ◌^◌, [], ◌∷◌, ◌++◌, length, IfOk, OnOk};
+ghost use Rattle.std.specs.Prelude.{◌≡◌, ◌<◌, ◌+◌, ◌^◌, [], ◌∷◌, ◌++◌, length, IfOk, IfSome, OnOk};
 ghost use Rattle.edm_values.specs.Values.{seen_value, value_in};
 
 use crate::places::Places;
@@ -46,6 +46,17 @@ impl Column {
             Some(at) => self.values.get(at),
             None => Seen::Null,
         }
+    }
+
+    /// The values, where none is null.
+    pub(crate) fn whole(&self) -> Option<&Values>
+        ensures { IfSome result (λ values. self.now ≡ values.now) }
+    {
+        let count = self.count as usize;
+        if self.values.len() == count && self.places.are(count) {
+            return Some(&self.values);
+        }
+        None
     }
 
     /// A copy that takes no more room than it needs.

@@ -3,10 +3,10 @@
 //! `read_data` reads a JSON file over a model and gives its `Data`, or the first fault that the file has. `Data` answers
 //! which value an entity has, which entity has a key, what an entity refers to, and what it is related to. `PropertyValues` has
 //! the values of one property of a set's entities, and `LinkedPlaces` what they refer to by one navigation property, for those who
-//! read many.
+//! read many. Texts that repeat are kept once each, and `NumberedTexts` tells which are the same by their numbers.
 //! `docs/data-file.md` states the form of a file.
 //!
-//! The crate stands on `edm_model` for models, on `edm_values` for values and their order, and on `serde_json`.
+//! The crate stands on `edm_model` for models, on `edm_values` for values and their order, and on `serde_json` and `indexmap`.
 //!
 //! It promises that the data is the world of the file (`specs/DataFile`), that each refusal comes exactly where the file
 //! is so, memory aside, with its first place, and that each reader equals a search or a filter of the world's lists
@@ -24,6 +24,7 @@ mod keys;
 mod linked_places;
 mod links;
 mod load;
+mod numbered_texts;
 mod places;
 mod property_values;
 mod references;
@@ -41,6 +42,7 @@ use edm_values::Text;
 pub use entities::{is_known_member, property_value, set_items};
 pub use linked_places::LinkedPlaces;
 pub use load::{DATA_LIMIT, read_data};
+pub use numbered_texts::NumberedTexts;
 pub use property_values::PropertyValues;
 use std::alloc::{AllocError, AllocFailed};
 use std::marker::Model;

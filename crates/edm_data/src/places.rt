@@ -1,6 +1,6 @@
 //! Places that rise.
-ghost use Rattle.std.specs.Prelude.{◌≡◌, ◌<◌, [], ◌∷◌, ◌++◌, length, nat_eq, position, IfOk, OnOk, OnErr};
-ghost use Rattle.edm_data.specs.Columns.{AreBelow};
+ghost use Rattle.std.specs.Prelude.{◌≡◌, ◌<◌, [], ◌∷◌, ◌++◌, length, nat_eq, position, true, IfOk, OnOk, OnErr};
+ghost use Rattle.edm_data.specs.Columns.{AreBelow, AreRising};
 
 use std::alloc::{AllocError, Global};
 
@@ -36,6 +36,14 @@ impl Places {
         ensures { result ≡ length self.now }
     {
         self.list.len()
+    }
+
+    /// Whether there are so many places.
+    pub(crate) fn are(&self, count: usize) -> bool
+        ensures size { result ≡ true → length self.now ≡ count }
+        ensures rising { AreRising self.now }
+    {
+        self.list.len() == count
     }
 
     /// Where this place stands among them, found in the halves of the list.

@@ -1,10 +1,13 @@
 //! The values of one property of a set's entities.
-ghost use Rattle.std.specs.Prelude.{◌≡◌, option_map};
+ghost use Rattle.std.specs.Prelude.{◌≡◌, IfSome, map, option_map};
+ghost use Rattle.edm_data.specs.NumberedTexts.{numbered_values};
 ghost use Rattle.edm_data.specs.Readers.{seen_column};
+ghost use Rattle.edm_values.specs.declared.Value.{Value as Value'};
 ghost use Rattle.edm_values.specs.Values.{seen_value, value_in};
 
 use crate::columns::Column;
-use edm_values::Seen;
+use crate::numbered_texts::NumberedTexts;
+use edm_values::{Dec, Seen};
 use std::marker::Model;
 
 /// The values of a property of a set's entities, in data order. They are read where they stand.
@@ -40,5 +43,27 @@ impl<'a> PropertyValues<'a> {
             Some(column) => column.get(place),
             None => Seen::Null,
         }
+    }
+
+    /// The integers, where each value is one.
+    pub fn ints(&self) -> Option<&'a [i64]>
+        ensures value { IfSome result (λ list. self.now ≡ map Value'.Int list.now) }
+    {
+        self.column?.whole()?.ints()
+    }
+
+    /// The decimals, where each value is one.
+    pub fn decs(&self) -> Option<&'a [Dec]>
+        ensures value { IfSome result (λ list. self.now ≡ map Value'.Dec list.now) }
+    {
+        self.column?.whole()?.decs()
+    }
+
+    /// The texts with their numbers, where each value is a text and they are kept once each: at most half of them are distinct, and
+    /// of the first 4,096.
+    pub fn texts(&self) -> Option<&'a NumberedTexts>
+        ensures value { IfSome result (λ texts. self.now ≡ numbered_values texts.now) }
+    {
+        self.column?.whole()?.texts()
     }
 }

@@ -2,6 +2,7 @@
 ghost use Rattle.std.specs.Prelude.{◌≡◌, ◌<◌, [], ◌∷◌, ◌++◌, length, get_or, IfOk, OnOk, OnErr};
 
 use std::alloc::{AllocError, Global};
+use std::hash::{DefaultHasher, Hasher};
 
 /// Where a text begins, and where it ends.
 #[derive(Clone, Copy, Debug, Drop)]
@@ -56,6 +57,13 @@ impl Texts {
         let bytes = &self.bytes[span.begin as usize..span.end as usize];
         // SAFETY: each span is that of a text which was put in.
         unsafe { str::from_utf8_unchecked(bytes) }
+    }
+
+    /// A hash that begins with all texts.
+    pub(crate) fn begin_hash(&self) -> DefaultHasher {
+        let mut state = DefaultHasher::new();
+        state.write(self.bytes.as_slice());
+        state
     }
 
     /// A copy that takes no more room than it needs.

@@ -1,7 +1,11 @@
 //! Lists of values that take little memory where all are of one kind.
-ghost use Rattle.std.specs.Prelude.{◌≡◌, ◌<◌, [], ◌∷◌, ◌++◌, length, OnOk, OnErr, IfOk};
+ghost use Rattle.std.specs.Prelude.{◌≡◌, ◌<◌, [], ◌∷◌, ◌++◌, length, map, OnOk, OnErr, IfOk, IfSome};
+ghost use Rattle.edm_values.specs.declared.Value.{Value as Value'};
 ghost use Rattle.edm_values.specs.Values.{seen_value, value_in};
+ghost use Rattle.edm_data.specs.KeptValues.{values_kept};
+ghost use Rattle.edm_data.specs.NumberedTexts.{numbered_values};
 
+use crate::numbered_texts::NumberedTexts;
 use crate::texts::Texts;
 use edm_values::{Day, Dec, EdmType, Seen, Value};
 use std::alloc::{AllocError, Global};
@@ -13,6 +17,8 @@ pub(crate) enum Kept {
     Ints(Vec<i64>),
     Decs(Vec<Dec>),
     Texts(Texts),
+    /// Texts of which each is kept once.
+    Numbered(NumberedTexts),
     Days(Vec<Day>),
     /// Values of several kinds.
     Mixed(Vec<Value>),
@@ -31,6 +37,16 @@ impl std::marker::Model for Values {
     ghost Value = { ValueList };
 
     ghost view = { λ v. values_kept v.kept };
+}
+
+/// A copy of texts that takes no more room than it needs: where texts repeat, each is kept once.
+fn packed_texts(alloc: Global, texts: &Texts) -> Result<Kept, AllocError>
+    ensures { IfOk result (λ kept. values_kept kept ≡ map Value'.Text texts.now) }
+{
+    match NumberedTexts::of(alloc, texts)? {
+        Some(list) => Ok(Kept::Numbered(list)),
+        None => Ok(Kept::Texts(texts.packed()?)),
+    }
 }
 
 impl Values {
@@ -57,6 +73,7 @@ impl Values {
             Kept::Ints(list) => list.len(),
             Kept::Decs(list) => list.len(),
             Kept::Texts(list) => list.len(),
+            Kept::Numbered(list) => list.len(),
             Kept::Days(list) => list.len(),
             Kept::Mixed(list) => list.len(),
         }
@@ -73,8 +90,39 @@ impl Values {
             Kept::Ints(list) => Seen::Int(list[place]),
             Kept::Decs(list) => Seen::Dec(list[place]),
             Kept::Texts(list) => Seen::Text(list.get(place)),
+            Kept::Numbered(list) => Seen::Text(list.get(place)),
             Kept::Days(list) => Seen::Day(list[place]),
             Kept::Mixed(list) => list[place].seen(),
+        }
+    }
+
+    /// The integers, where each value is one.
+    pub(crate) fn ints(&self) -> Option<&[i64]>
+        ensures { IfSome result (λ list. self.now ≡ map Value'.Int list.now) }
+    {
+        match &self.kept {
+            Kept::Ints(list) => Some(list.as_slice()),
+            _ => None,
+        }
+    }
+
+    /// The decimals, where each value is one.
+    pub(crate) fn decs(&self) -> Option<&[Dec]>
+        ensures { IfSome result (λ list. self.now ≡ map Value'.Dec list.now) }
+    {
+        match &self.kept {
+            Kept::Decs(list) => Some(list.as_slice()),
+            _ => None,
+        }
+    }
+
+    /// The texts with their numbers, where each value is a text and they are kept once each.
+    pub(crate) fn texts(&self) -> Option<&NumberedTexts>
+        ensures { IfSome result (λ list. self.now ≡ numbered_values list.now) }
+    {
+        match &self.kept {
+            Kept::Numbered(list) => Some(list),
+            _ => None,
         }
     }
 
@@ -97,7 +145,8 @@ impl Values {
             Kept::Bools(list) => Kept::Bools(list.clone()?),
             Kept::Ints(list) => Kept::Ints(list.clone()?),
             Kept::Decs(list) => Kept::Decs(list.clone()?),
-            Kept::Texts(list) => Kept::Texts(list.packed()?),
+            Kept::Texts(list) => packed_texts(alloc, list)?,
+            Kept::Numbered(list) => Kept::Numbered(list.packed()?),
             Kept::Days(list) => Kept::Days(list.clone()?),
             Kept::Mixed(_) => Kept::Mixed(self.copied(alloc)?),
         };
@@ -140,6 +189,7 @@ impl Values {
                     return Ok(());
                 }
             }
+            Kept::Numbered(_) => {}
             Kept::Mixed(list) => {
                 list.push(value.own(alloc)?)?;
                 return Ok(());

@@ -2,7 +2,7 @@
 ghost use Rattle.std.specs.Prelude.{◌≡◌, IfSome};
 ghost use Rattle.edm_model.specs.LookUps.{IsSet, IsNavigation, set_type};
 
-use edm_data::{Data, DataRefused, EntityRef, read_data};
+use edm_data::{Data, DataRefused, EntityRef, PropertyValues, read_data};
 use edm_model::{Model, NavId, SetId, read_model};
 use edm_values::Seen;
 use std::alloc::Global;
@@ -130,6 +130,48 @@ fn expect_related(rt: &impl Abort, store: &Data) {
     }
 }
 
+/// The values of a property of a set.
+fn values_of<'a>(store: &'a Data, set: &str, property: &str) -> Option<PropertyValues<'a>> {
+    let model = store.model();
+    let s = model.set_named(set)?;
+    let p = model.prop_named(model.set_type(s), property)?;
+    Some(store.values(s, p))
+}
+
+/// The numbers of the texts of a property, where they are kept once each.
+fn numbers_of<'a>(store: &'a Data, set: &str, property: &str) -> Option<&'a [u32]> {
+    Some(values_of(store, set, property)?.texts()?.numbers())
+}
+
+/// The text that has a number there.
+fn text_of<'a>(store: &'a Data, set: &str, property: &str, number: u32) -> Option<&'a str> {
+    let texts = values_of(store, set, property)?.texts()?;
+    if (number as usize) < texts.count() {
+        return Some(texts.text(number));
+    }
+    None
+}
+
+/// Texts are kept once each where at most half of them are distinct, and none is null.
+fn expect_lists(rt: &impl Abort, store: &Data) {
+    let numbers: &[u32] = &[0, 0, 1, 2, 1, 0];
+    assert_eq!(rt; numbers_of(store, "Sales", "CustomerID"), Some(numbers));
+    assert_eq!(rt; text_of(store, "Sales", "CustomerID", 2), Some("C3"));
+    assert_eq!(rt; text_of(store, "Sales", "CustomerID", 3), None);
+    assert_eq!(rt; numbers_of(store, "Sales", "OrgID"), None, "one is null");
+    assert_eq!(rt;
+        numbers_of(store, "Customers", "ID"),
+        None,
+        "all are distinct"
+    );
+    let Some(values) = values_of(store, "Sales", "ID") else {
+        panic!(rt; "no property");
+    };
+    let ints: &[i64] = &[1, 2, 3, 4, 5, 6];
+    assert_eq!(rt; values.ints(), Some(ints));
+    assert!(rt; values.decs().is_none());
+}
+
 #[test]
 fn entities_are_found_by_key_by_reference_and_by_relation(rt: HostRuntime) {
     let Ok(model) = read_model(rt.alloc(), SALES_MODEL.as_bytes()) else {
@@ -140,6 +182,7 @@ fn entities_are_found_by_key_by_reference_and_by_relation(rt: HostRuntime) {
     };
     expect_places(&rt, &store);
     expect_related(&rt, &store);
+    expect_lists(&rt, &store);
 }
 
 /// The name of what a file is, and the place of the entity that is told.
