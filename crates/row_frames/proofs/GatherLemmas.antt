@@ -10,14 +10,14 @@ use Rattle.std.proofs.lemmas.Option.{slice_get-get_or, slice_get-map}
 use Rattle.edm_values.specs.declared.Value.{Value}
 use Rattle.edm_values.specs.Lists.{is_nonempty, are_distinct}
 use Rattle.edm_values.specs.Names.{Path}
-use Rattle.edm_data.specs.Worlds.{Entity}
+use Rattle.edm_data.specs.Worlds.{Entity, entity_at}
 use Rattle.context_typing.specs.Paths.{same_path}
 use Rattle.apply_meaning.specs.RowViews.{IsRow, columns_differ, row_instance}
 use Rattle.row_frames.specs.declared.tables.Prefix.{Prefix}
 use Rattle.row_frames.specs.declared.tables.Column.{Column}
 use Rattle.row_frames.specs.declared.tables.Table.{Table}
 use Rattle.row_frames.specs.declared.tables.Pick.{Pick}
-use Rattle.row_frames.specs.Frames.{IsTable, all_picked, column_at, columns_at, instance_at, picked, picked_in, prefix_at, prefixes_at}
+use Rattle.row_frames.specs.Frames.{IsTable, all_picked, bound_place, column_at, columns_at, instance_at, picked, picked_in, prefix_at, prefixes_at}
 use Rattle.row_frames.specs.Gathered.{AreInOrder, at_row, IsColumnOf, IsGathered, IsPartOf, in_order}
 
 -- ---- lists
@@ -99,7 +99,8 @@ prefixes-of rows [] [] h k d l = refl
 prefixes-of rows [] (q ∷ qs) h k d l = absurd h
 prefixes-of rows (p ∷ ps) [] h k d l = absurd h
 prefixes-of rows (p ∷ ps) (q ∷ qs) h k d l =
-    λ i. ((h.0).path i, image-at (λ r. (prefix_at r p).1) rows (arc_value q.bound).items k d None (h.0).bound l i) ∷ prefixes-of rows ps qs h.1 k d l i
+    let at = image-at (λ r. bound_place r p) rows (arc_value q.places).items k d None (h.0).places l in
+    λ i. ((h.0).path i, option_map (entity_at ((h.0).set i)) (at i)) ∷ prefixes-of rows ps qs h.1 k d l i
 
 columns-of : (rows : List ℕ) (cs es : List Column) → AllZip (IsColumnOf rows) cs es → (k d : ℕ) → k < length rows → map (column_at k) es ≡ map (column_at (get_or rows k d)) cs
 columns-of rows [] [] h k d l = refl

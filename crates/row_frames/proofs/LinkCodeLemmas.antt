@@ -1,10 +1,9 @@
 -- Entities have the same value of a property by which they refer to others exactly where they refer to the same.
 use Rattle.std.proofs.Common.{◌≡◌, ℕ, zero, suc, ◌<◌, ◌≤◌, refl, sym, ◌∙◌, ap, subst, Bool, true, false, List, [], ◌∷◌, ◌++◌, ◌+◌, ◌&&◌, length, get_or, take, map, nat_eq, arith, Option, Some, None, ⊎_elim}
 use Rattle.std.specs.Prelude.{Err, IfOk, IfSome, Ok, Result, if◌then◌else◌, not, option_and_then, option_map, position, slice_get, unwrap_or}
-use Rattle.std.specs.List.{All, find, list_any}
+use Rattle.std.specs.List.{find, list_any}
 use Rattle.std.specs.Option.{is_none}
-use Rattle.std.specs.Cmp.{both_ways}
-use Rattle.std.proofs.lemmas.Bool.{and_parts, and_from, cases_lt, eq-eqb, eqb-true, false≢true, or_from}
+use Rattle.std.proofs.lemmas.Bool.{and_parts, cases_lt, false≢true, or_from}
 use Rattle.std.proofs.lemmas.List.{length-map, take_more}
 use Rattle.std.proofs.lemmas.List.Folds.{list_any_at}
 use Rattle.std.proofs.lemmas.List.Quantifiers.{position-Some}
@@ -13,7 +12,7 @@ use Rattle.std.proofs.lemmas.Simd.{map-map}
 use Rattle.edm_values.specs.declared.Value.{Value}
 use Rattle.edm_values.specs.Literals.{is_of_kind}
 use Rattle.edm_values.specs.Names.{Path}
-use Rattle.edm_values.specs.OrderLaws.{same_value_is, same_value_itself}
+use Rattle.edm_values.specs.OrderLaws.{same_value_is}
 use Rattle.edm_values.specs.Values.{is_beyond, is_null, same_value, value_in}
 use Rattle.edm_model.specs.LookUps.{IsSet, navigation_at, properties_of, set_of_type, set_type}
 use Rattle.edm_model.specs.Models.{Navigation, Part, Property}
@@ -24,7 +23,7 @@ use Rattle.edm_data.specs.References.{by_key, count, entities_of, follow, keys_o
 use Rattle.edm_data.specs.Worlds.{World, Entity, all_places, entity_at}
 use Rattle.edm_data.proofs.FirstPlaces.{none-in_all_places}
 use Rattle.edm_data.proofs.ReferenceLemmas.{nav_at, nav_same}
-use Rattle.apply_meaning.specs.Instances.{Instance, lookup, root_of}
+use Rattle.apply_meaning.specs.Instances.{lookup}
 use Rattle.row_frames.specs.declared.tables.Pick.{Pick}
 use Rattle.row_frames.specs.declared.tables.Table.{Table}
 use Rattle.row_frames.specs.Frames.{all_picked, picked}

@@ -26,6 +26,7 @@ use Rattle.edm_model.specs.contracts.parts.Custom as custom_type
 use Rattle.edm_model.specs.contracts.parts.Ids as ids_type
 use Rattle.edm_model.specs.contracts.model.Model as model_type
 use Rattle.edm_data.specs.contracts.texts.Texts as kept_texts_type
+use Rattle.edm_data.specs.contracts.numbered_texts.NumberedTexts as numbered_texts_type
 use Rattle.edm_data.specs.contracts.places.Places as places_type
 use Rattle.edm_data.specs.contracts.links.Links as links_type
 use Rattle.edm_data.specs.contracts.values.Values as values_type
@@ -92,6 +93,9 @@ model-sync = search (sendable, crosses, maps.crosses, entity_type-sync, entity_s
 pub kept_texts-sync : IsSync kept_texts_type.the_row
 kept_texts-sync = search (sendable, crosses, maps.crosses) depth 60 fits 20000
 
+pub numbered_texts-sync : IsSync numbered_texts_type.the_row
+numbered_texts-sync = search (sendable, crosses, maps.crosses, kept_texts-sync) depth 60 fits 20000
+
 pub places-sync : IsSync places_type.the_row
 places-sync = search (sendable, crosses, maps.crosses) depth 60 fits 20000
 
@@ -99,7 +103,7 @@ pub links-sync : IsSync links_type.the_row
 links-sync = search (sendable, crosses, maps.crosses, places-sync) depth 60 fits 20000
 
 pub values-sync : IsSync values_type.the_row
-values-sync = search (sendable, crosses, maps.crosses, text-sync, kept_texts-sync) depth 60 fits 20000
+values-sync = search (sendable, crosses, maps.crosses, text-sync, kept_texts-sync, numbered_texts-sync) depth 60 fits 20000
 
 pub column-sync : IsSync column_type.the_row
 column-sync = search (sendable, crosses, maps.crosses, places-sync, values-sync) depth 60 fits 20000

@@ -1,5 +1,5 @@
 -- Frames: lists of instances that are kept by columns.
-use Rattle.std.specs.Prelude.{◌≡◌, ◌<◌, ℕ, Bool, IsTrue, List, Option, Some, None, get_or, length, map, slice_get, unwrap_or}
+use Rattle.std.specs.Prelude.{◌≡◌, ◌<◌, ℕ, Bool, IsTrue, List, Option, Some, None, get_or, length, map, option_map, slice_get, unwrap_or}
 use Rattle.std.specs.declared.result.Result as result
 use Rattle.std.specs.Arc.{arc_value}
 use Rattle.std.specs.Global.{Vec}
@@ -42,9 +42,13 @@ root_at roots.Without k = None
 root_at (roots.Whole s) k = Some (entity_at s k)
 root_at (roots.Listed s places) k = Some (entity_at s (get_or (arc_value places).items k 0))
 
+-- the place, in its set, of what stands at a prefix in a row
+abbrev pub bound_place : ℕ → Prefix → Option ℕ
+bound_place k p = unwrap_or (slice_get (arc_value p.places).items k) None
+
 -- what stands at a prefix in a row
 abbrev pub prefix_at : ℕ → Prefix → Path × Option Entity
-prefix_at k p = (p.path, unwrap_or (slice_get (arc_value p.bound).items k) None)
+prefix_at k p = (p.path, option_map (entity_at p.set) (bound_place k p))
 
 -- the value of a column in a row
 abbrev pub column_at : ℕ → Column → Path × Value
@@ -95,6 +99,16 @@ abbrev pub cell_in : Option Column → ℕ → Value
 cell_in None k = Value.Null
 cell_in (Some c) k = (column_at k c).1
 
+-- what stands, in a row, at a prefix that may be there
+abbrev pub bound_in : Option Prefix → ℕ → Option Entity
+bound_in None k = None
+bound_in (Some p) k = (prefix_at k p).1
+
+-- the place of it in its set
+abbrev pub bound_place_in : Option Prefix → ℕ → Option ℕ
+bound_place_in None k = None
+bound_place_in (Some p) k = bound_place k p
+
 -- the value of an entity that may be there, among those of its set
 abbrev pub value_at : List Value → Option ℕ → Value
 value_at vs None = Value.Null
@@ -105,8 +119,12 @@ abbrev pub leaf_value : World → Table → ℕ → Leaf → Value
 leaf_value w t k (leaf.Literal v) = seen_value v
 leaf_value w t k (leaf.Column c) = cell_in (slice_get t.columns.items c) k
 leaf_value w t k (leaf.Own values) = value_in values (place_in t.roots k)
+leaf_value w t k (leaf.Ints list) = value_in (map Value.Int list.now) (place_in t.roots k)
+leaf_value w t k (leaf.Decs list) = value_in (map Value.Dec list.now) (place_in t.roots k)
 leaf_value w t k (leaf.Linked links values) = value_at values (link_in links (place_in t.roots k))
 leaf_value w t k (leaf.Property hops p) = property_in w (reached w (root_at t.roots k) hops.items) p.at
+leaf_value w t k (leaf.At c values) = value_at values (bound_place_in (slice_get t.prefixes.items c) k)
+leaf_value w t k (leaf.Behind c hops p) = property_in w (reached w (bound_in (slice_get t.prefixes.items c) k) hops.items) p.at
 leaf_value w t k (leaf.Path p) = lookup w (instance_at t k) p.now
 
 -- the value of a bound expression in a row of a table

@@ -6,7 +6,7 @@ use Rattle.row_frames.specs.declared.tables.Prefix.{Prefix}
 use Rattle.row_frames.specs.declared.tables.Column.{Column}
 use Rattle.row_frames.specs.declared.tables.Table.{Table}
 use Rattle.row_frames.specs.declared.tables.Pick.{Pick}
-use Rattle.row_frames.specs.Frames.{column_at, columns_at, prefix_at, prefixes_at, root_at}
+use Rattle.row_frames.specs.Frames.{bound_place, column_at, columns_at, prefix_at, prefixes_at, root_at}
 
 -- the second table has these columns behind those of the first
 pub record IsWidened (cs : List Column) (t u : Table) : Type 0 where
@@ -17,7 +17,8 @@ pub record IsWidened (cs : List Column) (t u : Table) : Type 0 where
 -- the second prefix has what stands in these rows at the first
 pub record IsPartOf (rows : List ℕ) (p q : Prefix) : Type 0 where
   pub path : q.path ≡ p.path
-  pub bound : (arc_value q.bound).items ≡ map (λ r. (prefix_at r p).1) rows
+  pub set : q.set ≡ p.set
+  pub places : (arc_value q.places).items ≡ map (λ r. bound_place r p) rows
 
 -- the second column has the values of these rows in the first
 pub record IsColumnOf (rows : List ℕ) (c e : Column) : Type 0 where

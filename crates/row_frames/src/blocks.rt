@@ -3,18 +3,51 @@
 ghost use Rattle.std.specs.Prelude.{◌≡◌, ℕ, IfOk, IfSome, length, map};
 ghost use Rattle.std.specs.List.{All};
 ghost use Rattle.edm_data.specs.Worlds.{World};
-ghost use Rattle.edm_values.specs.Values.{negated, negation as spec_negation, seen_value};
+ghost use Rattle.edm_values.specs.declared.Value.{Value as Value'};
+ghost use Rattle.edm_values.specs.Values.{negated, negation as spec_negation, seen_value, value_in};
 ghost use Rattle.apply_meaning.specs.Instances as meaning;
 ghost use Rattle.row_frames.specs.Blocks.{paired, unary};
 ghost use Rattle.row_frames.specs.Frames as spec;
 ghost use Rattle.row_frames.specs.declared.tables.Table.{Table as Table'};
 
-use crate::readers::{Bound, Leaf, TableReader, read_leaf};
-use crate::tables::Pick;
+use crate::readers::{Bound, Leaf, TableReader, dec_at, int_at, read_leaf};
+use crate::tables::{Pick, Roots, place_in};
 use apply_ast::{BinOp, Fun1, Fun2, UnOp};
 use apply_meaning::{binary, call1, call2, negation};
-use edm_values::{Seen, neg};
+use edm_values::{Dec, Seen, neg};
 use std::alloc::{AllocError, Global};
+
+/// The integer at the place of each of the rows.
+fn ints_block<'a>(
+    alloc: Global,
+    roots: &Roots,
+    list: &[i64],
+    rows: &[Pick],
+) -> Result<Vec<Seen<'a>>, AllocError>
+    ensures { IfOk result (λ vs. map (λ v. seen_value v) vs.items ≡ map (λ x. value_in (map Value'.Int list.now) (spec.place_in roots.now x.row)) rows.now) }
+{
+    let mut found = Vec::with_capacity(alloc, rows.len())?;
+    for row in rows {
+        found.push(int_at(list, place_in(roots, row.row)))?;
+    }
+    Ok(found)
+}
+
+/// The decimal at the place of each of the rows.
+fn decs_block<'a>(
+    alloc: Global,
+    roots: &Roots,
+    list: &[Dec],
+    rows: &[Pick],
+) -> Result<Vec<Seen<'a>>, AllocError>
+    ensures { IfOk result (λ vs. map (λ v. seen_value v) vs.items ≡ map (λ x. value_in (map Value'.Dec list.now) (spec.place_in roots.now x.row)) rows.now) }
+{
+    let mut found = Vec::with_capacity(alloc, rows.len())?;
+    for row in rows {
+        found.push(dec_at(list, place_in(roots, row.row)))?;
+    }
+    Ok(found)
+}
 
 /// The value of a leaf in each of the rows.
 fn leaf_block<'a>(
@@ -26,6 +59,11 @@ fn leaf_block<'a>(
     requires { All (λ x. spec.CanRead reader.now x.row) rows.now }
     ensures { IfOk result (λ vs. map (λ v. seen_value v) vs.items ≡ map (λ x. spec.leaf_value reader.now.store.now reader.now.table.now x.row leaf.now) rows.now) }
 {
+    match leaf {
+        Leaf::Ints(list) => return ints_block(alloc, &reader.table.roots, list, rows),
+        Leaf::Decs(list) => return decs_block(alloc, &reader.table.roots, list, rows),
+        _ => {}
+    }
     let mut found = Vec::with_capacity(alloc, rows.len())?;
     for row in rows {
         found.push(read_leaf(reader.store, reader.table, leaf, row.row))?;

@@ -11,8 +11,10 @@ ghost use Rattle.value_codes.specs.Codes.{AreCodes};
 
 use crate::own::property_of;
 use crate::picks::picked_root;
+use crate::readers::bind_path;
 use crate::references::reference;
 use crate::tables::{Pick, Table};
+use crate::text_codes::leaf_codes;
 use apply_ast::Path;
 use apply_meaning::data_is_loaded;
 use edm_data::{Data, LinkedPlaces};
@@ -59,6 +61,52 @@ fn link_codes(
 
 /// The numbers of the values of a path in the rows that are picked, where it is a property of the entities of one set by which these
 /// refer to others: they are those of what the entities refer to.
+fn reference_codes(
+    alloc: Global,
+    store: &Data,
+    tables: &[Table],
+    picks: &[Pick],
+    path: &Path,
+) -> Result<Option<Codes>, AllocError>
+    requires tables { All spec.IsTable tables.now }
+    requires within { All (λ x. x.table < length tables.now) picks.now }
+    ensures value { IfOk result (λ o. IfSome o (AreCodes (key_column store.now (spec.all_picked tables.now picks.now) path.now))) }
+    ensures within { IfOk result (λ o. IfSome o (λ _. list_any is_beyond (key_column store.now (spec.all_picked tables.now picks.now) path.now) ≡ false)) }
+{
+    let Some((set, p)) = property_of(store, tables, path) else {
+        return Ok(None);
+    };
+    data_is_loaded(store);
+    let Some((nav, count)) = reference(store, set, p) else {
+        return Ok(None);
+    };
+    let links = store.linked_places(set, nav);
+    link_codes(alloc, tables, picks, &links, count)
+}
+
+/// The numbers of the values of a path in the rows that are picked, where all are of one table and these are texts that are kept once
+/// each.
+fn table_codes(
+    alloc: Global,
+    store: &Data,
+    tables: &[Table],
+    picks: &[Pick],
+    path: &Path,
+) -> Result<Option<Codes>, AllocError>
+    requires within { All (λ x. x.table < length tables.now) picks.now }
+    ensures value { IfOk result (λ o. IfSome o (AreCodes (key_column store.now (spec.all_picked tables.now picks.now) path.now))) }
+    ensures within { IfOk result (λ o. IfSome o (λ _. list_any is_beyond (key_column store.now (spec.all_picked tables.now picks.now) path.now) ≡ false)) }
+{
+    if tables.len() != 1 {
+        return Ok(None);
+    }
+    let table = &tables[0];
+    let leaf = bind_path(alloc, store, table, path)?;
+    leaf_codes(alloc, table, picks, &leaf)
+}
+
+/// The numbers of the values of a path in the rows that are picked, where it is a property by which entities refer to others, or one of
+/// texts that are kept once each.
 pub(crate) fn codes_of<R: Threads + Sync>(
     _rt: &R,
     alloc: Global,
@@ -75,13 +123,8 @@ pub(crate) fn codes_of<R: Threads + Sync>(
     ensures value { IfOk result (λ o. IfSome o (AreCodes (key_column store.now (spec.all_picked tables.now picks.now) path.now))) }
     ensures within { IfOk result (λ o. IfSome o (λ _. list_any is_beyond (key_column store.now (spec.all_picked tables.now picks.now) path.now) ≡ false)) }
 {
-    let Some((set, p)) = property_of(store, tables, path) else {
-        return Ok(None);
-    };
-    data_is_loaded(store);
-    let Some((nav, count)) = reference(store, set, p) else {
-        return Ok(None);
-    };
-    let links = store.linked_places(set, nav);
-    link_codes(alloc, tables, picks, &links, count)
+    match reference_codes(alloc, store, tables, picks, path)? {
+        Some(codes) => Ok(Some(codes)),
+        None => table_codes(alloc, store, tables, picks, path),
+    }
 }

@@ -1,10 +1,13 @@
 //! Values in the rows that are picked, which are folded where they are read.
-ghost use Rattle.std.specs.Prelude.{◌≡◌, ◌<◌, ◌≤◌, ◌++◌, ◌∷◌, All, IfOk, map};
+ghost use Rattle.std.specs.Prelude.{◌≡◌, ◌<◌, ◌≤◌, ◌++◌, ◌∷◌, All, IfOk, IfSome, length, map};
 ghost use Rattle.par_stages.specs.Placed.{placed};
+ghost use Rattle.row_frames.specs.Folded.{dec_of, int_of};
 ghost use Rattle.row_frames.specs.Frames as spec;
+ghost use Rattle.row_frames.specs.declared.tables.Pick.{Pick as Pick'};
 
-use crate::readers::{TableReader, value_of};
-use crate::tables::Pick;
+use crate::readers::{Bound, Leaf, TableReader, dec_at, int_at, value_of};
+use crate::tables::{Pick, Roots};
+use edm_values::Dec;
 use par_stages::{Gate, Partial, pieces};
 use seen_partials::SeenPartial;
 use std::alloc::AllocError;
@@ -55,9 +58,127 @@ impl<'r, 'a, P: SeenPartial> Partial for ReadOf<'r, 'a, P> {
     ghost counted = { λ p xs h. P.counted p.inner (all_read p.readers.now xs) h ∙ length-map xs (λ x. (read_at p.readers.now x.0, x.1)) };
 }
 
-/// What a partial over values keeps of those in the rows that are picked. These are cut into pieces, each of which is read and folded
-/// by a thread of its own where there are several workers.
-pub(crate) fn fold_read<R: Threads + Sync, P: SeenPartial + Sync, G: Gate>(
+/// A partial over rows of one table: what one over values keeps of integers, of which each row has the one at its place.
+#[derive(Drop)]
+struct IntsOf<'r, P> {
+    list: &'r [i64],
+    inner: P,
+}
+
+impl<'r, P: SeenPartial> Partial for IntsOf<'r, P> {
+    ghost use Rattle.std.specs.Prelude.{List, ℤ, map};
+    ghost use Rattle.std.proofs.Common.{◌∙◌};
+    ghost use Rattle.std.proofs.lemmas.List.{length-map};
+    ghost use Rattle.row_frames.specs.Folded.{ints_read, int_of};
+
+    type Item = Pick;
+
+    ghost Kind = { List ℤ × P.Kind };
+
+    ghost kind = { λ s. (s.list.now, P.kind s.inner) };
+
+    ghost takes = { λ k x. P.takes k.1 (int_of k.0 x) };
+
+    ghost count = { λ s. P.count s.inner };
+
+    ghost stands_for = { λ s xs. P.stands_for s.inner (ints_read s.list.now xs) };
+
+    fn fresh(&self) -> Result<IntsOf<'r, P>, AllocError> {
+        Ok(IntsOf {
+            list: self.list,
+            inner: self.inner.fresh()?,
+        })
+    }
+
+    fn add(&mut self, item: &Pick, place: usize) -> Result<(), AllocError> {
+        self.inner.add_seen(int_at(self.list, item.row), place)
+    }
+
+    fn merge(&mut self, later: IntsOf<'r, P>) -> Result<(), AllocError> {
+        self.inner.merge(later.inner)
+    }
+
+    ghost counted = { λ p xs h. P.counted p.inner (ints_read p.list.now xs) h ∙ length-map xs (λ x. (int_of p.list.now x.0, x.1)) };
+}
+
+/// The same of decimals.
+#[derive(Drop)]
+struct DecsOf<'r, P> {
+    list: &'r [Dec],
+    inner: P,
+}
+
+impl<'r, P: SeenPartial> Partial for DecsOf<'r, P> {
+    ghost use Rattle.std.specs.Prelude.{List, map};
+    ghost use Rattle.std.proofs.Common.{◌∙◌};
+    ghost use Rattle.std.proofs.lemmas.List.{length-map};
+    ghost use Rattle.edm_values.specs.declared.Dec.{Dec as Dec'};
+    ghost use Rattle.row_frames.specs.Folded.{decs_read, dec_of};
+
+    type Item = Pick;
+
+    ghost Kind = { List Dec' × P.Kind };
+
+    ghost kind = { λ s. (s.list.now, P.kind s.inner) };
+
+    ghost takes = { λ k x. P.takes k.1 (dec_of k.0 x) };
+
+    ghost count = { λ s. P.count s.inner };
+
+    ghost stands_for = { λ s xs. P.stands_for s.inner (decs_read s.list.now xs) };
+
+    fn fresh(&self) -> Result<DecsOf<'r, P>, AllocError> {
+        Ok(DecsOf {
+            list: self.list,
+            inner: self.inner.fresh()?,
+        })
+    }
+
+    fn add(&mut self, item: &Pick, place: usize) -> Result<(), AllocError> {
+        self.inner.add_seen(dec_at(self.list, item.row), place)
+    }
+
+    fn merge(&mut self, later: DecsOf<'r, P>) -> Result<(), AllocError> {
+        self.inner.merge(later.inner)
+    }
+
+    ghost counted = { λ p xs h. P.counted p.inner (decs_read p.list.now xs) h ∙ length-map xs (λ x. (dec_of p.list.now x.0, x.1)) };
+}
+
+/// The integers of which each row of the only table has the one at its place.
+fn row_ints<'a>(readers: &[TableReader<'a>]) -> Option<&'a [i64]>
+    ensures { IfSome result (λ list. (x : Pick') → x.table < length readers.now → spec.read_at readers.now x ≡ int_of list.now x) }
+{
+    let [reader] = readers else {
+        return None;
+    };
+    let Roots::Whole(_) = &reader.table.roots else {
+        return None;
+    };
+    match &reader.bound {
+        Bound::Leaf(Leaf::Ints(list)) => Some(list),
+        _ => None,
+    }
+}
+
+/// The decimals of which each row of the only table has the one at its place.
+fn row_decs<'a>(readers: &[TableReader<'a>]) -> Option<&'a [Dec]>
+    ensures { IfSome result (λ list. (x : Pick') → x.table < length readers.now → spec.read_at readers.now x ≡ dec_of list.now x) }
+{
+    let [reader] = readers else {
+        return None;
+    };
+    let Roots::Whole(_) = &reader.table.roots else {
+        return None;
+    };
+    match &reader.bound {
+        Bound::Leaf(Leaf::Decs(list)) => Some(list),
+        _ => None,
+    }
+}
+
+/// What a partial over values keeps of those in the rows that are picked, each of which is read by its table's reader.
+fn fold_each<R: Threads + Sync, P: SeenPartial + Sync, G: Gate>(
     rt: &R,
     readers: &[TableReader<'_>],
     picks: &[Pick],
@@ -77,4 +198,67 @@ pub(crate) fn fold_read<R: Threads + Sync, P: SeenPartial + Sync, G: Gate>(
     };
     let ReadOf { inner, .. } = pieces(rt, picks, workers, gate, &empty)?;
     Ok(inner)
+}
+
+/// What a partial over values keeps of the integers at the rows that are picked.
+fn fold_ints<R: Threads + Sync, P: SeenPartial + Sync, G: Gate>(
+    rt: &R,
+    list: &[i64],
+    picks: &[Pick],
+    workers: u32,
+    gate: &G,
+    empty: P,
+) -> Result<P, AllocError>
+    requires some { 0 < workers }
+    requires few { workers ≤ 64 }
+    requires kind { All (P.takes (P.kind empty)) (map (int_of list.now) picks.now) }
+    ensures { IfOk result (λ p. P.stands_for p (placed 0 (map (int_of list.now) picks.now))) }
+{
+    let empty = IntsOf { list, inner: empty };
+    let IntsOf { inner, .. } = pieces(rt, picks, workers, gate, &empty)?;
+    Ok(inner)
+}
+
+/// What a partial over values keeps of the decimals at the rows that are picked.
+fn fold_decs<R: Threads + Sync, P: SeenPartial + Sync, G: Gate>(
+    rt: &R,
+    list: &[Dec],
+    picks: &[Pick],
+    workers: u32,
+    gate: &G,
+    empty: P,
+) -> Result<P, AllocError>
+    requires some { 0 < workers }
+    requires few { workers ≤ 64 }
+    requires kind { All (P.takes (P.kind empty)) (map (dec_of list.now) picks.now) }
+    ensures { IfOk result (λ p. P.stands_for p (placed 0 (map (dec_of list.now) picks.now))) }
+{
+    let empty = DecsOf { list, inner: empty };
+    let DecsOf { inner, .. } = pieces(rt, picks, workers, gate, &empty)?;
+    Ok(inner)
+}
+
+/// What a partial over values keeps of those in the rows that are picked. These are cut into pieces, each of which is read and folded
+/// by a thread of its own where there are several workers.
+pub(crate) fn fold_read<R: Threads + Sync, P: SeenPartial + Sync, G: Gate>(
+    rt: &R,
+    readers: &[TableReader<'_>],
+    picks: &[Pick],
+    workers: u32,
+    gate: &G,
+    empty: P,
+) -> Result<P, AllocError>
+    requires some { 0 < workers }
+    requires few { workers ≤ 64 }
+    requires readable { All (spec.IsReadable readers.now) picks.now }
+    requires kind { All (P.takes (P.kind empty)) (map (spec.read_at readers.now) picks.now) }
+    ensures { IfOk result (λ p. P.stands_for p (placed 0 (map (spec.read_at readers.now) picks.now))) }
+{
+    if let Some(list) = row_ints(readers) {
+        return fold_ints(rt, list, picks, workers, gate, empty);
+    }
+    if let Some(list) = row_decs(readers) {
+        return fold_decs(rt, list, picks, workers, gate, empty);
+    }
+    fold_each(rt, readers, picks, workers, gate, empty)
 }

@@ -1,24 +1,33 @@
 //! Frames: lists of instances that are kept by columns.
-ghost use Rattle.std.specs.Prelude.{◌≡◌, ◌+◌, ◌≤◌, ◌<◌, ◌++◌, [], ℕ, List, IsTrue, IfOk, IfSome, false, true, filter, get_or, length, map, nat_lt, take, drop};
+ghost use Rattle.std.specs.Prelude.{◌≡◌, ◌+◌, ◌≤◌, ◌<◌, ◌==◌, ◌++◌, [], ℕ, List, IsTrue, IfOk, IfSome, Some, false, true, filter, get_or, length, map, nat_lt, take, drop};
 ghost use Rattle.std.specs.List.{All, list_all, list_any};
-ghost use Rattle.edm_values.specs.Lists.{at_places};
+ghost use Rattle.edm_values.specs.Lists.{at_places, is_some_and, places};
 ghost use Rattle.edm_values.specs.Values.{is_beyond, is_value, seen_value};
-ghost use Rattle.edm_model.specs.LookUps.{IsSet};
+ghost use Rattle.edm_model.specs.LookUps.{IsNavigation, IsSet, navigation_on};
+ghost use Rattle.edm_model.specs.Models.{Navigation};
+ghost use Rattle.edm_data.specs.References.{entity_type};
+ghost use Rattle.context_typing.specs.Paths.{is_none_or};
 ghost use Rattle.apply_ast.specs.Views.{expr_of, named_of};
 ghost use Rattle.apply_meaning.specs.Instances as meaning;
-ghost use Rattle.apply_meaning.specs.Instances.{extended, no_instance, root_of, val};
+ghost use Rattle.apply_meaning.specs.Instances.{entity_instance, extended, no_instance, root_of, val};
 ghost use Rattle.apply_meaning.specs.Meaning.{key_list, values, refused_at_beyond};
+ghost use Rattle.apply_meaning.specs.RowViews.{columns_differ};
 ghost use Rattle.apply_meaning.specs.Running.{all_free, all_of, new_columns as columns_of};
+ghost use Rattle.join_concat.specs.Joins.{bound_rows, is_free_of};
+ghost use Rattle.row_frames.specs.Columned.{given, row_across};
 ghost use Rattle.row_frames.specs.Frames as spec;
 ghost use Rattle.row_frames.specs.Keys.{key_column, key_columns, seen_columns};
 ghost use Rattle.row_frames.specs.Own.{IsOwn};
+ghost use Rattle.row_frames.specs.Related.{placed, related_to};
 ghost use Rattle.value_codes.specs.Codes.{AreCodes};
 
 use crate::chosen::picks_at;
 use crate::codes::codes_of;
+use crate::columned::{columned_tables, row_picks};
 use crate::computed::{computed_tables, new_columns, rows_in_order};
 use crate::frame_readers::{FrameReader, reader_over};
 use crate::joined::{copied_picks, joined_picks, joined_tables, shared_tables};
+use crate::joins::{alias_prefix, beside_tables, repeated_picks};
 use crate::kept::kept_picks;
 use crate::keys::{key_columns_of, key_lists_of};
 use crate::own::property_of;
@@ -26,12 +35,13 @@ use crate::picks::{first_picks, later_picks, picked_rows, set_picks};
 use crate::placed::{
     placed_columns, placed_keys, placed_root, placed_row, placed_rows, placed_values,
 };
+use crate::related::{are_of_set, picked_places, related_picks};
 use crate::tables::{Pick, Table, one_table, set_table};
 use crate::values::{seen_of, values_of};
-use apply_ast::{Expr, Named, Path};
+use apply_ast::{Expr, Name, Named, Path};
 use apply_meaning::{Row, RunRefused, Steps};
 use edm_data::{Data, EntityRef};
-use edm_model::{PropId, SetId};
+use edm_model::{NavId, PropId, SetId};
 use edm_values::{Seen, Value};
 use std::alloc::{AllocError, Global};
 use std::marker::Model;
@@ -272,7 +282,8 @@ impl Frame {
     }
 
     /// Numbers in place of the values of a path on the instances, where it is a property by which the entities of one set refer to
-    /// others: 0 of null, and else one more than the place of what the entity refers to.
+    /// others: 0 of null, and else one more than the place of what the entity refers to; or where all instances are of one table and
+    /// it is a property of texts that are kept once each, of their entities or of what these refer to: the numbers of the texts.
     pub fn codes<R: Threads + Sync>(
         &self,
         rt: &R,
@@ -387,6 +398,24 @@ impl Frame {
         }
     }
 
+    /// `count` instances without an entity, of which instance k has in the column of each path the value that stands at place k of its
+    /// list. No row is made. An error also where there would be more than 2^32 instances.
+    pub fn of_columns(
+        alloc: Global,
+        columns: Vec<(Path, Vec<Value>)>,
+        count: usize,
+    ) -> Result<Frame, AllocError>
+        requires differ { (k : ℕ) → k < count → IsTrue (columns_differ (row_across (given columns.items) k).columns) }
+        ensures value { IfOk result (λ f. f ≡ map (row_across (given columns.items)) (places count)) }
+    {
+        if count == 0 {
+            return Ok(Frame::none(alloc));
+        }
+        let tables = columned_tables(alloc, columns)?;
+        let picks = row_picks(alloc, count)?;
+        Ok(Frame { tables, picks })
+    }
+
     /// The same instances. No row is made, and no list of a table is copied.
     pub fn copy(&self, alloc: Global) -> Result<Frame, AllocError>
         ensures value { IfOk result (λ f. f ≡ self.now) }
@@ -414,6 +443,61 @@ impl Frame {
         } = other;
         let picks = joined_picks(tables.as_slice().len(), picks, others.as_slice())?;
         let tables = joined_tables(tables, more)?;
+        Ok(Frame { tables, picks })
+    }
+}
+
+impl Frame {
+    /// The instances of the entities that a collection-valued navigation property relates an entity to, in data order; none where there
+    /// is no entity. No row is made.
+    pub fn of_related(
+        alloc: Global,
+        store: &Data,
+        nav: NavId,
+        of: Option<EntityRef>,
+    ) -> Result<Frame, AllocError>
+        requires there { IsNavigation store.now.model nav }
+        requires of { IsTrue (is_none_or (λ e. is_some_and (λ t. t == nav.of) (entity_type store.now e)) of) }
+        ensures value { (v : Navigation) → navigation_on store.now.model nav ≡ Some v → IfOk result (λ f. f ≡ map entity_instance (related_to store.now v of)) }
+    {
+        let model = store.model();
+        let set = model.type_set(model.nav_target(nav));
+        let tables = one_table(alloc, set_table(alloc, set))?;
+        let picks = related_picks(alloc, store, nav, of)?;
+        Ok(Frame { tables, picks })
+    }
+
+    /// The places, in the set, of the instances' entities, where each is an entity of this set in a table without other prefixes and
+    /// columns.
+    pub fn places_in(&self, alloc: Global, set: SetId) -> Result<Option<Vec<u32>>, AllocError>
+        ensures value { IfOk result (λ o. IfSome o (λ ks. map (placed set) ks.items ≡ self.now)) }
+    {
+        if !are_of_set(self.tables.as_slice(), set) {
+            return Ok(None);
+        }
+        let picks = self.picks.as_slice();
+        Ok(Some(picked_places(alloc, self.tables.as_slice(), set, picks)?))
+    }
+
+    /// Each instance beside each entity, under the alias, of those of the set at the places of its list. An instance whose list is
+    /// empty is left out, or stands once, in an outer join, with the alias bound to none. No row is made.
+    pub fn join(
+        self,
+        alloc: Global,
+        outer: bool,
+        alias: &Name,
+        set: SetId,
+        inner: &[Vec<u32>],
+    ) -> Result<Frame, AllocError>
+        requires lists { length inner.now ≡ length self }
+        requires free { IsTrue (list_all (is_free_of alias.now) self) }
+        ensures value { IfOk result (λ f. f ≡ bound_rows outer alias.now self (map (λ l. map (placed set) l.items) inner.now)) }
+    {
+        let Frame { tables, picks } = self;
+        let picks = repeated_picks(alloc, outer, picks.as_slice(), inner)?;
+        let (tables, picks) = rows_in_order(alloc, tables, picks)?;
+        let prefix = alias_prefix(alloc, outer, alias, set, inner)?;
+        let tables = beside_tables(alloc, tables, &prefix)?;
         Ok(Frame { tables, picks })
     }
 }

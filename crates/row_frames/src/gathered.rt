@@ -5,7 +5,7 @@ ghost use Rattle.std.specs.List.{AllZip};
 ghost use Rattle.row_frames.specs.Frames as spec;
 ghost use Rattle.row_frames.specs.Gathered.{IsGathered, IsPartOf, IsColumnOf, IsWidened};
 
-use crate::tables::{Column, Prefix, Roots, Table, bound_at, place_at, roots_set, value_at};
+use crate::tables::{Column, Prefix, Roots, Table, bound_place, place_at, roots_set, value_at};
 use std::alloc::{AllocError, Global};
 use std::sync::Arc;
 
@@ -89,13 +89,14 @@ fn gathered_roots(alloc: Global, roots: &Roots, rows: &[u32]) -> Result<Roots, A
 fn gathered_prefix(alloc: Global, prefix: &Prefix, rows: &[u32]) -> Result<Prefix, AllocError>
     ensures { IfOk result (IsPartOf rows.now prefix.now) }
 {
-    let mut bound = Vec::with_capacity(alloc, rows.len())?;
+    let mut places = Vec::with_capacity(alloc, rows.len())?;
     for row in rows {
-        bound.push(bound_at(prefix, *row))?;
+        places.push(bound_place(prefix, *row))?;
     }
     Ok(Prefix {
         path: prefix.path.copy(alloc)?,
-        bound: Arc::new(alloc, bound)?,
+        set: prefix.set,
+        places: Arc::new(alloc, places)?,
     })
 }
 

@@ -21,12 +21,13 @@ fn shared_roots(roots: &Roots) -> Result<Roots, AllocError>
 }
 
 /// The same prefix, with the same list.
-fn shared_prefix(alloc: Global, prefix: &Prefix) -> Result<Prefix, AllocError>
+pub(crate) fn shared_prefix(alloc: Global, prefix: &Prefix) -> Result<Prefix, AllocError>
     ensures { (k : ℕ) → IfOk result (λ made. spec.prefix_at k made ≡ spec.prefix_at k prefix.now) }
 {
     Ok(Prefix {
         path: prefix.path.copy(alloc)?,
-        bound: Arc::try_clone(&prefix.bound)?,
+        set: prefix.set,
+        places: Arc::try_clone(&prefix.places)?,
     })
 }
 

@@ -6,19 +6,23 @@
 //! the rows at last. `seen_values` and `key_columns` have values that borrow their texts, the latter a list for each path.
 //! `values_at`, `key_lists_at`, `key_columns_at` and `rows_at` have the same of the rows at some places (`placed`). `compute` puts
 //! new columns behind those of a table (`computed`), which first is made of the rows that are picked, where these are not all in
-//! their order (`gathered`). `copy` has the same tables, with the same lists, and `append` puts one frame behind another
-//! (`joined`). `readers` binds an expression or a path to each table once, so that its names are looked up once a table and not
+//! their order (`gathered`). `of_columns` makes a frame of lists of values (`columned`). `of_related` makes a frame of what a navigation property relates an entity to, `places_in` has the places
+//! of instances that are entities of one set (`related`), and `join` puts each instance beside such entities, under an alias: the
+//! rows are repeated by their places, and the alias is a prefix with a list of places (`joins`). `copy` has the same tables, with the
+//! same lists, and `append` puts one frame behind another (`joined`). `readers` binds an expression or a path to each table once, so that its names are looked up once a table and not
 //! once a row, also those of navigation properties (`hops`); `lookups` finds a path's value name by name where that cannot be. A
-//! property of a set's entities, or of what these refer to by one navigation property, is bound to its values, so that set and
-//! column are not looked up once a row either. What is bound is read in the rows that are picked by the thread that calls, or in
+//! property of a set's entities, of what these refer to by one navigation property, or of the entities at a prefix, is bound to its
+//! values, so that set and column are not looked up once a row either; where each value of a property of these entities is an integer,
+//! or each a decimal, to the slice of these, which a fold goes through. What is bound is read in the rows that are picked by the thread that calls, or in
 //! parts of them by threads (`seen`, `parts`), which `rayon` starts: threads read the data, the tables and what is bound, and write
 //! nothing that is shared. Where all rows are of one table, an expression with operators is worked out block by block (`blocks`):
 //! the operands in some rows first, and then the operator on these. `reader` has the values of an expression as a list of which none
 //! is kept (`frame_readers`): one of them, or what a partial keeps of all, which are folded where they are read (`folded`).
 //! `codes` has small numbers in place of the values of a path, where this is a property by which entities refer to others
-//! (`references`): those of the places of what they refer to.
+//! (`references`): those of the places of what they refer to; or where it is one of texts that the data keeps once each, of the
+//! entities of one table or of what these refer to (`text_codes`): those that the data gives the texts.
 //!
-//! The crate stands on `apply_meaning` for rows, the values of expressions and what a run returns, on `context_typing` and
+//! The crate stands on `apply_meaning` for rows, the values of expressions and what a run returns, on `join_concat` for the meaning of joins, on `context_typing` and
 //! `apply_ast` for paths and expressions, on `par_stages` and `seen_partials` for folds, on `value_codes` for numbers in place of values, and on `edm_data`, `edm_model` and
 //! `edm_values` for the data.
 //!
@@ -29,6 +33,7 @@
 mod blocks;
 mod chosen;
 mod codes;
+mod columned;
 mod computed;
 mod folded;
 mod frame_readers;
@@ -36,6 +41,7 @@ mod frames;
 mod gathered;
 mod hops;
 mod joined;
+mod joins;
 mod kept;
 mod keys;
 mod lookups;
@@ -45,8 +51,10 @@ mod picks;
 mod placed;
 mod readers;
 mod references;
+mod related;
 mod seen;
 mod tables;
+mod text_codes;
 mod values;
 
 pub use frame_readers::FrameReader;

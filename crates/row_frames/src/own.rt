@@ -5,7 +5,8 @@ ghost use Rattle.row_frames.specs.Frames as spec;
 ghost use Rattle.row_frames.specs.Own.{IsOwn};
 ghost use Rattle.row_frames.specs.declared.tables.Pick.{Pick as Pick'};
 
-use crate::readers::{column_place, has_set, set_property};
+use crate::hops::{has_set, set_property};
+use crate::readers::column_place;
 use crate::tables::{Table, roots_set};
 use apply_ast::Path;
 use edm_data::Data;

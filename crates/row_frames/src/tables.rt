@@ -26,11 +26,13 @@ pub(crate) enum Roots {
     Listed(SetId, Arc<Vec<u32>>),
 }
 
-/// A prefix with what stands there in each row. Tables may share the list.
+/// A prefix with what stands there in each row: an entity of one set, of which the list has the place, or none. Tables may share the
+/// list.
 #[derive(Debug, Drop)]
 pub(crate) struct Prefix {
     pub(crate) path: Path,
-    pub(crate) bound: Arc<Vec<Option<EntityRef>>>,
+    pub(crate) set: SetId,
+    pub(crate) places: Arc<Vec<Option<u32>>>,
 }
 
 /// A column with its value in each row. Tables may share the list.
@@ -111,12 +113,26 @@ pub(crate) fn root_in(table: &Table, k: u32) -> Option<EntityRef>
     root_at(&table.roots, k)
 }
 
+/// The place, in its set, of what stands at a prefix in a row.
+#[inline(always)]
+pub(crate) fn bound_place(prefix: &Prefix, k: u32) -> Option<u32>
+    ensures { result ≡ spec.bound_place k prefix.now }
+{
+    match prefix.places.get(k as usize) {
+        Some(at) => *at,
+        None => None,
+    }
+}
+
 /// What stands at a prefix in a row.
 pub(crate) fn bound_at(prefix: &Prefix, k: u32) -> Option<EntityRef>
     ensures { result ≡ (spec.prefix_at k prefix.now).1 }
 {
-    match prefix.bound.get(k as usize) {
-        Some(bound) => *bound,
+    match bound_place(prefix, k) {
+        Some(at) => Some(EntityRef {
+            set: prefix.set,
+            at,
+        }),
         None => None,
     }
 }
