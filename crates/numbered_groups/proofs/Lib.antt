@@ -1,3 +1,4 @@
+pub mod DistinctLaws
 pub mod FirstLemmas
 pub mod FoundLemmas
 pub mod ImageLemmas

@@ -48,7 +48,7 @@ fn first_rows(alloc: Global, numbers: &[u32], count: usize) -> Result<Vec<usize>
 
 impl NumberedGroups {
     /// The groups of rows that have these numbers.
-    fn of(alloc: Global, numbers: Numbers) -> Result<NumberedGroups, AllocError>
+    pub(crate) fn of(alloc: Global, numbers: Numbers) -> Result<NumberedGroups, AllocError>
         requires order { distinct nat_eq numbers.numbers.items ≡ places numbers.count }
         requires there { All (λ n. n < numbers.count) numbers.numbers.items }
         ensures { IfOk result (λ g. (same : ℕ → ℕ → Bool) (rows : ℕ) → AreNumbersBy same rows numbers.numbers.items numbers.count → IsNumberingBy same rows g) }

@@ -7,3 +7,4 @@ pub mod ReaderLemmas
 pub mod KeyCodeLemmas
 pub mod GroupFoldLemmas
 pub mod NumberedLemmas
+pub mod DistinctLemmas

@@ -49,7 +49,7 @@ pub(crate) fn row_aggregate<R: Threads + Sync, G: Gate>(
 }
 
 /// The type of values of one type: that of the first that has one of its own, and that of integers where none has.
-fn kind_read(values: &FrameReader<'_>) -> EdmType
+pub(crate) fn kind_read(values: &FrameReader<'_>) -> EdmType
     ensures taken { (m : Method') → AreFoldable m values.now → IsTrue (is_some (method_kind m result)) }
     ensures typed { (m : Method') → AreFoldable m values.now → IsTrue (list_all (is_of_kind result) values.now) }
 {

@@ -1,7 +1,9 @@
 //! What partials over values keep of the values of each group.
-ghost use Rattle.std.specs.Prelude.{◌≡◌, []};
+ghost use Rattle.std.specs.Prelude.{◌≡◌, [], true};
 
+use edm_values::Seen;
 use par_stages::Partial;
+use seen_partials::SeenPartial;
 use std::alloc::{AllocError, Global};
 use std::marker::Model;
 use std::mem;
@@ -48,6 +50,14 @@ impl<'n, P: Partial> GroupFolds<'n, P> {
             empty,
             groups: Vec::new(alloc),
         }
+    }
+
+    /// Whether these are the numbers of the groups, and how many there are.
+    pub(crate) fn are_by(&self, numbers: &[u32], count: usize) -> bool
+        ensures numbers { result ≡ true → self.now.numbers ≡ numbers.now }
+        ensures count { result ≡ true → self.now.count ≡ count }
+    {
+        self.count == count && self.numbers == numbers
     }
 
     /// What is kept of each group.
@@ -124,4 +134,22 @@ impl<'n, P: Partial> Partial for GroupFolds<'n, P> {
     }
 
     ghost counted = { λ p xs h. h.taken_is };
+}
+
+impl<'n, P: SeenPartial> SeenPartial for GroupFolds<'n, P> {
+    fn add_seen(&mut self, item: Seen<'_>, place: usize) -> Result<(), AllocError> {
+        if place >= self.numbers.len() {
+            return Err(AllocError);
+        }
+        let j = self.numbers[place] as usize;
+        if j >= self.groups.len() {
+            return Err(AllocError);
+        }
+        let added = self.groups[j].add_seen(item, place);
+        self.taken += 1;
+        if added.is_err() {
+            self.groups = Vec::new(self.alloc);
+        }
+        added
+    }
 }

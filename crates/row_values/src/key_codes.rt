@@ -18,7 +18,7 @@ use std::thread::Threads;
 use value_codes::Codes;
 
 /// Whether one of the values is past its range.
-fn has_beyond(values: &[Seen<'_>]) -> bool
+pub(crate) fn has_beyond(values: &[Seen<'_>]) -> bool
     ensures { result ≡ list_any is_beyond (map seen_value values.now) }
 {
     for value in values {

@@ -17,6 +17,7 @@ ghost use Rattle.numbered_groups.specs.Numbered.{AreKeyCodes, places_with};
 ghost use Rattle.value_codes.specs.Codes.{AreCodes};
 
 use crate::aggregates::{frame_aggregate, row_aggregate};
+use crate::distincts::distinct_of;
 use crate::key_codes::key_codes;
 use crate::keys::{key_list, key_lists};
 use crate::numbered::list_aggregates;
@@ -74,6 +75,16 @@ impl<'a> RowList<'a> {
     {
         RowList {
             source: Source::Frame(frame),
+        }
+    }
+
+    /// The frame, where the list is one.
+    pub(crate) fn frame(&self) -> Option<&'a Frame>
+        ensures value { IfSome result (λ frame. frame.now ≡ self.now) }
+    {
+        match self.source {
+            Source::Rows(_) => None,
+            Source::Frame(frame) => Some(frame),
         }
     }
 
@@ -147,6 +158,10 @@ impl<'a> RowList<'a> {
         requires kind { AreFoldable method (values store.now (expr_of e.now) self.now) }
         ensures value { IfOk result (λ v. v ≡ aggregate method (values store.now (expr_of e.now) self.now)) }
     {
+        let found = distinct_of(rt, alloc, store, e, method, self, workers, gate)?;
+        if let Some(found) = found {
+            return Ok(found);
+        }
         match self.source {
             Source::Rows(rows) => row_aggregate(rt, alloc, store, e, method, rows, workers, gate),
             Source::Frame(frame) => {

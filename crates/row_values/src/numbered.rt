@@ -17,6 +17,8 @@ ghost use Rattle.aggregate_ops.specs.Partials.{AreFoldable, IsDistinctOf};
 ghost use Rattle.numbered_groups.specs.Numbered.{places_with};
 ghost use Rattle.row_values.specs.GroupFolds.{AreFoldsOf, values_with};
 
+use crate::distincts::distinct_by;
+use crate::frame_folds::frame_aggregates;
 use crate::group_folds::GroupFolds;
 use crate::lists::RowList;
 use aggregate_ops::{DistinctOf, MaxOf, MinOf, Seed, SumOf, hashed_values, kind_of};
@@ -69,7 +71,7 @@ const FEW: usize = 4096;
 const EACH: usize = 4;
 
 /// Into how many pieces so many values of so many groups are cut. Each piece has a partial for each group.
-fn piece_workers(rows: usize, count: usize, workers: u32) -> u32
+pub(crate) fn piece_workers(rows: usize, count: usize, workers: u32) -> u32
     requires some { 0 < workers }
     ensures some { 0 < result }
     ensures most { result ≤ workers }
@@ -82,7 +84,7 @@ fn piece_workers(rows: usize, count: usize, workers: u32) -> u32
 }
 
 /// The aggregate of the values of each group.
-fn outcomes<P: Aggregated>(
+pub(crate) fn outcomes<P: Aggregated>(
     alloc: Global,
     folds: &GroupFolds<'_, P>,
 ) -> Result<Vec<Value>, AllocError>
@@ -227,8 +229,21 @@ pub(crate) fn list_aggregates<R: Threads + Sync, G: Gate>(
     requires of { IsTrue (all_of store.now list.now) }
     requires kind { AreFoldable method (values store.now (expr_of e.now) list.now) }
     requires size { length numbers.now ≡ length list.now }
+    requires there { All (λ n. n < count) numbers.now }
     ensures { IfOk result (λ vs. vs.items ≡ map (λ j. aggregate method (at_places (values store.now (expr_of e.now) list.now) (places_with numbers.now j))) (places count)) }
 {
+    let found = distinct_by(
+        rt, alloc, store, e, method, list, numbers, count, workers, gate,
+    )?;
+    if let Some(found) = found {
+        return Ok(found);
+    }
+    let found = frame_aggregates(
+        rt, alloc, store, e, method, list, numbers, count, workers, gate,
+    )?;
+    if let Some(found) = found {
+        return Ok(found);
+    }
     let all = list.values(rt, alloc, store, e, workers)?;
     let all = all.as_slice();
     aggregates_listed(rt, alloc, method, all, numbers, count, workers, gate)
