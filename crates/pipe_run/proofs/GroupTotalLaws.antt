@@ -1,10 +1,10 @@
 -- The rows of groups that are told by numbers.
-use Rattle.std.proofs.Common.{◌≡◌, ℕ, zero, suc, ◌<◌, ◌≤◌, true, refl, sym, ◌∙◌, ap, arith, Some, List, [], ◌∷◌, ◌++◌, map, get_or, length, IsTrue, subst}
+use Rattle.std.proofs.Common.{◌≡◌, ℕ, zero, suc, ◌+◌, ◌<◌, add-one, true, refl, sym, take, ◌∙◌, ap, arith, Some, List, [], ◌∷◌, ◌++◌, map, get_or, length, IsTrue, subst}
 use Rattle.std.specs.Prelude.{All, flat_map, nat_eq, nat_lt, pos, slice_get}
 use Rattle.std.specs.List.{cons_option, list_all, zip}
 use Rattle.std.proofs.lemmas.Bool.{and_parts, ltb-true, true≢false}
-use Rattle.std.proofs.lemmas.List.{get_or-map, length-map}
-use Rattle.std.proofs.lemmas.List.Elements.{All-cons, All-get_or, All-nil}
+use Rattle.std.proofs.lemmas.List.{get_or-map, length-map, map-append}
+use Rattle.std.proofs.lemmas.List.Elements.{All-get_or}
 use Rattle.std.proofs.lemmas.List.Folds.{flat_map-map}
 use Rattle.std.proofs.lemmas.Option.{get_or_from_slice_get, slice_get-get_or}
 use Rattle.std.proofs.lemmas.Simd.{map-map}
@@ -28,10 +28,11 @@ use Rattle.group_rollup.proofs.GroupLemmas.{groups-of_rows}
 use Rattle.group_rollup.specs.Groupings.{groups}
 use Rattle.group_rollup.specs.NumberedBy.{AreNumberedBy, AreNumberedByEach}
 use Rattle.numbered_groups.specs.Numbered.{Numbering, numbered_group, places_with}
+use Rattle.row_frames.specs.Columned.{row_across}
 use Rattle.row_frames.specs.Keys.{key_at, key_column, key_columns}
 use Rattle.pipe_run.proofs.ItemLists.{map-at_places}
 use Rattle.pipe_run.proofs.ListedColumns.{at-place, below-all, length-made}
-use Rattle.pipe_run.specs.GroupTotals.{AreApart, folded_column, folded_value, group_total, group_totals, is_folded, item_name, level_totals, row_across, values_by}
+use Rattle.pipe_run.specs.GroupTotals.{AreApart, folded_column, folded_value, group_total, group_totals, is_folded, listed_column, item_name, level_totals, values_by}
 use Rattle.pipe_run.specs.Levels.{AreKeys, LevelKeys, level_on, levels_of, part_of}
 
 -- ---- the elements at places
@@ -51,6 +52,15 @@ placed-at l (k ∷ ks) zero d a h =
 placed-at l (k ∷ ks) (suc n) d a h =
     let b = and_parts (nat_lt k (length l)) (list_all (λ k. nat_lt k (length l)) ks) a in
     ap (λ o. get_or (cons_option o (at_places l ks)) (suc n) d) (slice_get-get_or l k d (ltb-true k (length l) b.0)) ∙ placed-at l ks n d b.1 (omega (arith, h))
+
+-- an element more of both lists
+pub zipped-more : {X Y : Type 0} (ps : List X) (vs : List Y) (n : ℕ) (p : X) (v : Y) → n < length ps → n < length vs → p ≡ get_or ps n p → v ≡ get_or vs n v → take (n + 1) (zip ps vs) ≡ take n (zip ps vs) ++ (p, v) ∷ []
+zipped-more [] vs n p v h k e f = absurd (omega arith)
+zipped-more (q ∷ ps) [] n p v h k e f = absurd (omega arith)
+zipped-more (q ∷ ps) (u ∷ vs) zero p v h k e f = λ i. (sym e i, sym f i) ∷ []
+zipped-more (q ∷ ps) (u ∷ vs) (suc n) p v h k e f =
+    ap (λ m. take m (zip (q ∷ ps) (u ∷ vs))) (add-one (suc n))
+    ∙ ap (λ xs. (q, u) ∷ xs) (ap (λ m. take m (zip ps vs)) (sym (add-one n)) ∙ zipped-more ps vs n p v (omega arith) (omega arith) e f)
 
 -- ---- the rows
 
@@ -89,9 +99,6 @@ module _ (w : World) (ks : List Path) (l : List Instance) (n : Numbering) (N : A
   rows-are : (items : List AggItem) → level_totals w items l (level_on w l ks) ≡ map (λ j. group_total w items ks l (numbered_group keys n j)) (places count)
   rows-are items = ap (map (group_total w items ks l)) groups-are ∙ map-map (group_total w items ks l) (numbered_group keys n) (places count)
 
-  pub rows-count : (items : List AggItem) → length (level_totals w items l (level_on w l ks)) ≡ count
-  rows-count items = ap length (rows-are items) ∙ length-made (λ j. group_total w items ks l (numbered_group keys n j)) count
-
   module _ (there : All (λ f. f < length n.numbers) n.firsts) where
     first-there : (j : ℕ) → j < count → get_or n.firsts j 0 < length l
     first-there j h = let own = All-get_or (λ f. f < length n.numbers) n.firsts j 0 h there in let same = size in omega (arith, own, same)
@@ -115,53 +122,38 @@ module _ (w : World) (ks : List Path) (l : List Instance) (n : Numbering) (N : A
         ∙ sym (get_or-map (key_list w ks) l (get_or n.firsts j 0) no_instance [] (first-there j h))
 
     module _ (items : List AggItem) (folded : list_all is_folded items ≡ true) where
-      -- the columns of the items on all groups, and their paths
-      abbrev columns : List (List Value)
-      columns = map (values_by w l n) items
+      -- the columns of the items and of the keys on all groups
+      abbrev columns : List (Path × List Value)
+      columns = map (listed_column w l n) items ++ zip ks (key_columns w ks first)
 
-      abbrev names : List Path
-      names = map (λ i. item_name i ∷ []) items
+      abbrev cell : ℕ → Path × List Value → Path × Value
+      cell j c = (c.0, get_or c.1 j Value.Null)
 
-      items-at : (j : ℕ) → j < count → (is : List AggItem) → list_all is_folded is ≡ true
-          → zip (map (λ i. item_name i ∷ []) is) (key_at (map (values_by w l n) is) j) ≡ map (folded_column w (at_places l (places_with n.numbers j))) is
+      items-at : (j : ℕ) → j < count → (is : List AggItem) → list_all is_folded is ≡ true → map (cell j) (map (listed_column w l n) is) ≡ map (folded_column w (at_places l (places_with n.numbers j))) is
       items-at j h [] f = refl
       items-at j h (i ∷ is) f =
           let a = and_parts (is_folded i) (list_all is_folded is) f in
           λ k. (item_name i ∷ [], item-at w l n j i size h a.0 k) ∷ items-at j h is a.1 k
 
-      -- the columns across them are those of the row of a group
-      columns-at : (j : ℕ) → j < count → keyed names (key_at columns j) ++ keyed ks (key_at (key_columns w ks first) j) ≡ (group_total w items ks l (numbered_group keys n j)).columns
-      columns-at j h = λ k. items-at j h items folded k ++ keyed ks (keys-at j h k)
+      keyed-at : (j : ℕ) (ps : List Path) (cs : List (List Value)) → map (cell j) (zip ps cs) ≡ keyed ps (key_at cs j)
+      keyed-at j [] cs = refl
+      keyed-at j (p ∷ ps) [] = refl
+      keyed-at j (p ∷ ps) (c ∷ cs) = ap (λ xs. (p, get_or c j Value.Null) ∷ xs) (keyed-at j ps cs)
 
-      pub rows-across : level_totals w items l (level_on w l ks) ≡ map (row_across names columns ks (key_columns w ks first)) (places count)
+      -- what stands across them is the row of a group
+      columns-at : (j : ℕ) → j < count → (row_across columns j).columns ≡ (group_total w items ks l (numbered_group keys n j)).columns
+      columns-at j h =
+          let own = keyed-at j ks (key_columns w ks first) ∙ ap (keyed ks) (keys-at j h) in
+          map-append (cell j) (map (listed_column w l n) items) (zip ks (key_columns w ks first))
+          ∙ (λ k. items-at j h items folded k ++ own k)
+
+      pub rows-across : map (row_across columns) (places count) ≡ level_totals w items l (level_on w l ks)
       rows-across =
-          rows-are items
-          ∙ sym (map-agree_places (row_across names columns ks (key_columns w ks first)) (λ j. group_total w items ks l (numbered_group keys n j)) count (λ j h k. record no_instance { columns = columns-at j h k }))
+          map-agree_places (row_across columns) (λ j. group_total w items ks l (numbered_group keys n j)) count (λ j h k. record no_instance { columns = columns-at j h k })
+          ∙ sym (rows-are items)
 
-      pub apart-across : AreApart w items l (level_on w l ks) → (j : ℕ) → j < count → IsTrue (columns_differ (keyed names (key_at columns j) ++ keyed ks (key_at (key_columns w ks first) j)))
+      pub apart-across : AreApart w items l (level_on w l ks) → (j : ℕ) → j < count → IsTrue (columns_differ (row_across columns j).columns)
       apart-across A j h = subst (λ cs. IsTrue (columns_differ cs)) (sym (columns-at j h)) (A j (numbered_group keys n j) (group-at j h))
-
-      values-long : (is : List AggItem) → list_all is_folded is ≡ true → All (λ c. count ≤ length c) (map (values_by w l n) is)
-      values-long [] f = All-nil (λ c. count ≤ length c)
-      values-long (i ∷ is) f =
-          let b = and_parts (is_folded i) (list_all is_folded is) f in
-          All-cons (λ c. count ≤ length c) (values_by w l n i) (map (values_by w l n) is) (long i b.0) (values-long is b.1)
-        where
-          long : (i : AggItem) → is_folded i ≡ true → count ≤ length (values_by w l n i)
-          long (AggItem.Standard e f a) t = let e = length-made (λ j. aggregate f (at_places (values w e l) (places_with n.numbers j))) count in omega (arith, e)
-          long (AggItem.Count a) t = let e = length-made (λ j. Value.Int (pos (length (places_with n.numbers j)))) count in omega (arith, e)
-          long (AggItem.Custom m a) t = absurd (true≢false (sym t))
-
-      -- each column has a value for each group
-      pub items-long : All (λ c. count ≤ length c) columns
-      items-long = values-long items folded
-
-    pub keys-long : (ps : List Path) → All (λ c. count ≤ length c) (key_columns w ps first)
-    keys-long [] = All-nil (λ c. count ≤ length c)
-    keys-long (p ∷ ps) =
-        let own = length-map first (λ i. lookup w i p) in
-        let long = firsts-long in
-        All-cons (λ c. count ≤ length c) (key_column w first p) (key_columns w ps first) (omega (arith, own, long)) (keys-long ps)
 
 -- what holds of all instances holds of those at places
 pub first-of : (w : World) (l : List Instance) (ks : List ℕ) → IsTrue (all_of w l) → IsTrue (all_of w (at_places l ks))

@@ -21,6 +21,7 @@ pub mod ListsInTurn
 pub mod NextItems
 pub mod NodeKeys
 pub mod NodeLevels
+pub mod NodeLists
 pub mod PlacedRuns
 pub mod TotalLaws
 pub mod TotalsRun

@@ -1,24 +1,19 @@
 -- Values that stand across columns, and numbers that are counted.
-use Rattle.std.proofs.Common.{◌≡◌, ◌≢◌, ℕ, zero, suc, ◌+◌, ◌<◌, ◌≤◌, Bool, true, false, cond, refl, sym, subst, ◌∙◌, ap, arith, List, [], ◌∷◌, map, take, set, get_or, length, filter, nat_eq, ⊎_elim, get_or-set_same, get_or-set_other}
+use Rattle.std.proofs.Common.{◌≡◌, ◌≢◌, ℕ, ◌+◌, ◌<◌, Bool, true, false, cond, refl, sym, subst, ◌∙◌, ap, arith, List, [], ◌∷◌, map, take, set, get_or, length, filter, nat_eq, ⊎_elim, get_or-set_same, get_or-set_other}
 use Rattle.std.specs.Prelude.{All, count_by, nat_lt}
-use Rattle.std.specs.Global.{Vec}
 use Rattle.std.specs.List.{list_all}
 use Rattle.std.proofs.lemmas.Bool.{and_from, cases_eq, lt-ltb}
 use Rattle.std.proofs.lemmas.Bool.Decides.{nat_tests}
 use Rattle.std.proofs.lemmas.Grind.{get_or_default_zero}
 use Rattle.std.proofs.lemmas.List.{ext_get_or, get_or-map, length-map}
-use Rattle.std.proofs.lemmas.List.Elements.{All-cons, All-get_or, All-head, All-nil, All-tail}
+use Rattle.std.proofs.lemmas.List.Elements.{All-get_or, All-head, All-tail}
 use Rattle.std.proofs.lemmas.List.Sums.{count_by_more_no, count_by_more_yes, sum_by-cons}
-use Rattle.edm_values.specs.declared.Seen.{Seen}
-use Rattle.edm_values.specs.declared.Value.{Value}
 use Rattle.edm_values.specs.Lists.{places}
-use Rattle.edm_values.specs.Values.{seen_value}
 use Rattle.edm_values.proofs.TopPlaces.{length-places}
 use Rattle.edm_data.proofs.PlaceLemmas.{get_or-places}
 use Rattle.par_stages.proofs.Passing.{passing}
 use Rattle.par_stages.specs.Placed.{placed}
 use Rattle.numbered_groups.specs.Numbered.{places_with}
-use Rattle.row_frames.specs.Keys.{seen_columns}
 
 -- ---- what stands at places
 
@@ -39,29 +34,6 @@ listed-at f n xs size at = ext_get_or 0 xs (map f (places n)) (size ∙ sym (len
 pub below-all : (m : ℕ) (xs : List ℕ) → All (λ k. k < m) xs → list_all (λ k. nat_lt k m) xs ≡ true
 below-all m [] a = refl
 below-all m (x ∷ xs) a = and_from (nat_lt x m) _ (lt-ltb x m (All-head (λ k. k < m) x xs a)) (below-all m xs (All-tail (λ k. k < m) x xs a))
-
--- lists that borrow their texts are as long as those that they stand for
-pub seen-long : (m : ℕ) (cs : List (Vec Seen)) → All (λ c. m ≤ length c) (seen_columns cs) → All (λ c. m ≤ length c.items) cs
-seen-long m [] a = All-nil (λ (c : Vec Seen). m ≤ length c.items)
-seen-long m (c ∷ cs) a =
-    let own = All-head (λ (c : List Value). m ≤ length c) (map (λ v. seen_value v) c.items) (seen_columns cs) a in
-    let long = length-map c.items (λ v. seen_value v) in
-    All-cons (λ (c : Vec Seen). m ≤ length c.items) c cs (omega (arith, own, long)) (seen-long m cs (All-tail (λ (c : List Value). m ≤ length c) (map (λ v. seen_value v) c.items) (seen_columns cs) a))
-
--- lists of the program
-pub own-long : (m : ℕ) (cs : List (Vec Value)) → All (λ c. m ≤ length c) (map (λ c. c.items) cs) → All (λ c. m ≤ length c.items) cs
-own-long m [] a = All-nil (λ (c : Vec Value). m ≤ length c.items)
-own-long m (c ∷ cs) a =
-    All-cons (λ (c : Vec Value). m ≤ length c.items) c cs (All-head (λ (c : List Value). m ≤ length c) c.items (map (λ c. c.items) cs) a) (own-long m cs (All-tail (λ (c : List Value). m ≤ length c) c.items (map (λ c. c.items) cs) a))
-
--- what stands across columns, one by one
-pub across-at : {X : Type 0} (f : X → List Value) (xs : List X) (k n : ℕ) (x : X) (v : Value) → n < length xs → x ≡ get_or xs n x → v ≡ get_or (f x) k Value.Null → (d : Value) → get_or (map (λ c. get_or c k Value.Null) (map f xs)) n d ≡ v
-across-at f [] k n x v h e is d = absurd (omega (arith, h))
-across-at f (y ∷ xs) k zero x v h e is d = ap (λ y. get_or (f y) k Value.Null) (sym e) ∙ sym is
-across-at f (y ∷ xs) k (suc n) x v h e is d = across-at f xs k n x v (omega (arith, h)) e is d
-
-pub across-long : {X : Type 0} (f : X → List Value) (xs : List X) (k : ℕ) → length (map (λ c. get_or c k Value.Null) (map f xs)) ≡ length xs
-across-long f xs k = length-map (map f xs) (λ c. get_or c k Value.Null) ∙ length-map xs f
 
 -- ---- counts
 

@@ -1,5 +1,5 @@
 -- Recursive rollups whose groups an aggregation makes one row each (Data Aggregation 4.0, sections 3.2.1 and 6.3).
-use Rattle.std.specs.Prelude.{◌≡◌, ℕ, ◌++◌, List, [], ◌∷◌, Option, true, false, IsTrue, filter, flat_map, if◌then◌else◌, map}
+use Rattle.std.specs.Prelude.{◌≡◌, ℕ, ◌<◌, ◌++◌, List, [], ◌∷◌, Option, Some, None, true, false, IsTrue, filter, flat_map, if◌then◌else◌, length, map, slice_get, slice_index_or}
 use Rattle.std.specs.declared.result.Result as result
 use Rattle.std.specs.Global.{Vec}
 use Rattle.edm_values.specs.declared.Value.{Value}
@@ -8,6 +8,7 @@ use Rattle.edm_values.specs.Lists.{at_places, is_nonempty}
 use Rattle.edm_values.specs.Names.{Path}
 use Rattle.edm_values.specs.Refusals.{Returns}
 use Rattle.edm_model.specs.LookUps.{HierarchyPlace}
+use Rattle.edm_data.specs.Hierarchies.{rows_under}
 use Rattle.edm_data.specs.Nodes.{identifier, parents_of}
 use Rattle.edm_data.specs.Worlds.{World}
 use Rattle.apply_ast.specs.Trees.{AggItem, HierName, Key, Keys, OptPipe, Pipe, Step}
@@ -15,7 +16,8 @@ use Rattle.context_typing.specs.Readings.{readings}
 use Rattle.context_typing.specs.Shapes.{Shape}
 use Rattle.context_typing.specs.Typing.{Customs}
 use Rattle.apply_meaning.specs.Instances.{Instance, no_instance}
-use Rattle.apply_meaning.specs.Meaning.{at_or_below, item_value, node}
+use Rattle.apply_meaning.specs.Aggregates.{aggregate}
+use Rattle.apply_meaning.specs.Meaning.{at_or_below, item_value, node, values}
 use Rattle.apply_meaning.specs.RowViews.{columns_differ}
 use Rattle.group_rollup.specs.Groupings.{has_beyond_key}
 use Rattle.pipe_run.specs.Conditions.{ItemsRun}
@@ -41,6 +43,23 @@ totals w c S f items p shown l = flat_map (totals_at w c S f items p l) shown
 abbrev pub TotalsReady : Context → Option ℕ → List AggItem → Path → List Instance → Type 0
 TotalsReady x root items p l = (S : Shape) × ((ks : List ℕ) (v : Value)
     → ItemsRun x root S items (at_places l ks) × IsTrue (columns_differ (map (item_value x.world (readings x.customs) S (at_places l ks)) items ++ (p, v) ∷ [])))
+
+-- the value of an item on instances, where it is the aggregate of the values of an expression by a method
+abbrev pub item_outcome : World → List Instance → AggItem → Option Value
+item_outcome w l (AggItem.Standard e f a) = Some (aggregate f (values w e l))
+item_outcome w l i = None
+
+-- one value for each node: the value of an item on the instances at it or below it
+abbrev pub AreAtNodes : World → List Instance → List (Option ℕ) → List (Option ℕ) → AggItem → List Value → Type 0
+AreAtNodes w l parents nodes i vs = (length vs ≡ length parents) × ((x : ℕ) → x < length parents → item_outcome w (at_places l (rows_under parents x nodes)) i ≡ Some (slice_index_or vs x Value.Null))
+
+-- the values that are known are those of the items at their places
+abbrev pub AreNodeLists : World → List Instance → List (Option ℕ) → List (Option ℕ) → List AggItem → List (Option (List Value)) → Type 0
+AreNodeLists w l parents nodes items lists = (k : ℕ) (i : AggItem) (v : List Value) → slice_get items k ≡ Some i → slice_get lists k ≡ Some (Some v) → AreAtNodes w l parents nodes i v
+
+-- at a node, those that are known are the values of the items on these instances
+abbrev pub AreKnownAt : World → List Instance → List AggItem → ℕ → List (Option (List Value)) → Type 0
+AreKnownAt w l items x lists = (k : ℕ) (i : AggItem) (v : List Value) → slice_get items k ≡ Some i → slice_get lists k ≡ Some (Some v) → (x < length v) × (item_outcome w l i ≡ Some (slice_index_or v x Value.Null))
 
 -- these are the parents of the nodes of a hierarchy, and the nodes of instances in it
 pub record AreNodesOf (w : World) (f : HierarchyPlace) (p : Path) (l : List Instance) (set : ℕ) (parents nodes : List (Option ℕ)) : Type 0 where

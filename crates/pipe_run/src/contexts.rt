@@ -2,7 +2,7 @@
 ghost use Rattle.std.specs.Prelude.{◌≡◌, ◌++◌, ◌+◌, ◌<◌, ◌≤◌, All, Some, IfOk, IfSome, IsTrue, is_some, filter, length, map, nat_lt, true};
 ghost use Rattle.std.specs.List.{list_all};
 ghost use Rattle.edm_values.specs.Lists.{at_places, places};
-ghost use Rattle.edm_values.specs.Values.{is_value};
+ghost use Rattle.edm_values.specs.Values.{is_value, seen_value};
 ghost use Rattle.edm_model.specs.LookUps.{HierarchyPlace, IsCustom, IsSet};
 ghost use Rattle.edm_data.specs.Nodes.{parents_of};
 ghost use Rattle.apply_ast.specs.Views.{expr_of, hier_of, named_of};
@@ -28,7 +28,7 @@ use context_typing::Customs;
 use custom_agg::custom_at;
 use edm_data::Data;
 use edm_model::CustomId;
-use edm_values::{Method, Value};
+use edm_values::{Method, Seen, Value};
 use group_rollup::{group_list, list_keys, numbered_levels, numbered_list, rollup_list};
 use hier_index::Index;
 use hier_states::{HierState, Nodes, nodes_at};
@@ -210,6 +210,19 @@ impl<'a, R: Threads + Sync, G: Gate> Context<'a, R, G> {
         ensures { IfOk result (λ vs. vs.items ≡ values self.now.world (expr_of e.now) rows.now) }
     {
         rows.values(self.rt, alloc, self.store, e, self.workers)
+    }
+
+    /// The values of an expression on instances, which borrow their texts.
+    pub(crate) fn seen_values<'s>(
+        &'s self,
+        alloc: Global,
+        e: &'s Expr,
+        rows: &'s RowList<'_>,
+    ) -> Result<Vec<Seen<'s>>, AllocError>
+        requires { IsTrue (all_of self.now.world rows.now) }
+        ensures { IfOk result (λ vs. map (λ v. seen_value v) vs.items ≡ values self.now.world (expr_of e.now) rows.now) }
+    {
+        rows.seen_values(self.rt, alloc, self.store, e, self.workers)
     }
 
     /// Each row with its new columns: one step a row.

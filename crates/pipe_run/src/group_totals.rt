@@ -1,47 +1,49 @@
-//! Groupings by plain keys and the levels of a rollup whose groups an aggregation makes one row each. The groups are told by
-//! numbers, and no list of the places of each is kept: an item is folded for all groups of a level at once, and a key is read at
-//! the first instance of each group.
-ghost use Rattle.std.specs.Prelude.{◌≡◌, ℕ, ◌+◌, ◌≤◌, ◌<◌, ◌++◌, ◌∷◌, [], All, IfOk, IfSome, IsTrue, flat_map, length, map, pos};
-ghost use Rattle.std.specs.List.{list_all};
+//! Groupings by plain keys and the levels of a rollup whose groups become one row each: that of an aggregation, or of the key alone.
+//! The groups are told by numbers, and no list of the places of each is kept: an item is folded for all groups of a level at once,
+//! and a key is read at the first instance of each group. What comes of it is a frame of these columns, of which no row is made.
+ghost use Rattle.std.specs.Prelude.{◌≡◌, ◌+◌, ◌≤◌, ◌++◌, ◌∷◌, [], All, IfOk, IfSome, IsTrue, flat_map, length, map, pos};
+ghost use Rattle.std.specs.List.{list_all, zip};
 ghost use Rattle.edm_values.specs.declared.Value.{Value as Value'};
 ghost use Rattle.edm_values.specs.Lists.{places};
+ghost use Rattle.edm_values.specs.Values.{seen_value};
 ghost use Rattle.apply_ast.specs.Views.{agg_of, key_of, keys_from, keys_of, step_of};
 ghost use Rattle.context_typing.specs.Readings.{readings};
 ghost use Rattle.context_typing.specs.Shapes.{Shape};
 ghost use Rattle.context_typing.specs.Typing.{rollup_paths};
-ghost use Rattle.apply_meaning.specs.Meaning.{keyed, level_paths, step_mean};
-ghost use Rattle.apply_meaning.specs.RowViews.{columns_differ};
+ghost use Rattle.apply_meaning.specs.Meaning.{level_paths, step_mean};
 ghost use Rattle.apply_meaning.specs.Running.{Gives, all_of};
 ghost use Rattle.group_rollup.specs.NumberedBy.{AreNumberedBy, AreNumberedByEach};
 ghost use Rattle.numbered_groups.specs.Numbered.{places_with};
 ghost use Rattle.pipe_run.specs.Conditions.{StepReadyFrom, StepRunsFrom};
 ghost use Rattle.pipe_run.specs.Costs.{step_cost};
-ghost use Rattle.pipe_run.specs.GroupTotals as seen;
-ghost use Rattle.pipe_run.specs.GroupTotals.{AreApart, GivesGroupTotals, GroupsReady, IsFoldable, grouped_step, is_folded, item_name, level_totals, row_across, values_by};
+ghost use Rattle.pipe_run.specs.GroupTotals.{AreApart, GivesFound, GivesGroupTotals, GroupsReady, IsFoldable, IsGroupedBy, is_folded, listed_column, item_name, level_totals, values_by};
 ghost use Rattle.pipe_run.specs.Levels.{level_on, part_of};
 ghost use Rattle.pipe_run.specs.RecursiveKeys.{are_flat_keys};
-ghost use Rattle.row_frames.specs.Keys.{key_at, seen_columns};
+ghost use Rattle.row_frames.specs.Columned.{given};
+ghost use Rattle.row_frames.specs.Frames.{GivesFrame};
+ghost use Rattle.row_frames.specs.Keys.{seen_columns};
 
 use crate::contexts::Context;
 use crate::levels::{LevelKeys, all_paths, numbered_groups, paths_at, taken_apart};
 use crate::totals::lone_items;
-use apply_ast::{AggItem, AggList, KeyItem, KeyList, Name, Path, Step};
+use apply_ast::{AggItem, KeyItem, KeyList, Name, Path, Step};
 use apply_meaning::{Row, RunRefused, Steps, count, data_is_loaded, path_of};
 use edm_model::TypeId;
 use edm_values::{Seen, Value};
 use numbered_groups::NumberedGroups;
 use par_stages::Gate;
+use row_frames::Frame;
 use row_values::RowList;
 use std::alloc::{AllocError, Global};
 use std::sync::ledger::Ledger;
 use std::thread::Threads;
 
 /// A grouping without a recursive rollup among its keys, whose inner pipeline is an aggregation alone of counts and of aggregates
-/// by methods.
+/// by methods. Without an inner pipeline it has no items.
 #[derive(Clone, Copy)]
 pub(crate) struct GroupTotals<'a> {
     pub keys: &'a KeyList,
-    pub items: &'a AggList,
+    pub items: &'a [AggItem],
 }
 
 /// Whether no key is a recursive rollup.
@@ -73,7 +75,7 @@ fn are_folded(items: &[AggItem]) -> bool
 }
 
 /// What keys with an aggregation over them are, where no key is a recursive rollup and no item a custom aggregate.
-fn totals_of<'a>(keys: &'a KeyList, items: &'a AggList) -> Option<GroupTotals<'a>>
+fn totals_of<'a>(keys: &'a KeyList, items: &'a [AggItem]) -> Option<GroupTotals<'a>>
     ensures keys { IfSome result (λ t. t.keys.now ≡ keys.now) }
     ensures items { IfSome result (λ t. t.items.now ≡ items.now) }
     ensures flat { IfSome result (λ t. IsTrue (are_flat_keys (keys_of t.keys.now))) }
@@ -82,7 +84,7 @@ fn totals_of<'a>(keys: &'a KeyList, items: &'a AggList) -> Option<GroupTotals<'a
     if !are_flat(keys.as_slice()) {
         return None;
     }
-    if !are_folded(items.as_slice()) {
+    if !are_folded(items) {
         return None;
     }
     Some(GroupTotals { keys, items })
@@ -90,15 +92,16 @@ fn totals_of<'a>(keys: &'a KeyList, items: &'a AggList) -> Option<GroupTotals<'a
 
 /// The transformation as such a grouping, where it is one.
 pub(crate) fn group_totals(step: &Step) -> Option<GroupTotals<'_>>
-    ensures step { IfSome result (λ t. step_of step.now ≡ grouped_step (keys_of t.keys.now) (map agg_of t.items.now)) }
+    ensures step { IfSome result (λ t. IsGroupedBy (step_of step.now) (keys_of t.keys.now) (map agg_of t.items.now)) }
     ensures flat { IfSome result (λ t. IsTrue (are_flat_keys (keys_of t.keys.now))) }
     ensures folded { IfSome result (λ t. IsTrue (list_all is_folded (map agg_of t.items.now))) }
 {
     match step {
         Step::GroupBy(keys, Some(pipe)) => match lone_items(pipe) {
-            Some(items) => totals_of(keys, items),
+            Some(items) => totals_of(keys, items.as_slice()),
             None => None,
         },
+        Step::GroupBy(keys, None) => totals_of(keys, &[]),
         _ => None,
     }
 }
@@ -164,26 +167,6 @@ fn item_values<R: Threads + Sync, G: Gate>(
     }
 }
 
-/// The values of each item on the groups of a list.
-fn item_columns<R: Threads + Sync, G: Gate>(
-    alloc: Global,
-    context: &Context<'_, R, G>,
-    items: &[AggItem],
-    rows: &RowList<'_>,
-    groups: &NumberedGroups,
-) -> Result<Vec<Vec<Value>>, AllocError>
-    requires of { IsTrue (all_of context.now.world rows.now) }
-    requires kind { All (IsFoldable context.now.world rows.now) (map agg_of items.now) }
-    requires size { length groups.now.numbers ≡ length rows.now }
-    ensures { IfOk result (λ cs. map (λ c. c.items) cs.items ≡ map (values_by context.now.world rows.now groups.now) (map agg_of items.now)) }
-{
-    let mut columns = Vec::with_capacity(alloc, items.len())?;
-    for item in items {
-        columns.push(item_values(alloc, context, item, rows, groups)?)?;
-    }
-    Ok(columns)
-}
-
 /// The name of the result of an item.
 fn name_of(item: &AggItem) -> &Name
     ensures { result.now ≡ item_name (agg_of item.now) }
@@ -195,126 +178,79 @@ fn name_of(item: &AggItem) -> &Name
     }
 }
 
-/// The path of the column of each item.
-fn item_paths(alloc: Global, items: &[AggItem]) -> Result<Vec<Path>, AllocError>
-    ensures { IfOk result (λ all. all.items ≡ map (λ i. item_name i ∷ []) (map agg_of items.now)) }
-{
-    let mut all = Vec::with_capacity(alloc, items.len())?;
-    for item in items {
-        all.push(path_of(alloc, name_of(item))?)?;
-    }
-    Ok(all)
-}
-
-/// The columns of these paths with the values that stand at place k of each list.
-fn value_columns(
+/// The column of each item on the groups of a list.
+fn item_columns<R: Threads + Sync, G: Gate>(
     alloc: Global,
-    paths: &[Path],
-    lists: &[Vec<Value>],
-    k: usize,
-) -> Result<Vec<(Path, Value)>, AllocError>
-    requires { All (λ c. k < length c.items) lists.now }
-    ensures { IfOk result (λ cs. cs.items ≡ keyed paths.now (key_at (map (λ c. c.items) lists.now) k)) }
+    context: &Context<'_, R, G>,
+    items: &[AggItem],
+    rows: &RowList<'_>,
+    groups: &NumberedGroups,
+) -> Result<Vec<(Path, Vec<Value>)>, AllocError>
+    requires of { IsTrue (all_of context.now.world rows.now) }
+    requires kind { All (IsFoldable context.now.world rows.now) (map agg_of items.now) }
+    requires size { length groups.now.numbers ≡ length rows.now }
+    ensures { IfOk result (λ cs. given cs.items ≡ map (listed_column context.now.world rows.now groups.now) (map agg_of items.now)) }
 {
-    let mut columns = Vec::new(alloc);
-    for (path, list) in paths.iter().zip(lists) {
-        columns.push((path.copy(alloc)?, list[k].seen().own(alloc)?))?;
+    let mut columns = Vec::with_capacity(alloc, items.len())?;
+    for item in items {
+        let values = item_values(alloc, context, item, rows, groups)?;
+        columns.push((path_of(alloc, name_of(item))?, values))?;
     }
     Ok(columns)
 }
 
-/// The same of values that borrow their texts.
+/// The values with texts of their own.
+fn own_values(alloc: Global, values: &[Seen<'_>]) -> Result<Vec<Value>, AllocError>
+    ensures { IfOk result (λ own. own.items ≡ map (λ v. seen_value v) values.now) }
+{
+    let mut own = Vec::with_capacity(alloc, values.len())?;
+    for value in values {
+        own.push(value.own(alloc)?)?;
+    }
+    Ok(own)
+}
+
+/// The columns of these paths, each with the values of its list.
 fn key_columns(
     alloc: Global,
     paths: &[Path],
     lists: &[Vec<Seen<'_>>],
-    k: usize,
-) -> Result<Vec<(Path, Value)>, AllocError>
-    requires { All (λ c. k < length c.items) lists.now }
-    ensures { IfOk result (λ cs. cs.items ≡ keyed paths.now (key_at (seen_columns lists.now) k)) }
+) -> Result<Vec<(Path, Vec<Value>)>, AllocError>
+    ensures { IfOk result (λ cs. given cs.items ≡ zip paths.now (seen_columns lists.now)) }
 {
     let mut columns = Vec::new(alloc);
     for (path, list) in paths.iter().zip(lists) {
-        columns.push((path.copy(alloc)?, list[k].own(alloc)?))?;
+        columns.push((path.copy(alloc)?, own_values(alloc, list.as_slice())?))?;
     }
     Ok(columns)
 }
 
-/// The columns of the items and those of the keys behind them, with the values that stand at place k of each list.
-fn columns_across(
-    alloc: Global,
-    names: &[Path],
-    values: &[Vec<Value>],
-    paths: &[Path],
-    keys: &[Vec<Seen<'_>>],
-    k: usize,
-) -> Result<Vec<(Path, Value)>, AllocError>
-    requires values { All (λ c. k < length c.items) values.now }
-    requires keys { All (λ c. k < length c.items) keys.now }
-    ensures { IfOk result (λ cs. cs.items ≡ keyed names.now (key_at (map (λ c. c.items) values.now) k) ++ keyed paths.now (key_at (seen_columns keys.now) k)) }
-{
-    let mut columns = value_columns(alloc, names, values, k)?;
-    let mut behind = key_columns(alloc, paths, keys, k)?;
-    columns.append(&mut behind)?;
-    Ok(columns)
-}
-
-/// A row for each of so many places, whose columns have the values that stand there: one step a row.
-fn rows_across<L: Ledger>(
-    alloc: Global,
-    names: &[Path],
-    values: &[Vec<Value>],
-    paths: &[Path],
-    keys: &[Vec<Seen<'_>>],
-    count: usize,
-    steps: &mut Steps<L>,
-) -> Result<Vec<Row>, AllocError>
-    requires values { All (λ c. count ≤ length c.items) values.now }
-    requires keys { All (λ c. count ≤ length c.items) keys.now }
-    requires differ { (k : ℕ) → k < count → IsTrue (columns_differ (keyed names.now (key_at (map (λ c. c.items) values.now) k) ++ keyed paths.now (key_at (seen_columns keys.now) k))) }
-    ensures rows { IfOk result (λ made. made.items ≡ map (row_across names.now (map (λ c. c.items) values.now) paths.now (seen_columns keys.now)) (places count)) }
-    ensures steps { steps.new ≤ steps.old + count }
-    ensures grown { steps.old ≤ steps.new }
-{
-    let mut made = Vec::with_capacity(alloc, count)?;
-    for k in 0..count {
-        let columns = columns_across(alloc, names, values, paths, keys, k)?;
-        made.push(Row::make(alloc, Vec::new(alloc), None, columns, steps)?)?;
-    }
-    Ok(made)
-}
-
-/// The rows of the groups by these paths: one step a row.
-fn rows_of_level<R: Threads + Sync, G: Gate, L: Ledger>(
+/// The rows of the groups by these paths, as a frame of which no row is made.
+fn level_frame<R: Threads + Sync, G: Gate>(
     alloc: Global,
     context: &Context<'_, R, G>,
     items: &[AggItem],
     paths: &[Path],
     groups: &NumberedGroups,
     rows: &RowList<'_>,
-    steps: &mut Steps<L>,
-) -> Result<Vec<Row>, AllocError>
+) -> Result<Frame, AllocError>
     requires of { IsTrue (all_of context.now.world rows.now) }
     requires kind { All (IsFoldable context.now.world rows.now) (map agg_of items.now) }
     requires folded { IsTrue (list_all is_folded (map agg_of items.now)) }
     requires numbered { AreNumberedBy context.now.world paths.now rows.now groups.now }
     requires apart { AreApart context.now.world (map agg_of items.now) rows.now (level_on context.now.world rows.now paths.now) }
-    ensures rows { IfOk result (λ made. made.items ≡ level_totals context.now.world (map agg_of items.now) rows.now (level_on context.now.world rows.now paths.now)) }
-    ensures steps { steps.new ≤ steps.old + length (level_totals context.now.world (map agg_of items.now) rows.now (level_on context.now.world rows.now paths.now)) }
-    ensures grown { steps.old ≤ steps.new }
+    ensures { IfOk result (λ f. f ≡ level_totals context.now.world (map agg_of items.now) rows.now (level_on context.now.world rows.now paths.now)) }
 {
-    let names = item_paths(alloc, items)?;
-    let names = names.as_slice();
-    let values = item_columns(alloc, context, items, rows, groups)?;
-    let values = values.as_slice();
+    let mut columns = item_columns(alloc, context, items, rows, groups)?;
     let firsts = groups.firsts();
     let keys = rows.key_columns_at(alloc, context.store(), paths, firsts)?;
-    let keys = keys.as_slice();
-    rows_across(alloc, names, values, paths, keys, groups.len(), steps)
+    let mut behind = key_columns(alloc, paths, keys.as_slice())?;
+    columns.append(&mut behind)?;
+    Frame::of_columns(alloc, columns, groups.len())
 }
 
-/// The rows of the groups of all levels, the finest first: one step a row.
-fn rows_of_levels<R: Threads + Sync, G: Gate, L: Ledger>(
+/// The rows of the groups of all levels, the finest first.
+fn frame_of_levels<R: Threads + Sync, G: Gate>(
     alloc: Global,
     context: &Context<'_, R, G>,
     items: &[AggItem],
@@ -322,53 +258,65 @@ fn rows_of_levels<R: Threads + Sync, G: Gate, L: Ledger>(
     paths: &[Path],
     levels: &[NumberedGroups],
     rows: &RowList<'_>,
-    steps: &mut Steps<L>,
-) -> Result<Vec<Row>, AllocError>
+) -> Result<Frame, AllocError>
     requires of { IsTrue (all_of context.now.world rows.now) }
     requires kind { All (IsFoldable context.now.world rows.now) (map agg_of items.now) }
     requires folded { IsTrue (list_all is_folded (map agg_of items.now)) }
     requires all { paths.now ≡ keys.now.plain ++ rollup_paths (part_of keys.now.rollup) }
     requires numbered { AreNumberedByEach context.now.world (level_paths keys.now.plain (part_of keys.now.rollup)) rows.now levels.now }
     requires apart { All (λ level. AreApart context.now.world (map agg_of items.now) rows.now (level_on context.now.world rows.now level)) (level_paths keys.now.plain (part_of keys.now.rollup)) }
-    ensures rows { IfOk result (λ made. made.items ≡ flat_map (λ level. level_totals context.now.world (map agg_of items.now) rows.now (level_on context.now.world rows.now level)) (level_paths keys.now.plain (part_of keys.now.rollup))) }
-    ensures steps { steps.new ≤ steps.old + length (flat_map (λ level. level_totals context.now.world (map agg_of items.now) rows.now (level_on context.now.world rows.now level)) (level_paths keys.now.plain (part_of keys.now.rollup))) }
-    ensures grown { steps.old ≤ steps.new }
+    ensures { IfOk result (λ f. f ≡ flat_map (λ level. level_totals context.now.world (map agg_of items.now) rows.now (level_on context.now.world rows.now level)) (level_paths keys.now.plain (part_of keys.now.rollup))) }
 {
-    let mut all = Vec::new(alloc);
+    let mut all = Frame::none(alloc);
     for (k, groups) in levels.iter().enumerate() {
         let own = paths_at(keys, paths, k);
-        let mut made = rows_of_level(alloc, context, items, own, groups, rows, steps)?;
-        all.append(&mut made)?;
+        all = all.append(level_frame(alloc, context, items, own, groups, rows)?)?;
     }
     Ok(all)
 }
 
-/// The rows of all groups, and a refusal where a key is Beyond: one step a row.
-fn total_groups<R: Threads + Sync, G: Gate, L: Ledger>(
+/// The rows of all groups, and a refusal where a key is Beyond.
+fn total_groups<R: Threads + Sync, G: Gate>(
     alloc: Global,
     context: &Context<'_, R, G>,
     totals: &GroupTotals<'_>,
     rows: &RowList<'_>,
-    steps: &mut Steps<L>,
-) -> Result<Vec<Row>, RunRefused>
+) -> Result<Frame, RunRefused>
     requires of { IsTrue (all_of context.now.world rows.now) }
     requires flat { IsTrue (are_flat_keys (keys_of totals.now.keys.now)) }
     requires folded { IsTrue (list_all is_folded (map agg_of totals.now.items.now)) }
     requires ready { GroupsReady context.now.world (keys_of totals.now.keys.now) (map agg_of totals.now.items.now) rows.now }
-    ensures rows { GivesGroupTotals result context.now.world (keys_of totals.now.keys.now) (map agg_of totals.now.items.now) rows.now }
-    ensures steps { steps.new ≤ steps.old + length (seen.group_totals context.now.world (keys_of totals.now.keys.now) (map agg_of totals.now.items.now) rows.now) }
-    ensures grown { steps.old ≤ steps.new }
+    ensures { GivesGroupTotals result context.now.world (keys_of totals.now.keys.now) (map agg_of totals.now.items.now) rows.now }
 {
     let paths = all_paths(alloc, totals.keys)?;
     let paths = paths.as_slice();
     let keys = taken_apart(alloc, totals.keys)?;
     let levels = numbered_groups(alloc, context, &keys, rows)?;
     let levels = levels.as_slice();
-    let items = totals.items.as_slice();
-    Ok(rows_of_levels(alloc, context, items, &keys, paths, levels, rows, steps)?)
+    Ok(frame_of_levels(alloc, context, totals.items, &keys, paths, levels, rows)?)
 }
 
-/// What a transformation that is such a grouping gives on a list.
+/// What a transformation that is such a grouping gives on a list, as a frame.
+fn frame_of_groups<R: Threads + Sync, G: Gate>(
+    alloc: Global,
+    context: &Context<'_, R, G>,
+    root: &Option<TypeId>,
+    step: &Step,
+    totals: &GroupTotals<'_>,
+    rows: &RowList<'_>,
+) -> Result<Frame, RunRefused>
+    requires step { IsGroupedBy (step_of step.now) (keys_of totals.now.keys.now) (map agg_of totals.now.items.now) }
+    requires flat { IsTrue (are_flat_keys (keys_of totals.now.keys.now)) }
+    requires folded { IsTrue (list_all is_folded (map agg_of totals.now.items.now)) }
+    requires ready { StepReadyFrom context.now root.now (step_of step.now) rows.now }
+    ensures mean { (S S' : Shape) → StepRunsFrom context.now root.now S S' (step_of step.now) rows.now
+        → GivesFrame result (step_mean context.now.world (readings context.now.customs) S (step_of step.now) rows.now) }
+{
+    data_is_loaded(context.store());
+    total_groups(alloc, context, totals, rows)
+}
+
+/// What a transformation that is such a grouping gives on a list: one step a row.
 pub(crate) fn run_group_totals<R: Threads + Sync, G: Gate, L: Ledger>(
     alloc: Global,
     context: &Context<'_, R, G>,
@@ -378,7 +326,7 @@ pub(crate) fn run_group_totals<R: Threads + Sync, G: Gate, L: Ledger>(
     rows: &RowList<'_>,
     steps: &mut Steps<L>,
 ) -> Result<Vec<Row>, RunRefused>
-    requires step { step_of step.now ≡ grouped_step (keys_of totals.now.keys.now) (map agg_of totals.now.items.now) }
+    requires step { IsGroupedBy (step_of step.now) (keys_of totals.now.keys.now) (map agg_of totals.now.items.now) }
     requires flat { IsTrue (are_flat_keys (keys_of totals.now.keys.now)) }
     requires folded { IsTrue (list_all is_folded (map agg_of totals.now.items.now)) }
     requires ready { StepReadyFrom context.now root.now (step_of step.now) rows.now }
@@ -388,6 +336,28 @@ pub(crate) fn run_group_totals<R: Threads + Sync, G: Gate, L: Ledger>(
         → steps.new ≤ steps.old + step_cost context.now.world (readings context.now.customs) S (step_of step.now) rows.now }
     ensures grown { steps.old ≤ steps.new }
 {
-    data_is_loaded(context.store());
-    total_groups(alloc, context, totals, rows, steps)
+    let frame = frame_of_groups(alloc, context, root, step, totals, rows)?;
+    Ok(frame.into_rows(alloc, steps)?)
+}
+
+/// What a grouping gives on a list, as a frame of which no row is made, where its groups are told by numbers; nothing where they are
+/// not.
+pub fn grouped_frame<R: Threads + Sync, G: Gate>(
+    alloc: Global,
+    context: &Context<'_, R, G>,
+    root: &Option<TypeId>,
+    step: &Step,
+    rows: &RowList<'_>,
+) -> Result<Option<Frame>, RunRefused>
+    requires ready { StepReadyFrom context.now root.now (step_of step.now) rows.now }
+    ensures mean { (S S' : Shape) → StepRunsFrom context.now root.now S S' (step_of step.now) rows.now
+        → GivesFound result (step_mean context.now.world (readings context.now.customs) S (step_of step.now) rows.now) }
+{
+    match group_totals(step) {
+        Some(totals) => {
+            let made = frame_of_groups(alloc, context, root, step, &totals, rows)?;
+            Ok(Some(made))
+        }
+        None => Ok(None),
+    }
 }

@@ -7,7 +7,8 @@
 //! `recursive` those of each node of a recursive rollup; `item_lists` works out the values of an aggregation once for all groups,
 //! and `groups` makes rows of groups and puts key columns on them. `totals` runs a recursive rollup that is the only key where an
 //! aggregation alone is made of each group: over neighbours in the order of the nodes, without groups; `group_totals` runs any other
-//! keys there, over groups that are told by numbers, where the items are counts and aggregates by methods. `selections` takes rows from the top and the bottom, and
+//! keys there, over groups that are told by numbers, where the items are counts and aggregates by methods, and keys without an inner
+//! pipeline: `grouped_frame` has what comes of these as a frame of columns, of which no row is made. `selections` takes rows from the top and the bottom, and
 //! `selected_places` has the places of the values that one takes; `joins` says what a join takes; `hierarchies` has climbs and
 //! traversals, and the places of the instances of a list that they take; `copies` copies rows for pipelines that share them. `roots` follows the type at the empty prefix from one
 //! transformation to the next, which custom aggregates are looked up by.
@@ -42,6 +43,7 @@ mod totals;
 
 pub use aggregations::aggregated;
 pub use contexts::Context;
+pub use group_totals::grouped_frame;
 pub use hierarchies::{climbed_places, traversed_places};
 pub use pipes::{run_grouping, run_pipe, run_step};
 pub use roots::root_after;

@@ -1,6 +1,6 @@
 //! Recursive rollups whose groups an aggregation makes one row each. What an aggregation gives does not hang on the order of the
 //! instances, so they are put once in the order of the numbers of their nodes, in which those at or below a node are neighbours.
-ghost use Rattle.std.specs.Prelude.{◌≡◌, ℕ, ◌+◌, ◌-◌, ◌<◌, ◌≤◌, ◌∷◌, [], ◌++◌, All, List, Some, IfOk, IfSome, IsTrue, drop, is_some, length, map, nat_lt, option_map, slice_get, take};
+ghost use Rattle.std.specs.Prelude.{◌≡◌, ℕ, ◌+◌, ◌-◌, ◌<◌, ◌≤◌, ◌∷◌, [], ◌++◌, All, List, Some, IfOk, IfSome, IsTrue, drop, is_some, length, map, nat_lt, option_map, slice_get, slice_index_or, take};
 ghost use Rattle.std.specs.Global.{Vec as Vec'};
 ghost use Rattle.std.specs.List.{cons_option, list_all};
 ghost use Rattle.edm_values.specs.declared.Value.{Value as Value'};
@@ -19,7 +19,7 @@ ghost use Rattle.hier_states.specs.States.{IsReadyAt};
 ghost use Rattle.pipe_run.specs.Conditions.{ItemReady, ItemsReady};
 ghost use Rattle.pipe_run.specs.ItemLists.{AreItemLists, item_list};
 ghost use Rattle.pipe_run.specs.Totals as seen;
-ghost use Rattle.pipe_run.specs.Totals.{AreNodesOf, GivesTotals, TotalsReady, total_row, totals_at, totals_step};
+ghost use Rattle.pipe_run.specs.Totals.{AreAtNodes, AreKnownAt, AreNodeLists, AreNodesOf, GivesTotals, TotalsReady, item_outcome, total_row, totals_at, totals_step};
 
 use crate::aggregations::item_value;
 use crate::contexts::Context;
@@ -27,10 +27,11 @@ use crate::item_lists::{ItemList, list_at};
 use apply_ast::{AggItem, AggList, HierName, KeyItem, KeyList, Path, Pipe, Step};
 use apply_meaning::{Row, RunRefused, Steps, data_is_loaded, path_of};
 use edm_model::{SetId, TypeId};
-use edm_values::Value;
+use edm_values::{Method, Value};
+use hier_index::Index;
 use hier_rows::{identifier, nodes_of};
 use par_stages::Gate;
-use rollup_rec::NodeRows;
+use rollup_rec::{NodeRows, NodeValues, node_values};
 use row_values::{PlacedRows, RowList};
 use std::alloc::{AllocError, Global};
 use std::sync::ledger::Ledger;
@@ -92,7 +93,65 @@ pub(crate) fn node_totals(step: &Step) -> Option<NodeTotals<'_>>
     }
 }
 
-/// The values of an item on instances, where it aggregates an expression by a method.
+/// For each node the value of an item on the instances at it or below it, where these are worked out for all nodes at once.
+type NodeList<'a> = Option<NodeValues<'a>>;
+
+/// For each node the value of an item on the instances at it or below it, where what is kept of a node can be taken over by the node
+/// above it: sums, least and greatest values.
+fn node_list<'a, R: Threads + Sync, G: Gate>(
+    alloc: Global,
+    context: &Context<'_, R, G>,
+    root: &Option<TypeId>,
+    item: &AggItem,
+    rows: &RowList<'_>,
+    index: &'a Index,
+    nodes: &[Option<u32>],
+) -> Result<NodeList<'a>, AllocError>
+    requires of { IsTrue (all_of context.now.world rows.now) }
+    requires there { All (λ n. IfSome n (λ y. y < length index.now)) nodes.now }
+    requires rows { length nodes.now ≡ length rows.now }
+    requires ready { ItemReady context.now root.now (agg_of item.now) rows.now }
+    ensures { IfOk result (λ o. (v : List Value') → o ≡ Some v → AreAtNodes context.now.world rows.now index.now nodes.now (agg_of item.now) v) }
+{
+    data_is_loaded(context.store());
+    match item {
+        AggItem::Standard(e, method, _) => {
+            if matches!(method, Method::CountDistinct) {
+                return Ok(None);
+            }
+            let values = context.seen_values(alloc, e, rows)?;
+            let list = node_values(alloc, index, nodes, *method, values.as_slice())?;
+            Ok(list)
+        }
+        AggItem::Count(_) => Ok(None),
+        AggItem::Custom(..) => Ok(None),
+    }
+}
+
+/// The same of each item.
+fn node_lists<'a, R: Threads + Sync, G: Gate>(
+    alloc: Global,
+    context: &Context<'_, R, G>,
+    root: &Option<TypeId>,
+    items: &[AggItem],
+    rows: &RowList<'_>,
+    index: &'a Index,
+    nodes: &[Option<u32>],
+) -> Result<Vec<NodeList<'a>>, AllocError>
+    requires of { IsTrue (all_of context.now.world rows.now) }
+    requires there { All (λ n. IfSome n (λ y. y < length index.now)) nodes.now }
+    requires rows { length nodes.now ≡ length rows.now }
+    requires ready { ItemsReady context.now root.now (map agg_of items.now) rows.now }
+    ensures { IfOk result (λ lists. AreNodeLists context.now.world rows.now index.now nodes.now (map agg_of items.now) lists.items) }
+{
+    let mut lists = Vec::with_capacity(alloc, items.len())?;
+    for item in items {
+        lists.push(node_list(alloc, context, root, item, rows, index, nodes)?)?;
+    }
+    Ok(lists)
+}
+
+/// The values of an item on instances, where it counts the distinct values of an expression.
 fn list_on<R: Threads + Sync, G: Gate>(
     alloc: Global,
     context: &Context<'_, R, G>,
@@ -100,16 +159,22 @@ fn list_on<R: Threads + Sync, G: Gate>(
     rows: &PlacedRows<'_>,
 ) -> Result<ItemList, AllocError>
     requires { IsTrue (all_of context.now.world rows.now) }
-    ensures { IfOk result (λ list. option_map (λ v. v.items) list ≡ item_list context.now.world rows.now (agg_of item.now)) }
+    ensures { IfOk result (λ list. (v : Vec' Value') → list ≡ Some v → item_list context.now.world rows.now (agg_of item.now) ≡ Some v.items) }
 {
     match item {
-        AggItem::Standard(e, _, _) => Ok(Some(context.values(alloc, e, rows)?)),
+        AggItem::Standard(e, method, _) => {
+            if matches!(method, Method::CountDistinct) {
+                let values = context.values(alloc, e, rows)?;
+                return Ok(Some(values));
+            }
+            Ok(None)
+        }
         AggItem::Count(_) => Ok(None),
         AggItem::Custom(..) => Ok(None),
     }
 }
 
-/// The values of each item on instances.
+/// The values on instances of each item that counts distinct values.
 fn lists_on<R: Threads + Sync, G: Gate>(
     alloc: Global,
     context: &Context<'_, R, G>,
@@ -154,6 +219,64 @@ fn value_on<R: Threads + Sync, G: Gate>(
     }
 }
 
+/// The name and the value of an item at a node, of which the value at each node is known.
+fn value_at_node<R: Threads + Sync, G: Gate>(
+    alloc: Global,
+    context: &Context<'_, R, G>,
+    item: &AggItem,
+    known: &NodeValues<'_>,
+    node: u32,
+    rows: &PlacedRows<'_>,
+) -> Result<(Path, Value), AllocError>
+    requires there { node < length known.now }
+    requires known { item_outcome context.now.world rows.now (agg_of item.now) ≡ Some (slice_index_or known.now node Value'.Null) }
+    ensures { (S : Shape) → IfOk result (λ column. column ≡ spec.item_value context.now.world (readings context.now.customs) S rows.now (agg_of item.now)) }
+{
+    match item {
+        AggItem::Standard(_, _, name) => {
+            let value = known.at(node).own(alloc)?;
+            Ok((path_of(alloc, name)?, value))
+        }
+        AggItem::Count(_) => unreachable!(),
+        AggItem::Custom(..) => unreachable!(),
+    }
+}
+
+/// The name and the value of an item on instances: at a node, where the value at each node is known, or by its values on them, of
+/// which all are known or none.
+fn item_column<R: Threads + Sync, G: Gate>(
+    alloc: Global,
+    context: &Context<'_, R, G>,
+    root: &Option<TypeId>,
+    item: &AggItem,
+    known: Option<&NodeValues<'_>>,
+    node: u32,
+    values: Option<&[Value]>,
+    rows: &PlacedRows<'_>,
+) -> Result<(Path, Value), AllocError>
+    requires known { (v : List Value') → option_map (λ o. o.now) known ≡ Some v → (node < length v) × (item_outcome context.now.world rows.now (agg_of item.now) ≡ Some (slice_index_or v node Value'.Null)) }
+    requires values { (v : List Value') → option_map (λ o. o.now) values ≡ Some v → item_list context.now.world rows.now (agg_of item.now) ≡ Some v }
+    requires ready { ItemReady context.now root.now (agg_of item.now) rows.now }
+    ensures { (S : Shape) → root_type S ≡ root.now
+        → IfOk result (λ column. column ≡ spec.item_value context.now.world (readings context.now.customs) S rows.now (agg_of item.now)) }
+{
+    match known {
+        Some(known) => value_at_node(alloc, context, item, known, node, rows),
+        None => value_on(alloc, context, root, item, values, rows),
+    }
+}
+
+/// The values of item k at all nodes, where they are known.
+fn known_at<'b, 'a>(lists: &'b [NodeList<'a>], k: usize) -> Option<&'b NodeValues<'a>>
+    ensures { (v : List Value') → option_map (λ o. o.now) result ≡ Some v → slice_get lists.now k ≡ Some (Some v) }
+{
+    let own = lists.get(k)?;
+    match own {
+        Some(values) => Some(values),
+        None => None,
+    }
+}
+
 /// Of the values of item k, where they are known, those from the first place on that stand before the end.
 fn values_between(lists: &[ItemList], k: usize, first: usize, end: usize) -> Option<&[Value]>
     requires order { first ≤ end }
@@ -178,11 +301,14 @@ fn columns_between<R: Threads + Sync, G: Gate>(
     root: &Option<TypeId>,
     items: &[AggItem],
     lists: &[ItemList],
+    known: &[NodeList<'_>],
+    node: u32,
     rows: &RowList<'_>,
     places: &[usize],
     first: usize,
     end: usize,
 ) -> Result<Vec<(Path, Value)>, AllocError>
+    requires known { AreKnownAt context.now.world (at_places rows.now (take (end - first) (drop first places.now))) (map agg_of items.now) node known.now }
     requires order { first ≤ end }
     requires end { end ≤ length places.now }
     requires within { IsTrue (list_all (λ k. nat_lt k (length rows.now)) places.now) }
@@ -195,7 +321,8 @@ fn columns_between<R: Threads + Sync, G: Gate>(
     let mut columns = Vec::with_capacity(alloc, items.len() + 1)?;
     for (k, item) in items.iter().enumerate() {
         let values = values_between(lists, k, first, end);
-        columns.push(value_on(alloc, context, root, item, values, &own)?)?;
+        let at_nodes = known_at(known, k);
+        columns.push(item_column(alloc, context, root, item, at_nodes, node, values, &own)?)?;
     }
     Ok(columns)
 }
@@ -207,13 +334,16 @@ fn row_between<R: Threads + Sync, G: Gate, L: Ledger>(
     root: &Option<TypeId>,
     totals: &NodeTotals<'_>,
     node: Value,
+    at: u32,
     lists: &[ItemList],
+    known: &[NodeList<'_>],
     rows: &RowList<'_>,
     places: &[usize],
     first: usize,
     end: usize,
     steps: &mut Steps<L>,
 ) -> Result<Row, AllocError>
+    requires known { AreKnownAt context.now.world (at_places rows.now (take (end - first) (drop first places.now))) (map agg_of totals.now.items.now) at known.now }
     requires order { first ≤ end }
     requires end { end ≤ length places.now }
     requires within { IsTrue (list_all (λ k. nat_lt k (length rows.now)) places.now) }
@@ -226,7 +356,7 @@ fn row_between<R: Threads + Sync, G: Gate, L: Ledger>(
 {
     let items = totals.items.as_slice();
     let mut columns = columns_between(
-        alloc, context, root, items, lists, rows, places, first, end,
+        alloc, context, root, items, lists, known, at, rows, places, first, end,
     )?;
     columns.push((totals.path.copy(alloc)?, node))?;
     Row::make(alloc, Vec::new(alloc), None, columns, steps)
@@ -242,6 +372,7 @@ fn row_of_node<R: Threads + Sync, G: Gate, L: Ledger>(
     set: SetId,
     order: &NodeRows<'_>,
     lists: &[ItemList],
+    known: &[NodeList<'_>],
     node: u32,
     rows: &RowList<'_>,
     steps: &mut Steps<L>,
@@ -250,6 +381,7 @@ fn row_of_node<R: Threads + Sync, G: Gate, L: Ledger>(
     requires there { node < length order.now.parents }
     requires rows { length order.now.nodes ≡ length rows.now }
     requires lists { AreItemLists context.now.world (at_places rows.now order.now.rows) (map agg_of totals.now.items.now) lists.now }
+    requires known { AreNodeLists context.now.world rows.now order.now.parents order.now.nodes (map agg_of totals.now.items.now) known.now }
     requires ready { TotalsReady context.now root.now (map agg_of totals.now.items.now) totals.now.path.now rows.now }
     ensures row { (f : HierarchyPlace) (S : Shape) → AreNodesOf context.now.world f totals.now.path.now rows.now set order.now.parents order.now.nodes → root_type S ≡ root.now
         → IfOk result (λ o. cons_option o [] ≡ totals_at context.now.world (readings context.now.customs) S f (map agg_of totals.now.items.now) totals.now.path.now rows.now node) }
@@ -264,13 +396,14 @@ fn row_of_node<R: Threads + Sync, G: Gate, L: Ledger>(
     }
     let own = identifier(alloc, context.store(), set, node)?;
     let row = row_between(
-        alloc, context, root, totals, own, lists, rows, places, first, end, steps,
+        alloc, context, root, totals, own, node, lists, known, rows, places, first, end, steps,
     )?;
     Ok(Some(row))
 }
 
 /// The rows of the nodes that are shown and that have instances at them or below them, in their order: one step a row. The values
-/// of the items on the instances in the order of the numbers of their nodes are known.
+/// of the items that count distinct values are known on the instances in the order of the numbers of their nodes, and those of sums,
+/// least and greatest values at each node.
 fn rows_of_nodes<R: Threads + Sync, G: Gate, L: Ledger>(
     alloc: Global,
     context: &Context<'_, R, G>,
@@ -279,6 +412,7 @@ fn rows_of_nodes<R: Threads + Sync, G: Gate, L: Ledger>(
     set: SetId,
     order: &NodeRows<'_>,
     lists: &[ItemList],
+    known: &[NodeList<'_>],
     shown: &[u32],
     rows: &RowList<'_>,
     steps: &mut Steps<L>,
@@ -287,6 +421,7 @@ fn rows_of_nodes<R: Threads + Sync, G: Gate, L: Ledger>(
     requires shown { All (λ x. x < length order.now.parents) shown.now }
     requires rows { length order.now.nodes ≡ length rows.now }
     requires lists { AreItemLists context.now.world (at_places rows.now order.now.rows) (map agg_of totals.now.items.now) lists.now }
+    requires known { AreNodeLists context.now.world rows.now order.now.parents order.now.nodes (map agg_of totals.now.items.now) known.now }
     requires ready { TotalsReady context.now root.now (map agg_of totals.now.items.now) totals.now.path.now rows.now }
     ensures rows { (f : HierarchyPlace) (S : Shape) → AreNodesOf context.now.world f totals.now.path.now rows.now set order.now.parents order.now.nodes → root_type S ≡ root.now
         → IfOk result (λ made. made.items ≡ seen.totals context.now.world (readings context.now.customs) S f (map agg_of totals.now.items.now) totals.now.path.now shown.now rows.now) }
@@ -297,7 +432,7 @@ fn rows_of_nodes<R: Threads + Sync, G: Gate, L: Ledger>(
     let mut made = Vec::new(alloc);
     for node in shown {
         let row = row_of_node(
-            alloc, context, root, totals, set, order, lists, *node, rows, steps,
+            alloc, context, root, totals, set, order, lists, known, *node, rows, steps,
         )?;
         if let Some(row) = row {
             made.push(row)?;
@@ -340,9 +475,20 @@ pub(crate) fn total_rows<R: Threads + Sync, G: Gate, L: Ledger>(
     )?;
     let order = NodeRows::new(alloc, found.index, nodes.as_slice())?;
     let placed = PlacedRows::at(rows, order.places());
-    let lists = lists_on(alloc, context, totals.items.as_slice(), &placed)?;
+    let items = totals.items.as_slice();
+    let lists = lists_on(alloc, context, items, &placed)?;
     let lists = lists.as_slice();
+    let known = node_lists(
+        alloc,
+        context,
+        root,
+        items,
+        rows,
+        found.index,
+        nodes.as_slice(),
+    )?;
+    let known = known.as_slice();
     Ok(rows_of_nodes(
-        alloc, &inner, root, totals, found.set, &order, lists, shown, rows, steps,
+        alloc, &inner, root, totals, found.set, &order, lists, known, shown, rows, steps,
     )?)
 }

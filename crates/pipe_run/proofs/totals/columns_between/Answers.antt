@@ -8,6 +8,7 @@ use Rattle.context_typing.specs.Typing.{item_column}
 use Rattle.apply_meaning.specs.Meaning.{item_value}
 use Rattle.apply_meaning.specs.MeaningLaws.{AllFit}
 use Rattle.pipe_run.specs.ItemLists.{item_list}
+use Rattle.pipe_run.specs.Totals.{item_outcome}
 use Rattle.pipe_run.proofs.CustomLemmas.{columns-more, typed-at}
 use Rattle.pipe_run.proofs.ItemLists.{read-list}
 use Rattle.pipe_run.proofs.PlacedRuns.{list-long, part-within, placed-list}
@@ -26,8 +27,8 @@ values_between-values-requires-clause-within g c u e =
     let last = c.requires.end in
     omega (arith, long, last)
 
-pub value_on-requires-clause-values : goal.value_on-requires-clause-values
-value_on-requires-clause-values g c κs within = λ v e.
+pub item_column-requires-clause-values : goal.item_column-requires-clause-values
+item_column-requires-clause-values g c κs within = λ v e.
     let w = c.args.context.now.world in
     let l = c.args.rows.now in
     let item = agg_of c.index-items-k.result in
@@ -37,8 +38,15 @@ value_on-requires-clause-values g c κs within = λ v e.
     ∙ placed-list w l item c.args.first (c.args.end - c.args.first) c.args.places.now (t.0).items c.requires.within known
     ∙ ap Some (sym t.2)
 
-pub value_on-requires-clause-ready : goal.value_on-requires-clause-ready
-value_on-requires-clause-ready g c κs within =
+pub item_column-requires-clause-known : goal.item_column-requires-clause-known
+item_column-requires-clause-known g c κs within = λ v e.
+    let w = c.args.context.now.world in
+    let item = agg_of c.index-items-k.result in
+    let t = c.requires.known c.loop-k.k item v (read-list agg_of c.args.items.now c.loop-k.k c.index-items-k.result c.loop-k-test.true c.index-items-k.is) (c.known_at-at_nodes.ensures v e) in
+    (t.0, ap (λ ls. item_outcome w ls item) c.at-own.ensures.value ∙ t.1)
+
+pub item_column-requires-clause-ready : goal.item_column-requires-clause-ready
+item_column-requires-clause-ready g c κs within =
     let x = c.args.context.now in
     let r = c.requires.ready in (
       r.0,
@@ -55,8 +63,8 @@ loop-k-preserved g c = λ S h.
     let x = c.args.context.now in
     let l = at_places c.args.rows.now (take (c.args.end - c.args.first) (drop c.args.first c.args.places.now)) in
     c.in_ok-push.ensures.items
-    ∙ ap (λ xs. xs ++ c.in_ok-value_on.field-0 ∷ []) (c.loop-k.invariant S h)
-    ∙ ap (λ y. map (item_value x.world (readings x.customs) S l) (map agg_of (take c.loop-k.k c.args.items.now)) ++ y ∷ []) (c.in_ok-value_on.ensures S h ∙ ap (λ ls. item_value x.world (readings x.customs) S ls (agg_of c.index-items-k.result)) c.at-own.ensures.value)
+    ∙ ap (λ xs. xs ++ c.in_ok-item_column.field-0 ∷ []) (c.loop-k.invariant S h)
+    ∙ ap (λ y. map (item_value x.world (readings x.customs) S l) (map agg_of (take c.loop-k.k c.args.items.now)) ++ y ∷ []) (c.in_ok-item_column.ensures S h ∙ ap (λ ls. item_value x.world (readings x.customs) S ls (agg_of c.index-items-k.result)) c.at-own.ensures.value)
     ∙ sym (columns-more x.world (readings x.customs) S l c.args.items.now c.loop-k.k c.index-items-k.result c.loop-k-test.true c.index-items-k.is)
 
 pub returns : goal.returns

@@ -1,13 +1,26 @@
-use Rattle.std.proofs.Common.{◌∙◌, ap, map, arith}
-use Rattle.std.proofs.lemmas.List.{take_all}
+use Rattle.std.proofs.Common.{◌≡◌, ◌∙◌, ◌∷◌, [], ap, arith, length, length-append, map, Some}
+use Rattle.std.specs.Prelude.{slice_get}
+use Rattle.std.specs.Global.{Vec}
+use Rattle.edm_values.specs.declared.Value.{Value}
+use Rattle.apply_ast.specs.Trees.{AggItem}
 use Rattle.apply_ast.specs.Views.{agg_of}
 use Rattle.pipe_run.specs.ItemLists.{item_list}
-use Rattle.pipe_run.proofs.ItemLists.{all-known}
+use Rattle.pipe_run.proofs.ItemLists.{read-list}
+use Rattle.pipe_run.proofs.NodeLists.{known-next, known-none}
 use Rattle.pipe_run.proofs.totals.lists_on.Goals as goal
 
-pub returns : goal.returns
-returns g c =
-    let w = c.args.context.now.world in
-    let l = c.args.rows.now in
-    let items = c.args.items.now in
-    all-known w l items c.loop-item.lists.items (c.loop-item.invariant ∙ ap (map (λ i. item_list w l (agg_of i))) (take_all c.loop-item.item-index items (omega (arith, c.loop-item-test.false))))
+pub loop-item-init : goal.loop-item-init
+loop-item-init g c = record {
+  size = ap length c.in_ok-lists.ensures.items;
+  known = known-none (λ (i : AggItem) (v : Vec Value). item_list c.args.context.now.world c.args.rows.now i ≡ Some v.items) (map agg_of c.args.items.now) c.in_ok-lists.lists.items c.in_ok-lists.ensures.items;
+}
+
+pub loop-item-preserved : goal.loop-item-preserved
+loop-item-preserved g c =
+    let size = c.loop-item.invariant.size in
+    let read = read-list agg_of c.args.items.now c.loop-item.item-index c.item-item.result c.loop-item-test.true c.item-item.is in
+    record {
+      size = omega (arith, size, ap length c.in_ok-push.ensures.items ∙ length-append c.loop-item.lists.items (c.in_ok-list_on.field-0 ∷ []));
+      known = known-next (λ (i : AggItem) (v : Vec Value). item_list c.args.context.now.world c.args.rows.now i ≡ Some v.items) (map agg_of c.args.items.now) c.loop-item.lists.items c.push.new.self.items c.in_ok-list_on.field-0 (agg_of c.item-item.result) c.in_ok-push.ensures.items
+          (ap (slice_get (map agg_of c.args.items.now)) size ∙ read) c.in_ok-list_on.ensures c.loop-item.invariant.known;
+    }

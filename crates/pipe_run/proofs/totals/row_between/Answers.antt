@@ -7,6 +7,7 @@ use Rattle.apply_meaning.specs.Meaning.{item_value}
 use Rattle.apply_meaning.specs.RowViews.{IsRow, columns_differ}
 use Rattle.pipe_run.specs.Conditions.{ItemsRun}
 use Rattle.pipe_run.specs.ItemLists.{AreItemLists}
+use Rattle.pipe_run.specs.Totals.{AreKnownAt}
 use Rattle.pipe_run.proofs.totals.row_between.Goals as goal
 
 pub columns_between-requires-clause-ready : goal.columns_between-requires-clause-ready
@@ -17,6 +18,9 @@ columns_between-requires-clause-ready g c κs within =
 
 pub columns_between-requires-clause-lists : goal.columns_between-requires-clause-lists
 columns_between-requires-clause-lists g c κs within = subst (λ is. AreItemLists c.args.context.now.world (at_places c.args.rows.now c.args.places.now) (map agg_of is) c.args.lists.now) (sym c.as_slice-items.ensures.value) c.requires.lists
+
+pub columns_between-requires-clause-known : goal.columns_between-requires-clause-known
+columns_between-requires-clause-known g c κs within = subst (λ is. AreKnownAt c.args.context.now.world (at_places c.args.rows.now (take (c.args.end - c.args.first) (drop c.args.first c.args.places.now))) (map agg_of is) c.args.at c.args.known.now) (sym c.as_slice-items.ensures.value) c.requires.known
 
 pub make-requires : goal.make-requires
 make-requires g c =

@@ -6,9 +6,20 @@ use Rattle.edm_data.specs.Nodes.{identifier}
 use Rattle.edm_data.specs.Worlds.{World}
 use Rattle.apply_ast.specs.Views.{agg_of}
 use Rattle.context_typing.specs.Readings.{readings}
-use Rattle.pipe_run.specs.Totals.{total_row}
+use Rattle.pipe_run.specs.Totals.{AreKnownAt, total_row}
+use Rattle.pipe_run.proofs.NodeLists.{known-run}
 use Rattle.pipe_run.proofs.PlacedRuns.{run-made, run-none}
 use Rattle.pipe_run.proofs.totals.row_of_node.Goals as goal
+
+pub row_between-requires-clause-known : goal.row_between-requires-clause-known
+row_between-requires-clause-known g c κs within =
+    let w = c.args.context.now.world in
+    let o = c.args.order.now in
+    let items = map agg_of c.args.totals.now.items.now in
+    let a = c.run-first.result.0 in
+    let b = c.run-first.result.1 in
+    subst (λ ks. AreKnownAt w (at_places c.args.rows.now (take (b - a) (drop a ks))) items c.args.node c.args.known.now) (sym c.places-places.ensures.value)
+    (known-run w c.args.rows.now o.parents o.nodes items c.args.known.now (take (b - a) (drop a o.rows)) c.args.node c.requires.there c.run-first.ensures.value c.requires.known)
 
 pub returns-then-first-end-clause-row : goal.returns-then-first-end-clause-row
 returns-then-first-end-clause-row g c = λ f S are h.

@@ -2,6 +2,9 @@ use Rattle.std.proofs.Common.{◌≡◌, ◌∙◌, [], ℕ, Option, Err, ap, sy
 use Rattle.std.specs.List.{list_any}
 use Rattle.std.specs.Global.{Vec}
 use Rattle.std.proofs.lemmas.Result.{err_from_is_err_and}
+use Rattle.std.proofs.lemmas.List.{length-map}
+use Rattle.edm_values.specs.declared.Value.TheVariants.{Null}
+use Rattle.edm_values.specs.Lists.{places}
 use Rattle.edm_values.specs.Values.{is_beyond}
 use Rattle.edm_data.specs.References.{count}
 use Rattle.edm_data.specs.Worlds.{World}
@@ -13,7 +16,9 @@ use Rattle.hier_rows.proofs.NodeLaws.{nodes-are, nodes-count}
 use Rattle.hier_rows.specs.HierRows as rows
 use Rattle.hier_rows.specs.HierRows.{AreNodesBelow, AreOptionsBelow, node_in, path_values}
 use Rattle.pipe_run.specs.Contexts.{Context}
-use Rattle.pipe_run.specs.Totals.{AreNodesOf, TotalsReady, totals}
+use Rattle.pipe_run.specs.Conditions.{ItemsRun}
+use Rattle.pipe_run.specs.Totals.{AreNodeLists, AreNodesOf, TotalsReady, totals}
+use Rattle.pipe_run.proofs.NodeLists.{placed-all}
 use Rattle.pipe_run.proofs.ClimbOutcomes.{found}
 use Rattle.pipe_run.proofs.NodeKeys.{none-beyond, path-err}
 use Rattle.pipe_run.proofs.PlacedRuns.{levels-totals, none-keyed, placed-of}
@@ -44,6 +49,35 @@ pub lists_on-requires-after_bounds : goal.lists_on-requires-after_bounds
 lists_on-requires-after_bounds g c κs within =
     let w = c.args.context.now.world in
     subst (λ l. IsTrue (all_of w l)) (sym c.at-placed.ensures.value) (placed-of w c.args.rows.now c.places.result.now c.requires.of)
+
+pub node_lists-requires-clause-there : goal.node_lists-requires-clause-there
+node_lists-requires-clause-there g c κs within =
+    let w = c.args.context.now.world in
+    let f = found (hierarchy_at w.model (hier_of c.args.totals.now.hier.now)) c.requires.there in
+    let long = nodes-count w f.0 c.nodes-found.result.set c.nodes-found.result.index.now (c.nodes-found.ensures.set f.0 f.1, c.nodes-found.ensures.index f.0 f.1) in
+    subst (AreOptionsBelow (length c.nodes-found.result.index.now)) (sym c.as_slice-2.ensures.value)
+    (subst (λ n. AreOptionsBelow n c.in_ok-nodes.nodes.items) (ap (λ (w : World). count w c.nodes-found.result.set) c.store.ensures.value ∙ sym long) c.in_ok-nodes.ensures.within)
+
+pub node_lists-requires-clause-rows : goal.node_lists-requires-clause-rows
+node_lists-requires-clause-rows g c κs within = ap length c.as_slice-2.ensures.value ∙ ap length c.in_ok-nodes.ensures.nodes.0 ∙ length-map c.args.rows.now (node_in c.store.result.now c.nodes-found.result.set c.args.totals.now.path.now)
+
+pub node_lists-requires-clause-ready : goal.node_lists-requires-clause-ready
+node_lists-requires-clause-ready g c κs within =
+    let x = c.args.context.now in
+    let l = c.args.rows.now in
+    let r = c.requires.ready in
+    (r.0, subst (λ is. ItemsRun x c.args.root.now r.0 (map agg_of is) l) (sym c.as_slice-items.ensures.value) (subst (λ ls. ItemsRun x c.args.root.now r.0 (map agg_of c.args.totals.now.items.now) ls) (placed-all l) (r.1 (places (length l)) Null).0))
+
+pub rows_of_nodes-requires-clause-known : goal.rows_of_nodes-requires-clause-known
+rows_of_nodes-requires-clause-known g c κs within =
+    let l = c.args.rows.now in
+    let items = map agg_of c.args.totals.now.items.now in
+    subst (λ (x : Context). AreNodeLists x.world l c.in_ok-order.order.parents c.in_ok-order.order.nodes items c.as_slice-known.result.now) (sym c.alone-inner.ensures)
+    (subst (λ ps. AreNodeLists c.args.context.now.world l ps c.in_ok-order.order.nodes items c.as_slice-known.result.now) (sym c.in_ok-order.ensures.parents)
+    (subst (λ ns. AreNodeLists c.args.context.now.world l c.nodes-found.result.index.now ns items c.as_slice-known.result.now) (sym (c.in_ok-order.ensures.nodes ∙ c.as_slice.ensures.value))
+    (subst (λ vs. AreNodeLists c.args.context.now.world l c.nodes-found.result.index.now c.in_ok-nodes.nodes.items items vs) (sym c.as_slice-known.ensures.value)
+    (subst (λ is. AreNodeLists c.args.context.now.world l c.nodes-found.result.index.now c.in_ok-nodes.nodes.items (map agg_of is) c.in_ok-known.known.items) c.as_slice-items.ensures.value
+    (subst (λ ns. AreNodeLists c.args.context.now.world l c.nodes-found.result.index.now ns (map agg_of c.as_slice-items.result.now) c.in_ok-known.known.items) c.as_slice-2.ensures.value c.in_ok-known.ensures)))))
 
 pub rows_of_nodes-requires-clause-shown : goal.rows_of_nodes-requires-clause-shown
 rows_of_nodes-requires-clause-shown g c κs within =
