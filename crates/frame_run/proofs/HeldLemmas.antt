@@ -16,6 +16,7 @@ use Rattle.apply_meaning.specs.Meaning.{Outcome, step_mean}
 use Rattle.apply_meaning.specs.Running.{Gives}
 use Rattle.pipe_run.proofs.CostEquations.{inner_costs-Climb}
 use Rattle.pipe_run.specs.Costs.{cost, inner_costs, result_length, step_cost}
+use Rattle.pipe_run.specs.GroupTotals.{GivesFound}
 use Rattle.frame_run.specs.HeldRows.{GivesHeld, owed_by}
 use Rattle.frame_run.specs.declared.held.Held.{Held}
 use Rattle.frame_run.specs.declared.held.Held.TheVariants as held
@@ -29,6 +30,11 @@ held-err Memory m m' h k = tt
 pub held-refused : (e : Refused) (m m' : Outcome) → GivesHeld (Err e) m → (m ≡ None → m' ≡ None) → GivesHeld (Err e) m'
 held-refused Range m m' h k = k h
 held-refused Memory m m' h k = tt
+
+-- and where a frame was looked for
+pub found-refused : (e : Refused) (m m' : Outcome) → GivesFound (Err e) m → (m ≡ None → m' ≡ None) → GivesHeld (Err e) m'
+found-refused Range m m' h k = k h
+found-refused Memory m m' h k = tt
 
 -- a transformation costs no less than the rows that it gives
 pub made-least : (w : World) (c : Customs) (S : Shape) (s : Step) (l r : List Instance) → step_mean w c S s l ≡ Some r → length r ≤ step_cost w c S s l

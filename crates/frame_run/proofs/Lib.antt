@@ -1,2 +1,3 @@
 pub mod FrameSteps
 pub mod HeldLemmas
+pub mod JoinLemmas

@@ -1,8 +1,10 @@
 -- The rows that a plan has come to, made or not.
-use Rattle.std.specs.Prelude.{◌≡◌, ℕ, List, Some, None, length}
+use Rattle.std.specs.Prelude.{◌≡◌, ℕ, List, Some, None, length, map, sum}
 use Rattle.std.specs.declared.result.Result as result
 use Rattle.std.specs.declared.result.Result.TheVariants.{Ok, Err}
 use Rattle.edm_values.specs.declared.refusals.Refused.{Refused}
+use Rattle.std.specs.Global.{Vec}
+use Rattle.edm_values.specs.Lists.{all_some}
 use Rattle.edm_values.specs.Refusals.{Returns}
 use Rattle.apply_meaning.specs.Instances.{Instance}
 use Rattle.apply_meaning.specs.Meaning.{Outcome}
@@ -27,3 +29,12 @@ owed_by (Err e) = 0
 -- what a run returned, where the meaning is known: `Memory` says nothing
 abbrev pub GivesHeld : result.Result Held Refused → Outcome → Type 0
 GivesHeld r m = Returns (λ (h : Held). m ≡ Some (rows_of h)) (m ≡ None) r
+
+-- what several runs returned, where the meaning of each is known: `Memory` says nothing
+abbrev pub GivesLists : result.Result (Vec Held) Refused → List Outcome → Type 0
+GivesLists r os = Returns (λ (v : Vec Held). all_some os ≡ Some (map rows_of v.items)) (all_some os ≡ None) r
+
+-- how many rows are still to be made of what several runs returned, none where it is refused
+abbrev pub lists_owed : {E : Type 0} → result.Result (Vec Held) E → ℕ
+lists_owed (Ok v) = sum (map owed v.items)
+lists_owed (Err e) = 0

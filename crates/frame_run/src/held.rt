@@ -1,28 +1,36 @@
 //! What a pipeline has come to: a frame, as long as no transformation wants rows, and then rows.
-ghost use Rattle.std.specs.Prelude.{◌≡◌, ℕ, ◌+◌, ◌≤◌, ◌<◌, ◌++◌, Some, IfOk, IsTrue, drop, filter, get_or, length, map, slice_get, sum, true};
+ghost use Rattle.std.specs.Prelude.{◌≡◌, ℕ, ◌+◌, ◌≤◌, ◌<◌, ◌++◌, Some, IfOk, IsTrue, drop, filter, get_or, length, map, option_map, slice_get, sum, true};
+ghost use Rattle.std.specs.List.{list_all};
 ghost use Rattle.edm_values.specs.Values.{is_value};
 ghost use Rattle.apply_ast.specs.Trees as tree;
 ghost use Rattle.apply_ast.specs.Trees.{pipe};
-ghost use Rattle.apply_ast.specs.Views.{climb_of, expr_of, pipe_of, pipes_in, pipes_of, step_of};
+ghost use Rattle.apply_ast.specs.Views.{climb_of, expr_of, inner_of, join_of, pipe_of, pipes_in, pipes_of, step_of};
 ghost use Rattle.context_typing.specs.Readings.{readings};
-ghost use Rattle.context_typing.specs.Shapes.{Shape};
+ghost use Rattle.edm_model.specs.LookUps.{IsNavigation, navigation_on};
+ghost use Rattle.edm_model.specs.Models.{Navigation};
+ghost use Rattle.context_typing.specs.Shapes.{Shape, set_shape};
 ghost use Rattle.apply_meaning.specs.Instances.{val};
-ghost use Rattle.apply_meaning.specs.Meaning.{Outcome, joined, mean, refused_at_beyond, step_mean, values};
+ghost use Rattle.apply_meaning.specs.Meaning.{Outcome, inner_mean, joined, mean, refused_at_beyond, related_rows, step_mean, values};
 ghost use Rattle.apply_meaning.specs.Running.{Gives, all_of};
 ghost use Rattle.row_frames.specs.Frames.{GivesFrame};
-ghost use Rattle.hier_states.specs.NamedHierarchies.{branch_hierarchies, hierarchies, step_hierarchies};
-ghost use Rattle.pipe_run.specs.Conditions.{AreReady, BranchesReady, BranchesRun, ReadyFrom, RunsFrom, StepReadyFrom, StepRunsFrom};
-ghost use Rattle.pipe_run.specs.Costs.{application, cost, step_cost};
+ghost use Rattle.hier_states.specs.NamedHierarchies.{branch_hierarchies, hierarchies, inner_hierarchies, step_hierarchies};
+ghost use Rattle.pipe_run.specs.Conditions.{AreReady, BranchesReady, BranchesRun, InnerReady, InnerRuns, ReadyFrom, RelatedReady, RelatedRun, RunsFrom, StepReadyFrom, StepRunsFrom, is_grouping};
+ghost use Rattle.pipe_run.specs.Costs.{application, applications, cost, inner_cost, step_cost};
+ghost use Rattle.join_concat.specs.Joins.{has_root_of};
 ghost use Rattle.frame_run.specs.HeldRows as spec;
 
 use crate::frame_steps::{
     frame_aggregated, frame_climbed, frame_computed, frame_ordered, frame_selected, frame_traversed,
 };
-use apply_ast::{ClimbStep, Expr, Pipe, PipeList, Step};
+use crate::joins::{
+    alias_ready, inner_ready, join_navigation, joined_lists, related_frame, related_ready,
+    target_set, target_type,
+};
+use apply_ast::{ClimbStep, Expr, JoinStep, Name, Pipe, PipeList, Step};
 use apply_meaning::{Row, RunRefused, Steps, data_is_loaded};
-use edm_model::TypeId;
+use edm_model::{NavId, TypeId};
 use par_stages::Gate;
-use pipe_run::{Context, root_after, run_grouping, run_step};
+use pipe_run::{Context, grouped_frame, root_after, run_grouping, run_step};
 use row_frames::Frame;
 use row_values::RowList;
 use std::alloc::{AllocError, Global};
@@ -38,7 +46,7 @@ pub enum Held {
 }
 
 /// The rows themselves: one step each, where they are not made yet.
-fn made_rows<L: Ledger>(
+pub(crate) fn made_rows<L: Ledger>(
     alloc: Global,
     held: Held,
     steps: &mut Steps<L>,
@@ -123,6 +131,51 @@ fn frame_filter<R: Threads + Sync, G: Gate>(
     frame.filter(context.rt(), alloc, context.store(), e, context.workers())
 }
 
+/// The most tables that a frame of groups has. New columns are made for all tables of a frame at once, so that rows take less memory
+/// than many tables, as those of a rollup of many levels.
+const MOST_LEVELS: usize = 4;
+
+/// A frame of groups, or its rows where it has many tables.
+fn held_groups<L: Ledger>(
+    alloc: Global,
+    made: Frame,
+    steps: &mut Steps<L>,
+) -> Result<Held, RunRefused>
+    ensures gives { (m : Outcome) → m ≡ Some made → spec.GivesHeld result m }
+    ensures steps { steps.new + spec.owed_by result ≤ steps.old + length made }
+    ensures grown { steps.old ≤ steps.new }
+{
+    if made.table_count() > MOST_LEVELS {
+        return Ok(Held::Rows(made.into_rows(alloc, steps)?));
+    }
+    Ok(Held::Frame(made))
+}
+
+/// What a grouping gives on a frame: a frame where its groups are told by numbers, and else rows.
+fn frame_grouped<R: Threads + Sync, G: Gate, L: Ledger>(
+    alloc: Global,
+    context: &Context<'_, R, G>,
+    root: &Option<TypeId>,
+    step: &Step,
+    frame: &Frame,
+    steps: &mut Steps<L>,
+) -> Result<Held, RunRefused>
+    requires grouping { IsTrue (is_grouping (step_of step.now)) }
+    requires ready { StepReadyFrom context.now root.now (step_of step.now) frame.now }
+    requires named { AreReady context.now (step_hierarchies (step_of step.now)) }
+    ensures mean { (S S' : Shape) → StepRunsFrom context.now root.now S S' (step_of step.now) frame.now
+        → spec.GivesHeld result (step_mean context.now.world (readings context.now.customs) S (step_of step.now) frame.now) }
+    ensures steps { (S S' : Shape) → StepRunsFrom context.now root.now S S' (step_of step.now) frame.now
+        → steps.new + spec.owed_by result ≤ steps.old + step_cost context.now.world (readings context.now.customs) S (step_of step.now) frame.now }
+    ensures grown { steps.old ≤ steps.new }
+{
+    let list = RowList::of_frame(frame);
+    match grouped_frame(alloc, context, root, step, &list)? {
+        Some(made) => held_groups(alloc, made, steps),
+        None => as_held(run_grouping(alloc, context, root, step, &list, steps)),
+    }
+}
+
 /// What one transformation gives on a frame, but for those whose inner pipelines are run on the same instances. No row is made where
 /// none is wanted.
 fn run_on_frame<R: Threads + Sync, G: Gate, L: Ledger>(
@@ -160,10 +213,7 @@ fn run_on_frame<R: Threads + Sync, G: Gate, L: Ledger>(
             let made = frame_aggregated(alloc, context, root, items, &frame, steps)?;
             Ok(Held::Rows(made))
         }
-        Step::GroupBy(..) => {
-            let list = RowList::of_frame(&frame);
-            as_held(run_grouping(alloc, context, root, step, &list, steps))
-        }
+        Step::GroupBy(..) => frame_grouped(alloc, context, root, step, &frame, steps),
         Step::Traverse(walk) => as_frame(frame_traversed(alloc, context, walk, frame, steps)),
         _ => run_on_rows(alloc, context, root, step, frame, steps),
     }
@@ -313,6 +363,124 @@ fn run_branches<R: Threads + Sync, G: Gate, L: Ledger>(
     Ok(all)
 }
 
+/// What a join gives on a frame: each instance beside each that its related ones become.
+#[cycle(held)]
+fn run_join<R: Threads + Sync, G: Gate, L: Ledger>(
+    alloc: Global,
+    context: &Context<'_, R, G>,
+    root: &Option<TypeId>,
+    join: &JoinStep,
+    frame: Frame,
+    steps: &mut Steps<L>,
+) -> Result<Held, RunRefused>
+    requires ready { StepReadyFrom context.now root.now (join_of join.now) frame }
+    requires named { AreReady context.now (step_hierarchies (join_of join.now)) }
+    ensures mean { (S S' : Shape) → StepRunsFrom context.now root.now S S' (join_of join.now) frame
+        → spec.GivesHeld result (step_mean context.now.world (readings context.now.customs) S (join_of join.now) frame) }
+    ensures steps { (S S' : Shape) → StepRunsFrom context.now root.now S S' (join_of join.now) frame
+        → steps.new + spec.owed_by result ≤ steps.old + length frame + step_cost context.now.world (readings context.now.customs) S (join_of join.now) frame }
+    ensures grown { steps.old ≤ steps.new }
+{
+    run_joined(
+        alloc,
+        context,
+        root,
+        join.outer,
+        &join.nav,
+        &join.alias,
+        &join.inner,
+        frame,
+        steps,
+    )
+}
+
+/// What a join of these parts gives on a frame.
+#[cycle(held)]
+fn run_joined<R: Threads + Sync, G: Gate, L: Ledger>(
+    alloc: Global,
+    context: &Context<'_, R, G>,
+    root: &Option<TypeId>,
+    outer: bool,
+    nav: &Name,
+    alias: &Name,
+    inner: &Option<Pipe>,
+    frame: Frame,
+    steps: &mut Steps<L>,
+) -> Result<Held, RunRefused>
+    requires ready { StepReadyFrom context.now root.now (tree.Step.Join outer nav.now alias.now (inner_of (option_map pipe_of inner.now))) frame }
+    requires named { AreReady context.now (inner_hierarchies (inner_of (option_map pipe_of inner.now))) }
+    ensures mean { let s = tree.Step.Join outer nav.now alias.now (inner_of (option_map pipe_of inner.now)) in
+        (S S' : Shape) → StepRunsFrom context.now root.now S S' s frame → spec.GivesHeld result (step_mean context.now.world (readings context.now.customs) S s frame) }
+    ensures steps { let s = tree.Step.Join outer nav.now alias.now (inner_of (option_map pipe_of inner.now)) in
+        (S S' : Shape) → StepRunsFrom context.now root.now S S' s frame → steps.new + spec.owed_by result ≤ steps.old + length frame + step_cost context.now.world (readings context.now.customs) S s frame }
+    ensures grown { steps.old ≤ steps.new }
+{
+    let found = join_navigation(context, root, outer, nav, alias, inner, &frame);
+    related_ready(context, root, outer, nav, alias, inner, &frame, found);
+    let results = run_related(alloc, context, found, inner, &frame, steps)?;
+    alias_ready(context, root, outer, nav, alias, inner, &frame);
+    let set = target_set(context, found);
+    Ok(joined_lists(alloc, outer, alias, set, frame, results, steps)?)
+}
+
+/// What the instances related to each instance become: what the inner pipeline gives, or themselves where there is none.
+#[cycle(held)]
+fn run_related<R: Threads + Sync, G: Gate, L: Ledger>(
+    alloc: Global,
+    context: &Context<'_, R, G>,
+    nav: NavId,
+    inner: &Option<Pipe>,
+    frame: &Frame,
+    steps: &mut Steps<L>,
+) -> Result<Vec<Held>, RunRefused>
+    requires there { IsNavigation context.now.world.model nav }
+    requires many { (v : Navigation) → navigation_on context.now.world.model nav ≡ Some v → IsTrue v.many }
+    requires roots { IsTrue (list_all (has_root_of context.now.world nav.of) frame.now) }
+    requires ready { RelatedReady context.now nav (inner_of (option_map pipe_of inner.now)) frame.now }
+    requires named { AreReady context.now (inner_hierarchies (inner_of (option_map pipe_of inner.now))) }
+    ensures mean { (v : Navigation) (T' : Shape) → navigation_on context.now.world.model nav ≡ Some v
+        → RelatedRun context.now v T' (inner_of (option_map pipe_of inner.now)) frame.now
+        → spec.GivesLists result (map (λ i. inner_mean context.now.world (readings context.now.customs) (set_shape v.target) (λ r. Some r) (inner_of (option_map pipe_of inner.now)) (related_rows context.now.world v i)) frame.now) }
+    ensures steps { (v : Navigation) (T' : Shape) → navigation_on context.now.world.model nav ≡ Some v
+        → RelatedRun context.now v T' (inner_of (option_map pipe_of inner.now)) frame.now
+        → steps.new + spec.lists_owed result ≤ steps.old + applications context.now.world (readings context.now.customs) (set_shape v.target) (inner_of (option_map pipe_of inner.now)) (map (related_rows context.now.world v) frame.now) }
+    ensures grown { steps.old ≤ steps.new }
+{
+    let target = target_type(context, nav);
+    let root = Some(target);
+    let mut all = Vec::with_capacity(alloc, frame.len())?;
+    for k in 0..frame.len() {
+        let related = related_frame(alloc, context, nav, frame, k)?;
+        inner_ready(context, nav, target, inner, frame, k, &related);
+        all.push(run_inner(alloc, context, &root, inner, related, steps)?)?;
+    }
+    Ok(all)
+}
+
+/// What instances become: what the inner pipeline gives, or themselves where there is none.
+#[cycle(held)]
+fn run_inner<R: Threads + Sync, G: Gate, L: Ledger>(
+    alloc: Global,
+    context: &Context<'_, R, G>,
+    root: &Option<TypeId>,
+    inner: &Option<Pipe>,
+    frame: Frame,
+    steps: &mut Steps<L>,
+) -> Result<Held, RunRefused>
+    requires ready { InnerReady context.now root.now (inner_of (option_map pipe_of inner.now)) frame }
+    requires named { AreReady context.now (inner_hierarchies (inner_of (option_map pipe_of inner.now))) }
+    ensures mean { (S S' : Shape) → InnerRuns context.now root.now S S' (inner_of (option_map pipe_of inner.now)) frame
+        → spec.GivesHeld result (inner_mean context.now.world (readings context.now.customs) S (λ r. Some r) (inner_of (option_map pipe_of inner.now)) frame) }
+    ensures steps { (S S' : Shape) → InnerRuns context.now root.now S S' (inner_of (option_map pipe_of inner.now)) frame
+        → steps.new + spec.owed_by result ≤ steps.old + length frame + inner_cost context.now.world (readings context.now.customs) S (inner_of (option_map pipe_of inner.now)) frame }
+    ensures grown { steps.old ≤ steps.new }
+{
+    match inner {
+        Some(pipe) => held_after(alloc, context, root, pipe, Held::Frame(frame), steps),
+        None => Ok(Held::Frame(frame)),
+    }
+}
+
 /// What one transformation gives on a frame.
 #[cycle(held)]
 fn run_frame<R: Threads + Sync, G: Gate, L: Ledger>(
@@ -334,6 +502,7 @@ fn run_frame<R: Threads + Sync, G: Gate, L: Ledger>(
     match step {
         Step::Climb(climb) => run_climb(alloc, context, root, climb, frame, steps),
         Step::Concat(branches) => run_concat(alloc, context, root, branches, frame, steps),
+        Step::Join(join) => run_join(alloc, context, root, join, frame, steps),
         _ => run_on_frame(alloc, context, root, step, frame, steps),
     }
 }

@@ -1,23 +1,32 @@
-use Rattle.std.proofs.Common.{◌≡◌, ℕ, ◌+◌, ◌∙◌, ◌++◌, ap, sym, subst, length, map, drop, Some, arith}
+use Rattle.std.proofs.Common.{◌≡◌, ◌<◌, ℕ, ◌+◌, ◌∙◌, ◌++◌, ap, sym, subst, length, map, drop, get_or, Some, arith}
 use Rattle.std.specs.Prelude.{option_and_then, option_map, slice_get}
-use Rattle.std.proofs.lemmas.List.{length-map}
+use Rattle.std.proofs.lemmas.List.{get_or_default, length-map}
 use Rattle.std.proofs.lemmas.Result.{err_from_is_err_and}
 use Rattle.std.proofs.Math.ListN.{drop_of_length-le}
 use Rattle.apply_ast.specs.Trees as tree
 use Rattle.apply_ast.specs.Trees.{Pipe}
-use Rattle.apply_ast.specs.Views.{climb_of, hier_of, pipe_of, pipes_in, step_of}
-use Rattle.apply_ast.proofs.ViewEquations.{climb_of-is, pipes_of-is, step_of-Climb, step_of-Concat}
+use Rattle.apply_ast.specs.Views.{climb_of, hier_of, inner_of, pipe_of, pipes_in, step_of}
+use Rattle.apply_ast.proofs.ViewEquations.{climb_of-is, join_of-is, pipes_of-is, step_of-Climb, step_of-Concat, step_of-Join}
 use Rattle.context_typing.specs.Readings.{readings}
-use Rattle.apply_meaning.specs.Meaning.{Outcome, joined, mean, step_mean}
+use Rattle.apply_meaning.specs.Meaning.{Outcome, inner_mean, joined, mean, step_mean}
+use Rattle.apply_meaning.specs.Instances.{no_instance}
 use Rattle.apply_meaning.specs.MeaningLaws.{IsLoaded}
-use Rattle.apply_meaning.proofs.MeaningEquations.{mean-End}
+use Rattle.apply_meaning.proofs.MeaningEquations.{inner_mean-NoPipe, inner_mean-SomePipe, mean-End}
 use Rattle.apply_meaning.proofs.RunLemmas.{all-fit-of, turn, next-step}
 use Rattle.row_frames.specs.Frames.{GivesFrame}
-use Rattle.hier_states.specs.NamedHierarchies.{branch_hierarchies, hierarchies, step_hierarchies}
-use Rattle.pipe_run.specs.Conditions.{AreReady, BranchesReady, ReadyFrom, RunsFrom, StepReadyFrom, StepRunsFrom}
-use Rattle.pipe_run.specs.Costs.{cost, step_cost}
+use Rattle.hier_states.specs.NamedHierarchies.{branch_hierarchies, hierarchies, inner_hierarchies, step_hierarchies}
+use Rattle.pipe_run.specs.Conditions.{AreReady, BranchesReady, InnerRuns, ReadyFrom, RunsFrom, StepReadyFrom, StepRunsFrom}
+use Rattle.pipe_run.specs.Costs.{cost, inner_cost, result_length, step_cost}
 use Rattle.frame_run.specs.HeldRows.{GivesHeld, owed, rows_of}
 use Rattle.frame_run.specs.declared.held.Held.{Held}
+use Rattle.edm_model.specs.Models.{Navigation}
+use Rattle.edm_values.specs.Lists.{all_some}
+use Rattle.edm_values.proofs.OptionFacts.{some_value}
+use Rattle.context_typing.specs.Shapes.{set_shape}
+use Rattle.join_concat.specs.Joins.{bound_rows}
+use Rattle.pipe_run.proofs.ListsInTurn.{last-list, next-list, next-list_refused}
+use Rattle.pipe_run.proofs.RelatedLemmas.{join-run, related-least, related-turn, related_mean}
+use Rattle.frame_run.proofs.JoinLemmas.{join-refused, lists-refused, more-owed, more-rows, results-long}
 use Rattle.frame_run.proofs.HeldLemmas.{climb-inner, held-refused, owed-beside}
 use Rattle.pipe_run.proofs.ClimbLemmas.{climb-costs, climb-means, climb-of}
 use Rattle.pipe_run.proofs.ConcatLemmas.{branch-at, branch-turn, concat-run}
@@ -207,6 +216,32 @@ run_frame-returns-in-Concat-clause-steps g t c = λ S S' R.
     let l = c.args.frame in
     let e = ap step_of c.in-Concat.is ∙ step_of-Concat c.in-Concat.branches in
     let spent = c.run_concat.ensures.steps S S' (subst (λ s. StepRunsFrom x c.args.root.now S S' s l) e R) in
+    let whole = ap (λ s. step_cost x.world (readings x.customs) S s l) e in
+    omega (arith, spent, whole)
+
+pub run_frame-run_join-requires-clause-ready : goal.run_frame-run_join-requires-clause-ready
+run_frame-run_join-requires-clause-ready g t c κs within =
+    let x = c.args.context.now in
+    subst (λ s. StepReadyFrom x c.args.root.now s c.args.frame) (ap step_of c.in-Join.is ∙ step_of-Join c.in-Join.join) c.requires.ready
+
+pub run_frame-run_join-requires-clause-named : goal.run_frame-run_join-requires-clause-named
+run_frame-run_join-requires-clause-named g t c κs within =
+    let x = c.args.context.now in
+    subst (λ s. AreReady x (step_hierarchies s)) (ap step_of c.in-Join.is ∙ step_of-Join c.in-Join.join) c.requires.named
+
+pub run_frame-returns-in-Join-clause-mean : goal.run_frame-returns-in-Join-clause-mean
+run_frame-returns-in-Join-clause-mean g t c = λ S S' R.
+    let x = c.args.context.now in
+    let l = c.args.frame in
+    let e = ap step_of c.in-Join.is ∙ step_of-Join c.in-Join.join in
+    subst (GivesHeld c.run_join.result) (sym (ap (λ s. step_mean x.world (readings x.customs) S s l) e)) (c.run_join.ensures.mean S S' (subst (λ s. StepRunsFrom x c.args.root.now S S' s l) e R))
+
+pub run_frame-returns-in-Join-clause-steps : goal.run_frame-returns-in-Join-clause-steps
+run_frame-returns-in-Join-clause-steps g t c = λ S S' R.
+    let x = c.args.context.now in
+    let l = c.args.frame in
+    let e = ap step_of c.in-Join.is ∙ step_of-Join c.in-Join.join in
+    let spent = c.run_join.ensures.steps S S' (subst (λ s. StepRunsFrom x c.args.root.now S S' s l) e R) in
     let whole = ap (λ s. step_cost x.world (readings x.customs) S s l) e in
     omega (arith, spent, whole)
 
@@ -412,3 +447,234 @@ pub run_branches-returns-clause-steps : goal.run_branches-returns-clause-steps
 run_branches-returns-clause-steps g t c = λ S R.
     let left = (c.loop-k.invariant.1 S R).1 in
     omega (arith, left)
+
+-- ---- a join
+
+pub run_join-run_joined-requires-clause-ready : goal.run_join-run_joined-requires-clause-ready
+run_join-run_joined-requires-clause-ready g t c κs within = subst (λ s. StepReadyFrom c.args.context.now c.args.root.now s c.args.frame) (join_of-is c.args.join.now) c.requires.ready
+
+pub run_join-run_joined-requires-clause-named : goal.run_join-run_joined-requires-clause-named
+run_join-run_joined-requires-clause-named g t c κs within = subst (λ s. AreReady c.args.context.now (step_hierarchies s)) (join_of-is c.args.join.now) c.requires.named
+
+pub run_join-returns-clause-mean : goal.run_join-returns-clause-mean
+run_join-returns-clause-mean g t c = λ S S' R.
+    let x = c.args.context.now in
+    let e = join_of-is c.args.join.now in
+    subst (λ s. GivesHeld c.run_joined.result (step_mean x.world (readings x.customs) S s c.args.frame)) (sym e) (c.run_joined.ensures.mean S S' (subst (λ s. StepRunsFrom x c.args.root.now S S' s c.args.frame) e R))
+
+pub run_join-returns-clause-steps : goal.run_join-returns-clause-steps
+run_join-returns-clause-steps g t c = λ S S' R.
+    let x = c.args.context.now in
+    let e = join_of-is c.args.join.now in
+    let spent = c.run_joined.ensures.steps S S' (subst (λ s. StepRunsFrom x c.args.root.now S S' s c.args.frame) e R) in
+    let whole = ap (λ s. step_cost x.world (readings x.customs) S s c.args.frame) e in
+    omega (arith, spent, whole)
+
+pub run_join-returns-clause-grown : goal.run_join-returns-clause-grown
+run_join-returns-clause-grown g t c = omega (arith, c.run_joined.ensures.grown)
+
+-- ---- a join of parts
+
+pub run_joined-run_related-requires-clause-many : goal.run_joined-run_related-requires-clause-many
+run_joined-run_related-requires-clause-many g t c κs within = λ v h.
+    let u = join-run c.join_navigation-found.result c.requires.ready.2 c.join_navigation-found.ensures.value c.related_ready.ensures in
+    ap (λ (v : Navigation). v.many) (some_value (sym h ∙ u.at)) ∙ u.many
+
+pub run_joined-returns-in_err-results-clause-mean : goal.run_joined-returns-in_err-results-clause-mean
+run_joined-returns-in_err-results-clause-mean g t c = λ S S' R.
+    let u = join-run c.join_navigation-found.result R c.join_navigation-found.ensures.value c.related_ready.ensures in
+    let p = err_from_is_err_and c.from_residual.result c.from_residual.ensures.1 in
+    let x = c.args.context.now in
+    let os = map (related_mean x.world (readings x.customs) u.navigation (inner_of (option_map pipe_of c.args.inner.now))) c.args.frame in
+    rw (p.1, p.2) (join-refused c.in_err-results.field-0.0 os (bound_rows c.args.outer c.args.alias.now c.args.frame) _ u.means (c.in_err-results.ensures.mean u.navigation u.shape u.at u.runs))
+
+pub run_joined-returns-in_err-results-clause-steps : goal.run_joined-returns-in_err-results-clause-steps
+run_joined-returns-in_err-results-clause-steps g t c = λ S S' R.
+    let u = join-run c.join_navigation-found.result R c.join_navigation-found.ensures.value c.related_ready.ensures in
+    let ran = c.run_related.ensures.steps u.navigation u.shape u.at u.runs in
+    let whole = u.costs in
+    let p = err_from_is_err_and c.from_residual.result c.from_residual.ensures.1 in
+    rw p.1 (omega (arith, ran, whole))
+
+pub run_joined-returns-in_err-results-clause-grown : goal.run_joined-returns-in_err-results-clause-grown
+run_joined-returns-in_err-results-clause-grown g t c = omega (arith, c.run_related.ensures.grown)
+
+pub run_joined-joined_lists-requires-clause-lists : goal.run_joined-joined_lists-requires-clause-lists
+run_joined-joined_lists-requires-clause-lists g t c =
+    let u = join-run c.join_navigation-found.result c.requires.ready.2 c.join_navigation-found.ensures.value c.related_ready.ensures in
+    let x = c.args.context.now in
+    results-long (related_mean x.world (readings x.customs) u.navigation (inner_of (option_map pipe_of c.args.inner.now))) c.args.frame c.in_ok-results.results.items (c.in_ok-results.ensures.mean u.navigation u.shape u.at u.runs)
+
+pub run_joined-returns-in_err-joined_lists-clause-steps : goal.run_joined-returns-in_err-joined_lists-clause-steps
+run_joined-returns-in_err-joined_lists-clause-steps g t c = λ S S' R.
+    let u = join-run c.join_navigation-found.result R c.join_navigation-found.ensures.value c.related_ready.ensures in
+    let ran = c.in_ok-results.ensures.steps u.navigation u.shape u.at u.runs in
+    let made = u.means ∙ ap (option_map (bound_rows c.args.outer c.args.alias.now c.args.frame)) (c.in_ok-results.ensures.mean u.navigation u.shape u.at u.runs) in
+    let rows = ap result_length made in
+    let spent = c.joined_lists.ensures.steps in
+    let whole = u.costs in
+    let p = err_from_is_err_and c.from_residual-in_err-joined_lists.result c.from_residual-in_err-joined_lists.ensures.1 in
+    rw p.1 (omega (arith, ran, spent, rows, whole))
+
+pub run_joined-returns-in_err-joined_lists-clause-grown : goal.run_joined-returns-in_err-joined_lists-clause-grown
+run_joined-returns-in_err-joined_lists-clause-grown g t c = omega (arith, c.run_related.ensures.grown, c.joined_lists.ensures.grown)
+
+pub run_joined-returns-clause-mean : goal.run_joined-returns-clause-mean
+run_joined-returns-clause-mean g t c = λ S S' R.
+    let u = join-run c.join_navigation-found.result R c.join_navigation-found.ensures.value c.related_ready.ensures in
+    u.means ∙ ap (option_map (bound_rows c.args.outer c.args.alias.now c.args.frame)) (c.in_ok-results.ensures.mean u.navigation u.shape u.at u.runs) ∙ ap Some (sym c.in_ok-joined_lists.ensures.rows)
+
+pub run_joined-returns-clause-steps : goal.run_joined-returns-clause-steps
+run_joined-returns-clause-steps g t c = λ S S' R.
+    let u = join-run c.join_navigation-found.result R c.join_navigation-found.ensures.value c.related_ready.ensures in
+    let ran = c.in_ok-results.ensures.steps u.navigation u.shape u.at u.runs in
+    let made = u.means ∙ ap (option_map (bound_rows c.args.outer c.args.alias.now c.args.frame)) (c.in_ok-results.ensures.mean u.navigation u.shape u.at u.runs) in
+    let rows = ap result_length made in
+    let spent = c.in_ok-joined_lists.ensures.steps in
+    let whole = u.costs in
+    omega (arith, ran, spent, rows, whole)
+
+pub run_joined-returns-clause-grown : goal.run_joined-returns-clause-grown
+run_joined-returns-clause-grown g t c = omega (arith, c.run_related.ensures.grown, c.joined_lists.ensures.grown)
+
+-- ---- what is related to each instance
+
+pub run_related-returns-in_err-related-clause-steps : goal.run_related-returns-in_err-related-clause-steps
+run_related-returns-in_err-related-clause-steps g t c = λ v T' h R.
+    let x = c.args.context.now in
+    let T = inner_of (option_map pipe_of c.args.inner.now) in
+    let left = (c.loop-k.invariant.1 v T' h R).1 in
+    let total = related-least x.world (readings x.customs) v T c.args.frame.now in
+    let p = err_from_is_err_and c.from_residual-in_err-related.result c.from_residual-in_err-related.ensures.1 in
+    rw p.1 (omega (arith, left, total))
+
+pub run_related-returns-in_err-related-clause-grown : goal.run_related-returns-in_err-related-clause-grown
+run_related-returns-in_err-related-clause-grown g t c = omega (arith, c.loop-k.invariant.0)
+
+pub run_related-returns-in_err-run_inner-clause-mean : goal.run_related-returns-in_err-run_inner-clause-mean
+run_related-returns-in_err-run_inner-clause-mean g t c = λ v T' h R.
+    let x = c.args.context.now in
+    let T = inner_of (option_map pipe_of c.args.inner.now) in
+    let l = c.args.frame.now in
+    let row = get_or l c.loop-k.k no_instance in
+    let less : c.loop-k.k < length l = omega (arith, c.loop-k-test.true) in
+    let own = get_or_default l c.loop-k.k no_instance row less in
+    let target = some_value (sym (ap (option_map (λ (v : Navigation). v.target)) h) ∙ c.target_type-target.ensures) in
+    let u = related-turn x v T' T l c.loop-k.k row c.in_ok-related.related _ R less own (c.in_ok-related.ensures v h) target in
+    let p = err_from_is_err_and c.from_residual-in_err-run_inner.result c.from_residual-in_err-run_inner.ensures.1 in
+    rw (p.1, p.2) (lists-refused c.in_err-run_inner.field-0.0 _ (map (related_mean x.world (readings x.customs) v T) l) (c.in_err-run_inner.ensures.mean (set_shape v.target) T' u.runs)
+    (λ n. next-list_refused (related_mean x.world (readings x.customs) v T) l c.loop-k.k row _ _ less own (c.loop-k.invariant.1 v T' h R).0 (u.means ∙ n)))
+
+pub run_related-returns-in_err-run_inner-clause-steps : goal.run_related-returns-in_err-run_inner-clause-steps
+run_related-returns-in_err-run_inner-clause-steps g t c = λ v T' h R.
+    let x = c.args.context.now in
+    let T = inner_of (option_map pipe_of c.args.inner.now) in
+    let l = c.args.frame.now in
+    let row = get_or l c.loop-k.k no_instance in
+    let less : c.loop-k.k < length l = omega (arith, c.loop-k-test.true) in
+    let own = get_or_default l c.loop-k.k no_instance row less in
+    let target = some_value (sym (ap (option_map (λ (v : Navigation). v.target)) h) ∙ c.target_type-target.ensures) in
+    let u = related-turn x v T' T l c.loop-k.k row c.in_ok-related.related _ R less own (c.in_ok-related.ensures v h) target in
+    let ran = c.run_inner.ensures.steps (set_shape v.target) T' u.runs in
+    let left = (c.loop-k.invariant.1 v T' h R).1 in
+    let next = u.costs in
+    let long = ap length (c.in_ok-related.ensures v h) in
+    let total = related-least x.world (readings x.customs) v T l in
+    let p = err_from_is_err_and c.from_residual-in_err-run_inner.result c.from_residual-in_err-run_inner.ensures.1 in
+    rw p.1 (omega (arith, left, next, total, long, ran))
+
+pub run_related-returns-in_err-run_inner-clause-grown : goal.run_related-returns-in_err-run_inner-clause-grown
+run_related-returns-in_err-run_inner-clause-grown g t c = omega (arith, c.run_inner.ensures.grown, c.loop-k.invariant.0)
+
+pub run_related-returns-in_err-push-clause-steps : goal.run_related-returns-in_err-push-clause-steps
+run_related-returns-in_err-push-clause-steps g t c = λ v T' h R.
+    let x = c.args.context.now in
+    let T = inner_of (option_map pipe_of c.args.inner.now) in
+    let l = c.args.frame.now in
+    let row = get_or l c.loop-k.k no_instance in
+    let less : c.loop-k.k < length l = omega (arith, c.loop-k-test.true) in
+    let own = get_or_default l c.loop-k.k no_instance row less in
+    let target = some_value (sym (ap (option_map (λ (v : Navigation). v.target)) h) ∙ c.target_type-target.ensures) in
+    let u = related-turn x v T' T l c.loop-k.k row c.in_ok-related.related _ R less own (c.in_ok-related.ensures v h) target in
+    let ran = c.in_ok-run_inner.ensures.steps (set_shape v.target) T' u.runs in
+    let left = (c.loop-k.invariant.1 v T' h R).1 in
+    let next = u.costs in
+    let long = ap length (c.in_ok-related.ensures v h) in
+    let total = related-least x.world (readings x.customs) v T l in
+    let p = err_from_is_err_and c.from_residual-in_err-push.result c.from_residual-in_err-push.ensures.1 in
+    rw p.1 (omega (arith, left, next, total, long, ran))
+
+pub run_related-returns-in_err-push-clause-grown : goal.run_related-returns-in_err-push-clause-grown
+run_related-returns-in_err-push-clause-grown g t c = omega (arith, c.run_inner.ensures.grown, c.loop-k.invariant.0)
+
+pub run_related-loop-k-preserved : goal.run_related-loop-k-preserved
+run_related-loop-k-preserved g t c = (
+  omega (arith, c.run_inner.ensures.grown, c.loop-k.invariant.0),
+  λ v T' h R.
+      let x = c.args.context.now in
+      let T = inner_of (option_map pipe_of c.args.inner.now) in
+      let l = c.args.frame.now in
+      let row = get_or l c.loop-k.k no_instance in
+      let less : c.loop-k.k < length l = omega (arith, c.loop-k-test.true) in
+      let own = get_or_default l c.loop-k.k no_instance row less in
+      let target = some_value (sym (ap (option_map (λ (v : Navigation). v.target)) h) ∙ c.target_type-target.ensures) in
+      let u = related-turn x v T' T l c.loop-k.k row c.in_ok-related.related _ R less own (c.in_ok-related.ensures v h) target in
+      let f = related_mean x.world (readings x.customs) v T in
+      let made = c.in_ok-run_inner.field-0 in
+      let ran = c.in_ok-run_inner.ensures.steps (set_shape v.target) T' u.runs in
+      let left = (c.loop-k.invariant.1 v T' h R).1 in
+      let next = u.costs in
+      let long = ap length (c.in_ok-related.ensures v h) in
+      let owes = more-owed c.loop-k.all.items c.push.new.self.items made c.in_ok-push.ensures.items in (
+        next-list f l c.loop-k.k row _ _ (rows_of made) less own (c.loop-k.invariant.1 v T' h R).0 (u.means ∙ c.in_ok-run_inner.ensures.mean (set_shape v.target) T' u.runs)
+            ∙ ap (λ a. option_map (λ rest. a ++ rest) (all_some (map f (drop (c.loop-k.k + 1) l)))) (sym (more-rows c.loop-k.all.items c.push.new.self.items made c.in_ok-push.ensures.items)),
+        omega (arith, left, next, long, ran, owes),
+      ),
+)
+
+pub run_related-returns-clause-mean : goal.run_related-returns-clause-mean
+run_related-returns-clause-mean g t c = λ v T' h R.
+    let x = c.args.context.now in
+    let T = inner_of (option_map pipe_of c.args.inner.now) in
+    last-list (related_mean x.world (readings x.customs) v T) c.args.frame.now c.loop-k.k _ _ (omega (arith, c.loop-k-test.false)) (c.loop-k.invariant.1 v T' h R).0
+
+pub run_related-returns-clause-steps : goal.run_related-returns-clause-steps
+run_related-returns-clause-steps g t c = λ v T' h R.
+    let x = c.args.context.now in
+    let left = (c.loop-k.invariant.1 v T' h R).1 in
+    let total = related-least x.world (readings x.customs) v (inner_of (option_map pipe_of c.args.inner.now)) c.args.frame.now in
+    omega (arith, left, total)
+
+pub run_related-returns-clause-grown : goal.run_related-returns-clause-grown
+run_related-returns-clause-grown g t c = omega (arith, c.loop-k.invariant.0)
+
+-- ---- an inner pipeline
+
+pub run_inner-returns-in-Some-clause-mean : goal.run_inner-returns-in-Some-clause-mean
+run_inner-returns-in-Some-clause-mean g t c = λ S S' R.
+    let x = c.args.context.now in
+    let l = c.args.frame in
+    let e = ap (λ o. inner_of (option_map pipe_of o)) c.in-Some.is in
+    subst (GivesHeld c.held_after.result) (sym (inner_mean-SomePipe x.world (readings x.customs) S (λ r. Some r) (pipe_of c.in-Some.pipe) l) ∙ ap (λ T. inner_mean x.world (readings x.customs) S (λ r. Some r) T l) (sym e))
+    (c.held_after.ensures.mean S S' (subst (λ T. InnerRuns x c.args.root.now S S' T l) e R))
+
+pub run_inner-returns-in-Some-clause-steps : goal.run_inner-returns-in-Some-clause-steps
+run_inner-returns-in-Some-clause-steps g t c = λ S S' R.
+    let x = c.args.context.now in
+    let l = c.args.frame in
+    let e = ap (λ o. inner_of (option_map pipe_of o)) c.in-Some.is in
+    let spent = c.held_after.ensures.steps S S' (subst (λ T. InnerRuns x c.args.root.now S S' T l) e R) in
+    let whole = ap (λ T. inner_cost x.world (readings x.customs) S T l) e in
+    omega (arith, spent, whole)
+
+pub run_inner-returns-in-Some-clause-grown : goal.run_inner-returns-in-Some-clause-grown
+run_inner-returns-in-Some-clause-grown g t c = omega (arith, c.held_after.ensures.grown)
+
+pub run_inner-returns-in-None-clause-mean : goal.run_inner-returns-in-None-clause-mean
+run_inner-returns-in-None-clause-mean g t c = λ S S' R.
+    let x = c.args.context.now in
+    let l = c.args.frame in
+    ap (λ o. inner_mean x.world (readings x.customs) S (λ r. Some r) (inner_of (option_map pipe_of o)) l) c.in-None.is ∙ inner_mean-NoPipe x.world (readings x.customs) S (λ r. Some r) l
+
+pub run_inner-held_after-requires-clause-named : goal.run_inner-held_after-requires-clause-named
+run_inner-held_after-requires-clause-named g t c κs within = subst (λ o. AreReady c.args.context.now (inner_hierarchies (inner_of (option_map pipe_of o)))) c.in-Some.is c.requires.named

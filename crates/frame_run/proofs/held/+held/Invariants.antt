@@ -1,14 +1,18 @@
-use Rattle.std.proofs.Common.{◌≡◌, ◌+◌, ◌≤◌, ◌++◌, drop, map}
+use Rattle.std.proofs.Common.{◌≡◌, ◌+◌, ◌≤◌, ◌++◌, drop, map, Some}
 use Rattle.std.specs.Prelude.{option_map, sum}
 use Rattle.apply_ast.specs.Trees.{pipe}
-use Rattle.apply_ast.specs.Views.{pipe_of, step_of}
+use Rattle.edm_values.specs.Lists.{all_some}
+use Rattle.edm_model.specs.LookUps.{navigation_on}
+use Rattle.edm_model.specs.Models.{Navigation}
+use Rattle.apply_ast.specs.Views.{inner_of, pipe_of, step_of}
 use Rattle.context_typing.specs.Readings.{readings}
 use Rattle.context_typing.specs.Shapes.{Shape}
 use Rattle.apply_meaning.specs.Meaning.{joined, mean}
 use Rattle.hier_states.specs.NamedHierarchies.{hierarchies}
-use Rattle.pipe_run.specs.Conditions.{AreReady, BranchesRun, RunsFrom}
+use Rattle.pipe_run.specs.Conditions.{AreReady, BranchesRun, RelatedRun, RunsFrom}
 use Rattle.pipe_run.specs.Costs.{cost}
 use Rattle.pipe_run.proofs.ConcatLemmas.{branch_charge}
+use Rattle.pipe_run.proofs.RelatedLemmas.{related_charge, related_mean}
 use Rattle.frame_run.specs.HeldRows.{owed, rows_of}
 use Rattle.frame_run.proofs.held.+held.Given as goal
 
@@ -31,3 +35,13 @@ invariant-run_branches-loop-k g l =
     ≡ option_map (λ rest. rows_of l.all ++ rest) (joined (map (λ p. mean l.context.world (readings l.context.customs) S p l.frame) (drop l.k (map pipe_of l.branches)))))
     × (l.steps + owed l.all + sum (map (branch_charge l.context.world (readings l.context.customs) S l.frame) (drop l.k (map pipe_of l.branches)))
     ≤ l.fn.steps + sum (map (branch_charge l.context.world (readings l.context.customs) S l.frame) (map pipe_of l.branches))))
+
+-- the count has not fallen, what was made and what the instances that are left come to are what all come to, and what is owed and what is left cost what all do
+abbrev pub invariant-run_related-loop-k : goal.invariant-run_related-loop-k
+invariant-run_related-loop-k g l =
+    (l.fn.steps ≤ l.steps)
+    × ((v : Navigation) (T : Shape) → navigation_on l.context.world.model l.nav ≡ Some v → RelatedRun l.context v T (inner_of (option_map pipe_of l.inner)) l.frame
+    → (all_some (map (related_mean l.context.world (readings l.context.customs) v (inner_of (option_map pipe_of l.inner))) l.frame)
+    ≡ option_map (λ rest. map rows_of l.all.items ++ rest) (all_some (map (related_mean l.context.world (readings l.context.customs) v (inner_of (option_map pipe_of l.inner))) (drop l.k l.frame))))
+    × (l.steps + sum (map owed l.all.items) + sum (map (related_charge l.context.world (readings l.context.customs) v (inner_of (option_map pipe_of l.inner))) (drop l.k l.frame))
+    ≤ l.fn.steps + sum (map (related_charge l.context.world (readings l.context.customs) v (inner_of (option_map pipe_of l.inner))) l.frame)))

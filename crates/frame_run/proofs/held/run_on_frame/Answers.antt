@@ -1,4 +1,4 @@
-use Rattle.std.proofs.Common.{◌≡◌, ◌∙◌, [], ap, refl, sym, subst, map, IsTrue, Some, arith}
+use Rattle.std.proofs.Common.{◌≡◌, ◌∙◌, [], ap, sym, subst, map, IsTrue, Some, arith}
 use Rattle.std.proofs.lemmas.Result.{err_from_is_err_and}
 use Rattle.apply_ast.specs.Views.{agg_of, expr_of, item_of, named_of, step_of, top_of, traverse_of}
 use Rattle.apply_ast.proofs.ViewEquations.{step_of-Aggregate, step_of-Compute, step_of-Filter, step_of-Identity, step_of-OrderBy, step_of-Skip, step_of-Top, step_of-TopBy, step_of-Traverse}
@@ -17,7 +17,7 @@ use Rattle.pipe_run.specs.Hierarchies.{traversal}
 use Rattle.frame_run.proofs.HeldLemmas.{made-least, owed-least, owed-length}
 use Rattle.pipe_run.proofs.ClimbLemmas.{traverse-run}
 use Rattle.pipe_run.proofs.ReadyParts.{ready-first}
-use Rattle.pipe_run.proofs.RunLemmas.{aggregate-cost, cost-same, gives-same, ready-same, runs-same}
+use Rattle.pipe_run.proofs.RunLemmas.{aggregate-cost}
 use Rattle.frame_run.proofs.held.run_on_frame.Goals as goal
 
 pub frame_filter-requires-after_bounds : goal.frame_filter-requires-after_bounds
@@ -97,28 +97,8 @@ returns-in_ok-made-in-Aggregate-clause-steps g c = λ S S' R.
 
 -- ---- a grouping
 
-pub run_grouping-requires-clause-ready : goal.run_grouping-requires-clause-ready
-run_grouping-requires-clause-ready g c κs within =
-    let s = step_of c.args.step.now in
-    ready-same c.args.context.now c.args.root.now s s c.args.frame c.of_frame-list.result refl (sym c.of_frame-list.ensures.value) c.requires.ready
-
-pub run_grouping-requires-clause-named : goal.run_grouping-requires-clause-named
-run_grouping-requires-clause-named g c κs within = c.requires.named
-
-pub returns-in-GroupBy-clause-mean : goal.returns-in-GroupBy-clause-mean
-returns-in-GroupBy-clause-mean g c = λ S S' R.
-    let x = c.args.context.now in
-    c.as_held.ensures.gives (step_mean x.world (readings x.customs) S (step_of c.args.step.now) c.args.frame)
-    (gives-same c.run_grouping.result refl (sym c.of_frame-list.ensures.value) R (c.run_grouping.ensures.mean S S'))
-
 pub returns-in-GroupBy-clause-steps : goal.returns-in-GroupBy-clause-steps
-returns-in-GroupBy-clause-steps g c = λ S S' R.
-    let x = c.args.context.now in
-    let s = step_of c.args.step.now in
-    let rows : c.args.frame ≡ c.of_frame-list.result = sym c.of_frame-list.ensures.value in
-    let spent = c.run_grouping.ensures.steps S S' (runs-same x c.args.root.now S S' s s c.args.frame c.of_frame-list.result refl rows R) in
-    let whole = cost-same x S s s c.args.frame c.of_frame-list.result refl rows in
-    omega (arith, spent, whole, c.as_held.ensures.owed)
+returns-in-GroupBy-clause-steps g c = λ S S' R. let spent = c.frame_grouped.ensures.steps S S' R in omega (arith, spent)
 
 pub frame_selected-requires-after_bounds : goal.frame_selected-requires-after_bounds
 frame_selected-requires-after_bounds g c κs within =
