@@ -1,5 +1,6 @@
 mod ApartLemmas
 mod FactorLemmas
+mod GivenLemmas
 mod PlanSteps
 mod PlanTurns
 mod RestLemmas

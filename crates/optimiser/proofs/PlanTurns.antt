@@ -18,9 +18,10 @@ use Rattle.rewrite_laws.specs.Rewrites.{IsPlanOf, first_rewrite, next, rewritten
 use Rattle.rewrite_laws.proofs.PlanEnds.{plan_of_next, plan_of_settled, rewrites_left, rewrites_left-next}
 use Rattle.walk_laws.specs.Apart.{stays_apart}
 use Rattle.walk_laws.specs.Factored.{factored, pipe_rests}
+use Rattle.walk_laws.specs.FiltersOut.{gives_at_front}
 use Rattle.walk_laws.specs.Walks.{All, Early, rules_of, walk}
-use Rattle.walk_laws.specs.WalkLaws.{ApartWalkIsPlan, EarlyWalkIsPlan, EarlyWalkKeepsMeaning, FactoringIsRewriting, IsFactored, LaterRulesFollow, next_by, rewritten_by}
-use Rattle.optimiser.specs.Plans.{IsFirstOf, IsTurn, IsTypedPlan, IsWalked, IsWithFactored, later_rules}
+use Rattle.walk_laws.specs.WalkLaws.{ApartWalkIsPlan, EarlyWalkIsPlan, EarlyWalkKeepsMeaning, FactoringIsRewriting, GivenWalkIsPlan, IsFactored, LaterRulesFollow, next_by, rewritten_by}
+use Rattle.optimiser.specs.Plans.{IsFirstOf, IsGiven, IsTurn, IsTypedPlan, IsWalked, IsWithFactored, later_rules}
 use Rattle.optimiser.proofs.PlanSteps.{found-append, typing-kept}
 
 module _ (m : Model) (c : Customs) where
@@ -45,6 +46,16 @@ module _ (m : Model) (c : Customs) where
         set = w.set;
         shape = w.shape;
         pipe = subst (IsPlanOf m c S (pipe_of t.pipe)) (sym w.pipe) (law m c S t.shape (pipe_of t.pipe) (typed-from t customs typing) apart);
+      }
+
+  -- where one gives filters that stay before it, so does what comes out then
+  pub given-plan : (t q : Typed) → GivenWalkIsPlan → IsTrue (customs_typed m c) → IsTyping m c t → IsTrue (gives_at_front (pipe_of t.pipe)) → IsGiven m c t q → IsTypedPlan m c t q
+  given-plan t q law customs typing gives w =
+      let S = shape_of_set m t.set in
+      record {
+        set = w.set;
+        shape = w.shape;
+        pipe = subst (IsPlanOf m c S (pipe_of t.pipe)) (sym w.pipe) (law m c S t.shape (pipe_of t.pipe) (typed-from t customs typing) gives);
       }
 
   -- ---- rewrites, one after the other

@@ -10,7 +10,7 @@ use apply_ast::{KeyItem, KeyList, Pipe, PipeList, Step};
 use rewrite_forms::same_step;
 
 /// Whether no rule changes a step, nor splits or drops it where it is a filter.
-fn is_firm(step: &Step) -> bool
+pub(crate) fn is_firm(step: &Step) -> bool
     ensures { result ≡ spec.is_firm (step_of step.now) }
 {
     match step {
@@ -52,7 +52,7 @@ fn is_end(step: &Step) -> bool
 }
 
 /// Whether a step is dropped, or moves to the front.
-fn is_loose(step: &Step) -> bool
+pub(crate) fn is_loose(step: &Step) -> bool
     ensures { result ≡ spec.is_loose (step_of step.now) }
 {
     match step {
@@ -125,7 +125,7 @@ fn is_fixed(pipe: &Pipe) -> bool
 }
 
 /// Whether the first step that stays, but filters, is this one.
-fn leads_to(step: &Step, pipe: &Pipe) -> bool
+pub(crate) fn leads_to(step: &Step, pipe: &Pipe) -> bool
     ensures { result ≡ spec.leads_to (step_of step.now) (pipe_of pipe.now) }
 {
     for there in pipe.steps() {
@@ -235,7 +235,7 @@ fn keys_apart(keys: &KeyList) -> bool
 
 /// Whether those in branches do.
 #[cycle(apart)]
-fn branches_apart(branches: &PipeList) -> bool
+pub(crate) fn branches_apart(branches: &PipeList) -> bool
     ensures { result ≡ spec.branches_apart (pipes_of branches.now) }
 {
     for branch in branches.as_slice() {
@@ -248,7 +248,7 @@ fn branches_apart(branches: &PipeList) -> bool
 
 /// Whether those of a step do, and those in it.
 #[cycle(apart)]
-fn step_apart(step: &Step) -> bool
+pub(crate) fn step_apart(step: &Step) -> bool
     ensures { result ≡ spec.step_apart (step_of step.now) }
 {
     match step {

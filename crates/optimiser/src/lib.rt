@@ -13,11 +13,13 @@
 //!
 //! A plan is not made rewrite by rewrite. `walk_laws` defines a walk over a pipeline, and has the laws by which `plans` uses it: a
 //! pipeline becomes its plan in one walk by all rules where two branches of each concatenation begin with different steps for good,
-//! as where there is no concatenation. Any other is settled in one walk by the rules that come first; where its filters rest then,
+//! as where there is no concatenation, and in one walk and what then comes out of all branches where the others give filters alone,
+//! which stay before them. Any other is settled in one walk by the rules that come first; where its filters rest then,
 //! all steps that come out of branches are put before their concatenations; then comes one rewrite by a later rule, and the walk
 //! again, until no rule applies. `next_rewrite` makes one rewrite, for comparisons.
 //!
-//! `plans` has the plan, `walking` the walk, `apart` whether branches begin with different steps for good, `resting` whether filters
+//! `plans` has the plan, `walking` the walk, `apart` whether branches begin with different steps for good,
+//! `given` whether filters come out of the others and stay before them, `resting` whether filters
 //! rest, `factoring` the steps that come out of branches, and `rewriting` the one rewrite. Below `walking`, `known` has what is
 //! known of the steps of a pipeline before a walk comes to them: the shapes at the ends of branches, and those behind steps that
 //! hold pipelines, so that no branch is typed again. `held` has the segments of a walk, a step with the filters behind it;
@@ -29,6 +31,7 @@
 mod apart;
 mod ends;
 mod factoring;
+mod given;
 mod heads;
 mod held;
 mod idle;

@@ -11,11 +11,12 @@ ghost use Rattle.context_typing.specs.Typing as typing;
 ghost use Rattle.rewrite_laws.specs.RewriteLaws.{MayStandFor};
 ghost use Rattle.rewrite_laws.specs.Rewrites.{IsPlanOf};
 ghost use Rattle.walk_laws.specs.Walks as walks;
-ghost use Rattle.optimiser.specs.Plans.{AreOneTyping, IsPlan, IsTurn, IsTypedPlan, IsWalked, IsWithFactored, own_of, written_of};
+ghost use Rattle.optimiser.specs.Plans.{AreOneTyping, IsGiven, IsPlan, IsTurn, IsTypedPlan, IsWalked, IsWithFactored, own_of, written_of};
 ghost use Rattle.optimiser.specs.WalkRules.{rules_named};
 
 use crate::apart::stays_apart;
 use crate::factoring::factored;
+use crate::given::gives_at_front;
 use crate::resting::pipe_rests;
 use crate::rewriting::later_rewrite;
 use crate::rules::Rules;
@@ -26,7 +27,7 @@ use edm_model::Model;
 use std::alloc::{AllocError, Global};
 use walk_laws::{
     apart_walk_is_plan, early_walk_is_plan, early_walk_keeps_meaning, factoring_is_rewriting,
-    later_rules_follow,
+    given_walk_is_plan, later_rules_follow,
 };
 
 /// A pipeline that was written, and the pipeline that is run in its place. Where nothing is in its place, it is run itself.
@@ -133,8 +134,20 @@ fn turned(alloc: Global, m: &Model, c: &Customs, t: &Typed) -> Result<Typed, All
     Ok(walked)
 }
 
-/// The plan of a typed pipeline. One walk by all rules makes it where the branches of concatenations stay apart. Any other is settled
-/// by the rules that come first, and again behind each rewrite by a later rule, until none applies.
+/// A typed pipeline settled in one walk by all rules, with the steps that come out of branches then before the concatenations.
+fn given(alloc: Global, m: &Model, c: &Customs, t: &Typed) -> Result<Typed, AllocError>
+    requires set { IsSet m.now t.now.set }
+    requires customs { AreTypedOver m.now c.now }
+    requires typing { IsTyping m.now (readings c.now) t.now }
+    ensures { IfOk result (IsGiven m.now (readings c.now) t.now) }
+{
+    let all = walked(alloc, m, c, Rules::All, t)?;
+    with_factored(alloc, &all)
+}
+
+/// The plan of a typed pipeline. One walk by all rules makes it where the branches of concatenations stay apart; and where the others
+/// give filters that stay before them, once these have come out. Any other is settled by the rules that come first, and again behind
+/// each rewrite by a later rule, until none applies.
 fn planned(alloc: Global, m: &Model, c: &Customs, t: &Typed) -> Result<Typed, AllocError>
     requires set { IsSet m.now t.now.set }
     requires customs { AreTypedOver m.now c.now }
@@ -145,6 +158,10 @@ fn planned(alloc: Global, m: &Model, c: &Customs, t: &Typed) -> Result<Typed, Al
     apart_walk_is_plan();
     if stays_apart(&t.pipe) {
         return walked(alloc, m, c, Rules::All, t);
+    }
+    given_walk_is_plan();
+    if gives_at_front(&t.pipe) {
+        return given(alloc, m, c, t);
     }
     let mut current = turned(alloc, m, c, t)?;
     while let Some(after) = later_rewrite(alloc, m, c, &current)? {

@@ -96,7 +96,7 @@ with_keys : (k : Key) (ks ks' : Keys) → KeptKeys ks ks' → KeptKeys (Keys.Mor
 with_keys k ks ks' f h = let t = and_parts (key_apart k) (keys_apart ks) h in and_from (key_apart k) (keys_apart ks') t.0 (f t.1)
 
 module _ (m : Model) (c : Customs) where
-  kept-respected : Respected m c (λ S. KeptSteps) (λ S. KeptStep) (λ S. KeptInner) (λ S. KeptBranches) KeptKey KeptKeys
+  pub kept-respected : Respected m c (λ S. KeptSteps) (λ S. KeptStep) (λ S. KeptInner) (λ S. KeptBranches) KeptKey KeptKeys
   kept-respected = record {
     with_step = λ S s s' p k. with_step s s' p k;
     with_rest = λ S S' s p q law e k. with_rest s p q k;
@@ -156,7 +156,7 @@ none-apart x (Pipes.MorePipes p ps) all h k =
     go true e q = ap (λ z. is_fixed (Pipe.Then x q) && z) (no-other x all e k) ∙ and-none (is_fixed (Pipe.Then x q)) false refl
 
 module _ (m : Model) (c : Customs) where
-  factor-none : (S : Shape) (before : Bool) (s : Step) (ss : List Step) → step_apart s ≡ true → factor_branches m c S before s ss ≡ None
+  pub factor-none : (S : Shape) (before : Bool) (s : Step) (ss : List Step) → step_apart s ≡ true → factor_branches m c S before s ss ≡ None
   factor-none S before (Step.Concat Pipes.NoPipes) ss h = refl
   factor-none S before (Step.Concat (Pipes.MorePipes Pipe.End ps)) ss h = refl
   factor-none S before (Step.Concat (Pipes.MorePipes (Pipe.Then x q) ps)) ss h =
@@ -188,7 +188,7 @@ module _ (m : Model) (c : Customs) where
     inner-nowhere OptPipe.NoPipe S h = refl
     inner-nowhere (OptPipe.SomePipe p) S h = ap (map OptPipe.SomePipe) (factor-nowhere p S false h)
 
-    branches-nowhere : (ps : Pipes) (S : Shape) → branches_apart ps ≡ true → branch_results factor_branches m c S ps ≡ []
+    pub branches-nowhere : (ps : Pipes) (S : Shape) → branches_apart ps ≡ true → branch_results factor_branches m c S ps ≡ []
     branches-nowhere Pipes.NoPipes S h = refl
     branches-nowhere (Pipes.MorePipes p ps) S h =
         let t = and_parts (stays_apart p) (branches_apart ps) h in
@@ -209,7 +209,7 @@ module _ (m : Model) (c : Customs) where
         let t = and_parts (key_apart k) (keys_apart ks) h in
         λ i. map (λ k'. Keys.MoreKeys k' ks) (key-nowhere k t.0 i) ++ map (Keys.MoreKeys k) (keys-nowhere ks t.1 i)
 
-    step-nowhere : (s : Step) (S : Shape) → step_apart s ≡ true → step_results factor_branches m c S s ≡ []
+    pub step-nowhere : (s : Step) (S : Shape) → step_apart s ≡ true → step_results factor_branches m c S s ≡ []
     step-nowhere (Step.GroupBy ks T) S h =
         let t = and_parts (keys_apart ks) (inner_apart T) h in
         λ i. map (λ ks'. Step.GroupBy ks' T) (keys-nowhere ks t.0 i) ++ map (Step.GroupBy ks) (inner-nowhere T S t.1 i)

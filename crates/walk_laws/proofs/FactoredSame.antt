@@ -32,7 +32,7 @@ begin-all x a [] = refl
 begin-all x a (l ∷ ls) = and_from (step_same x x) _ (step-self x) (begin-all x a ls)
 
 -- steps with which all lists begin come out first
-out-first : (a l : List Step) (ls : List (List Step)) → taken_out (a ++ l) (map (λ k. a ++ k) ls) ≡ a ++ taken_out l ls
+pub out-first : (a l : List Step) (ls : List (List Step)) → taken_out (a ++ l) (map (λ k. a ++ k) ls) ≡ a ++ taken_out l ls
 out-first [] l ls = ap (taken_out l) (go ls)
   where
     go : (ls : List (List Step)) → map (λ k. k) ls ≡ ls

@@ -8,5 +8,6 @@ pub use Rattle.rewrite_laws.specs.RewriteLaws
 pub use Rattle.rewrite_laws.specs.Rewrites
 pub mod Apart
 pub mod Factored
+pub mod FiltersOut
 pub mod Walks
 pub mod WalkLaws

@@ -10,6 +10,7 @@ use Rattle.rewrite_laws.specs.RewriteLaws.{IsTypedFrom, MayStandFor}
 use Rattle.rewrite_laws.specs.Rewrites.{IsPlanOf, first_rewrite, next, rewritten, rules}
 use Rattle.walk_laws.specs.Apart.{stays_apart}
 use Rattle.walk_laws.specs.Factored.{factored, pipe_rests}
+use Rattle.walk_laws.specs.FiltersOut.{gives_at_front}
 use Rattle.walk_laws.specs.Walks.{Rules, All, Early, is_unbranched, rules_of, walk}
 
 -- the result of the first of a walk's rules that applies
@@ -32,6 +33,10 @@ WalkIsPlan = (m : Model) (c : Customs) (S S' : Shape) (p : Pipe) → IsTypedFrom
 -- so is one whose concatenations stay apart
 abbrev pub ApartWalkIsPlan : Type 0
 ApartWalkIsPlan = (m : Model) (c : Customs) (S S' : Shape) (p : Pipe) → IsTypedFrom m c S S' p → IsTrue (stays_apart p) → IsPlanOf m c S p (walk All m c S p)
+
+-- so is one whose other concatenations give filters that stay before them, once these have come out
+abbrev pub GivenWalkIsPlan : Type 0
+GivenWalkIsPlan = (m : Model) (c : Customs) (S S' : Shape) (p : Pipe) → IsTypedFrom m c S S' p → IsTrue (gives_at_front p) → IsPlanOf m c S p (factored (walk All m c S p))
 
 -- a typed pipeline, settled in one walk by the first eight rules, is what it becomes by them
 abbrev pub EarlyWalkIsPlan : Type 0

@@ -1,6 +1,6 @@
 //! The laws of walks.
 ghost use Rattle.apply_meaning.specs.MeaningLaws.{IsLoaded};
-ghost use Rattle.walk_laws.specs.WalkLaws.{ApartWalkIsPlan, EarlyWalkIsPlan, EarlyWalkKeepsMeaning, EarlyWalkKeepsPlan, FactoringIsRewriting, LaterRulesFollow, WalkIsPlan};
+ghost use Rattle.walk_laws.specs.WalkLaws.{ApartWalkIsPlan, EarlyWalkIsPlan, EarlyWalkKeepsMeaning, EarlyWalkKeepsPlan, FactoringIsRewriting, GivenWalkIsPlan, LaterRulesFollow, WalkIsPlan};
 
 /// A typed pipeline without a concatenation, settled in one walk by all rules, is its plan.
 pub fn walk_is_plan()
@@ -10,6 +10,11 @@ pub fn walk_is_plan()
 /// So is a typed pipeline two of whose branches in each concatenation begin with different steps for good.
 pub fn apart_walk_is_plan()
     ensures law { ApartWalkIsPlan }
+{}
+
+/// So is a typed pipeline whose other concatenations give filters that stay before them, once these have come out of all branches.
+pub fn given_walk_is_plan()
+    ensures law { GivenWalkIsPlan }
 {}
 
 /// A typed pipeline, settled in one walk by the first eight rules, is what these rules make of it.

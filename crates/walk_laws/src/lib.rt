@@ -4,12 +4,14 @@
 //! pipelines inside them, that makes the same: each step is put once behind those before it, and each filter goes to the front as
 //! far as the rules let it, or into a step. A walk has all rules, or the first eight. `specs/Factored` defines pipelines whose
 //! filters rest, so that none of the first eight rules moves one, and the steps that come out of all their concatenations at once.
-//! `specs/Apart` defines pipelines in whose concatenations two branches begin with different steps for good. `specs/WalkLaws` has the
-//! laws as statements, and `laws` a function for each.
+//! `specs/Apart` defines pipelines in whose concatenations two branches begin with different steps for good, and `specs/FiltersOut`
+//! those out of whose other concatenations nothing but filters comes, which stay before them. `specs/WalkLaws` has the laws as
+//! statements, and `laws` a function for each.
 //!
 //! The crate stands on `rewrite_laws` for the rules and for what a plan is, and has no code but its laws. It promises that the walk
-//! by all rules makes the plan of every typed pipeline without a concatenation, or whose branches stay so apart, that the walk by
-//! the first eight rules makes of every typed pipeline what these rules make of it, and that the plan of this is the plan of the
+//! by all rules makes the plan of every typed pipeline without a concatenation, or whose branches stay so apart; that it does of one
+//! whose other concatenations give filters that stay before them, once these have come out of all branches; that the walk by the
+//! first eight rules makes of every typed pipeline what these rules make of it, and that the plan of this is the plan of the
 //! pipeline. Of a typed pipeline whose filters rest it promises that the rewrites which come next, by the ninth rule, lead to the
 //! pipeline with all those steps before their concatenations.
 //!
@@ -18,12 +20,14 @@
 //! place; `proofs/WalkRest`, `WalkEnd` and `WalkKept` pipelines of which no rule makes anything; `proofs/WalkPlan` their laws.
 //! `proofs/FilterRest` has pipelines whose filters rest, `FactoredSame` what the ninth rule makes of them, by trees that are told
 //! the same as themselves (`SameItself`), and `Factoring` the law. `ApartSteps`, `ApartRules` and `ApartPlaces` have branches that
-//! stay apart, and `ApartPlan` the law.
+//! stay apart, and `ApartPlan` the law. `StayRules` and `StayPlaces` have what keeps filters before the concatenation that gives them,
+//! `SegmentTails`, `GivenFilters` and `GivenPlaces` what the ninth rule makes there, `FactoredLeft` pipelines of which it makes
+//! nothing, and `GivenPlan` the law.
 #![tactic(auto)]
 
 mod laws;
 
 pub use laws::{
     apart_walk_is_plan, early_walk_is_plan, early_walk_keeps_meaning, early_walk_keeps_plan,
-    factoring_is_rewriting, later_rules_follow, walk_is_plan,
+    factoring_is_rewriting, given_walk_is_plan, later_rules_follow, walk_is_plan,
 };

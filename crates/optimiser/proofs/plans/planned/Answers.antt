@@ -2,8 +2,8 @@ use Rattle.std.proofs.Common.{◌∙◌, sym, subst}
 use Rattle.std.proofs.lemmas.Result.{IfOk-weaker}
 use Rattle.context_typing.specs.Readings.{readings}
 use Rattle.walk_laws.specs.Walks.{All}
-use Rattle.optimiser.specs.Plans.{IsFirstOf, IsTypedPlan, IsWalked, later_rules}
-use Rattle.optimiser.proofs.PlanTurns.{turn-first, turn-less, turn-turned, turned-plan, walk-plan}
+use Rattle.optimiser.specs.Plans.{IsFirstOf, IsGiven, IsTypedPlan, IsWalked, later_rules}
+use Rattle.optimiser.proofs.PlanTurns.{given-plan, turn-first, turn-less, turn-turned, turned-plan, walk-plan}
 use Rattle.optimiser.proofs.plans.planned.Goals as goal
 
 pub returns-then-stays_apart : goal.returns-then-stays_apart
@@ -13,6 +13,14 @@ returns-then-stays_apart c =
     let t = c.args.t.now in
     let apart = sym c.stays_apart.ensures.value ∙ c.if-stays_apart.true in
     IfOk-weaker c.walked.result (IsWalked All m cs t) (IsTypedPlan m cs t) (λ q w. walk-plan m cs t q c.apart_walk_is_plan.ensures.law c.requires.whole c.requires.typing apart w) c.walked.ensures
+
+pub returns-then-gives_at_front : goal.returns-then-gives_at_front
+returns-then-gives_at_front c =
+    let m = c.args.m.now in
+    let cs = readings c.args.c.now in
+    let t = c.args.t.now in
+    let gives = sym c.gives_at_front.ensures.value ∙ c.if-gives_at_front.true in
+    IfOk-weaker c.given.result (IsGiven m cs t) (IsTypedPlan m cs t) (λ q w. given-plan m cs t q c.given_walk_is_plan.ensures.law c.requires.whole c.requires.typing gives w) c.given.ensures
 
 pub loop-current-init : goal.loop-current-init
 loop-current-init c = turn-first c.args.m.now (readings c.args.c.now) c.args.t.now c.in_ok-current.current c.in_ok-current.ensures

@@ -1,0 +1,146 @@
+-- What a rule but the ninth makes of a typed pipeline, at whatever place, keeps that filters stay before the concatenation that gives them, where what it makes at its place does.
+use Rattle.std.proofs.Common.{◌≡◌, refl, sym, ◌∙◌, ap, Bool, true, false, not, ◌||◌, Option, Some, None, IsTrue, if◌then◌else◌}
+use Rattle.std.specs.Prelude.{option_and_then}
+use Rattle.std.proofs.lemmas.Bool.{and_from, and_parts, true≢false}
+use Rattle.edm_values.proofs.EachLemmas.{Each}
+use Rattle.edm_values.proofs.OptionFacts.{none_or, some_value}
+use Rattle.edm_model.specs.Models.{Model}
+use Rattle.apply_ast.specs.Trees.{Key, Keys, OptPipe, Pipe, Pipes, Step, is_long}
+use Rattle.context_typing.specs.Shapes.{Shape}
+use Rattle.context_typing.specs.Typing.{Customs, customs_typed, is_lawful, steps_shape}
+use Rattle.context_typing.specs.TypingLaws.{TypingKeepsLawful}
+use Rattle.rewrite_laws.specs.Rewrites.{Rule, pipe_results}
+use Rattle.rewrite_laws.specs.RewriteLaws.{KeepsOutcomeInPlace}
+use Rattle.rewrite_laws.proofs.EachPlace.{Respected, pipe_each}
+use Rattle.walk_laws.specs.Apart.{branches_apart, inner_apart, is_firm, is_loose, key_apart, keys_apart, leads_to}
+use Rattle.walk_laws.specs.FiltersOut.{front_of, gives_filters, has_own_front, is_stop, some_beside, some_own}
+use Rattle.walk_laws.proofs.ApartPlaces.{kept-respected}
+use Rattle.walk_laws.proofs.ApartRules.{KeepsApart}
+use Rattle.walk_laws.proofs.ApartSteps.{KeptBranches, KeptStep, KeptSteps}
+use Rattle.walk_laws.proofs.StayRules.{KeepsStay, StaySteps, and_both, front-first, or_both, with-first}
+
+-- a step that has pipelines inside it comes to another
+record StayStep (s s' : Step) : Type 0 where
+  tight : is_loose s ≡ false
+  tight' : is_loose s' ≡ false
+  stop : is_stop s' ≡ is_stop s
+  gives : gives_filters s ≡ true → gives_filters s' ≡ true
+
+-- branches come to others
+record StayBranches (ps qs : Pipes) : Type 0 where
+  beside : (x : Step) → is_firm x ≡ true → is_loose x ≡ false → some_beside x ps ≡ true → some_beside x qs ≡ true
+  own : (all : Pipes) → some_own all ps ≡ true → some_own all qs ≡ true
+
+-- with what keeps branches apart
+abbrev pub BothSteps : Pipe → Pipe → Type 0
+BothSteps p q = KeptSteps p q × StaySteps p q
+
+abbrev BothStep : Step → Step → Type 0
+BothStep s s' = KeptStep s s' × StayStep s s'
+
+abbrev BothBranches : Pipes → Pipes → Type 0
+BothBranches ps qs = KeptBranches ps qs × StayBranches ps qs
+
+abbrev KeptInner : OptPipe → OptPipe → Type 0
+KeptInner T T' = inner_apart T ≡ true → inner_apart T' ≡ true
+
+abbrev KeptKey : Key → Key → Type 0
+KeptKey k k' = key_apart k ≡ true → key_apart k' ≡ true
+
+abbrev KeptKeys : Keys → Keys → Type 0
+KeptKeys ks ks' = keys_apart ks ≡ true → keys_apart ks' ≡ true
+
+-- a front is no filter
+front-tight : (p : Pipe) (x : Step) → front_of p ≡ Some x → is_loose x ≡ false
+front-tight Pipe.End x h = none_or x h
+front-tight (Pipe.Then s p) x h = go (is_loose s) refl (front-tight p x) h
+  where
+    go : (l : Bool) → is_loose s ≡ l → (front_of p ≡ Some x → is_loose x ≡ false) → (if l then front_of p else Some s) ≡ Some x → is_loose x ≡ false
+    go true e k h = k h
+    go false e k h = ap is_loose (sym (some_value h)) ∙ e
+
+-- among other branches
+own-among : (ps a b : Pipes) → ((x : Step) → is_firm x ≡ true → is_loose x ≡ false → some_beside x a ≡ true → some_beside x b ≡ true) → some_own a ps ≡ true → some_own b ps ≡ true
+own-among Pipes.NoPipes a b f h = h
+own-among (Pipes.MorePipes p ps) a b f h = or_both (has_own_front a (front_of p)) (some_own a ps) (has_own_front b (front_of p)) (some_own b ps) (go (front_of p) (front-tight p)) (own-among ps a b f) h
+  where
+    go : (o : Option Step) → ((x : Step) → o ≡ Some x → is_loose x ≡ false) → has_own_front a o ≡ true → has_own_front b o ≡ true
+    go None k h = h
+    go (Some x) k h = let t = and_parts (is_firm x) (some_beside x a) h in and_from (is_firm x) (some_beside x b) t.0 (f x t.0 (k x refl) t.1)
+
+stay-with_step : (s s' : Step) (p : Pipe) → BothStep s s' → StaySteps (Pipe.Then s p) (Pipe.Then s' p)
+stay-with_step s s' p k = record {
+  bare = λ h. none_or s (sym h ∙ front-first s p k.1.tight);
+  front = λ x g h. absurd (true≢false (sym g ∙ ap is_firm (some_value (sym h ∙ front-first s p k.1.tight)) ∙ k.0.soft));
+  stay = λ b. with-first s s' p p b k.1.stop (k.1.tight' ∙ sym k.1.tight) k.1.gives k.0.apart (λ y h. h);
+}
+
+stay-with_rest : (s : Step) (p q : Pipe) → BothSteps p q → StaySteps (Pipe.Then s p) (Pipe.Then s q)
+stay-with_rest s p q k = record {
+  bare = bare (is_loose s);
+  front = λ x g. front (is_loose s) x g;
+  stay = λ b. with-first s s p q b refl refl (λ h. h) (λ h. h) k.1.stay;
+}
+  where
+    bare : (l : Bool) → (if l then front_of p else Some s) ≡ None → (if l then front_of q else Some s) ≡ None
+    bare true h = k.1.bare h
+    bare false h = h
+
+    front : (l : Bool) (x : Step) → is_firm x ≡ true → (if l then front_of p else Some s) ≡ Some x → (if l then front_of q else Some s) ≡ Some x
+    front true x g h = k.1.front x g h
+    front false x g h = h
+
+stay-with_branch : (p q : Pipe) (ps : Pipes) → BothSteps p q → StayBranches (Pipes.MorePipes p ps) (Pipes.MorePipes q ps)
+stay-with_branch p q ps k = record {
+  beside = λ x f l. or_both (not (leads_to x p)) (some_beside x ps) (not (leads_to x q)) (some_beside x ps) (λ h. ap not (k.0.leads x f l) ∙ h) (λ h. h);
+  own = λ all. or_both (has_own_front all (front_of p)) (some_own all ps) (has_own_front all (front_of q)) (some_own all ps) (go all (front_of p) k.1.bare k.1.front) (λ h. h);
+}
+  where
+    go : (all : Pipes) (o : Option Step) → (o ≡ None → front_of q ≡ None) → ((x : Step) → is_firm x ≡ true → o ≡ Some x → front_of q ≡ Some x) → has_own_front all o ≡ true → has_own_front all (front_of q) ≡ true
+    go all None e f h = ap (has_own_front all) (e refl)
+    go all (Some x) e f h = let t = and_parts (is_firm x) (some_beside x all) h in ap (has_own_front all) (f x t.0 refl) ∙ h
+
+stay-with_other_branches : (p : Pipe) (ps qs : Pipes) → BothBranches ps qs → StayBranches (Pipes.MorePipes p ps) (Pipes.MorePipes p qs)
+stay-with_other_branches p ps qs k = record {
+  beside = λ x f l. or_both (not (leads_to x p)) (some_beside x ps) (not (leads_to x p)) (some_beside x qs) (λ h. h) (k.1.beside x f l);
+  own = λ all. or_both (has_own_front all (front_of p)) (some_own all ps) (has_own_front all (front_of p)) (some_own all qs) (λ h. h) (k.1.own all);
+}
+
+stay-with_branches : (ps qs : Pipes) → BothBranches ps qs → StayStep (Step.Concat ps) (Step.Concat qs)
+stay-with_branches ps qs k = record {
+  tight = refl;
+  tight' = refl;
+  stop = refl;
+  gives = and_both (some_own ps ps) (branches_apart ps) (some_own qs qs) (branches_apart qs) (λ h. own-among qs ps qs k.1.beside (k.1.own ps h)) k.0.apart;
+}
+
+module _ (m : Model) (c : Customs) where
+  R : Respected m c (λ S. KeptSteps) (λ S. KeptStep) (λ S. KeptInner) (λ S. KeptBranches) KeptKey KeptKeys
+  R = kept-respected m c
+
+  both-respected : Respected m c (λ S. BothSteps) (λ S. BothStep) (λ S. KeptInner) (λ S. BothBranches) KeptKey KeptKeys
+  both-respected = record {
+    with_step = λ S s s' p k. (R.with_step S s s' p k.0, stay-with_step s s' p k);
+    with_rest = λ S S' s p q law e k. (R.with_rest S S' s p q law e k.0, stay-with_rest s p q k);
+    with_inner = λ S p q l l' k. R.with_inner S p q l l' k.0;
+    with_branch = λ S p q ps l l' k. (R.with_branch S p q ps l l' k.0, stay-with_branch p q ps k);
+    with_other_branches = λ S p ps qs k. (R.with_other_branches S p ps qs k.0, stay-with_other_branches p ps qs k);
+    with_group_keys = λ S ks ks' T k. (R.with_group_keys S ks ks' T k, record { tight = refl; tight' = refl; stop = refl; gives = λ h. h });
+    with_group_inner = λ S ks T T' k. (R.with_group_inner S ks T T' k, record { tight = refl; tight' = refl; stop = refl; gives = λ h. h });
+    with_branches = λ S ps qs k. (R.with_branches S ps qs k.0, stay-with_branches ps qs k);
+    with_join = λ S outer n a v T T' e k. (R.with_join S outer n a v T T' e k, record { tight = refl; tight' = refl; stop = refl; gives = λ h. h });
+    with_climb = λ S up h p T T' d keep l l' k. (R.with_climb S up h p T T' d keep l l' k.0, record { tight = refl; tight' = refl; stop = refl; gives = λ h. h });
+    with_recursive = λ h f p T T' e k. R.with_recursive h f p T T' e k;
+    with_key = R.with_key;
+    with_keys = R.with_keys;
+  }
+
+  -- what a rule makes of a typed pipeline keeps that filters stay
+  pub stay_anywhere : TypingKeepsLawful (λ m. Unit {0}) → (r : Rule) → KeepsOutcomeInPlace r → KeepsApart m c r → KeepsStay m c r → (S S' : Shape) (before : Bool) (p : Pipe) → IsTrue (customs_typed m c) → IsTrue (is_lawful m S) → steps_shape m c S p ≡ Some S'
+      → Each (λ q. IsTrue (before || is_long q) × BothSteps p q) (pipe_results r m c S before p)
+  unfolding steps_shape
+  stay_anywhere L r K A Z S S' before p k law e =
+      pipe_each m c (λ S. BothSteps) (λ S. BothStep) (λ S. KeptInner) (λ S. BothBranches) KeptKey KeptKeys both-respected r
+      (λ S S' before s ss ss' l e o. ((K m c S S' before s ss ss' k l e o).0, (A S before s ss ss' o, Z S before s ss ss' o)))
+      (λ S S' s l e. L m c S S' (Pipe.Then s Pipe.End) tt l (refl, ap (option_and_then (λ (U : Shape). Some U)) e))
+      p S S' before law e
