@@ -74,7 +74,24 @@ fn are_folded(items: &[AggItem]) -> bool
     true
 }
 
-/// What keys with an aggregation over them are, where no key is a recursive rollup and no item a custom aggregate.
+/// The most levels of a rollup whose groups are told by numbers. Each level has columns of its own for all values of its keys, so that
+/// many take time and memory with the square of their number.
+const MOST_LEVELS: usize = 64;
+
+/// Whether a key is a rollup of more levels.
+fn has_many_levels(keys: &[KeyItem]) -> bool {
+    for key in keys {
+        if let KeyItem::Rollup(_, paths) = key {
+            if paths.as_slice().len() > MOST_LEVELS {
+                return true;
+            }
+        }
+    }
+    false
+}
+
+/// What keys with an aggregation over them are, where no key is a recursive rollup, nor a rollup of many levels, and no item a custom
+/// aggregate.
 fn totals_of<'a>(keys: &'a KeyList, items: &'a [AggItem]) -> Option<GroupTotals<'a>>
     ensures keys { IfSome result (λ t. t.keys.now ≡ keys.now) }
     ensures items { IfSome result (λ t. t.items.now ≡ items.now) }
@@ -85,6 +102,9 @@ fn totals_of<'a>(keys: &'a KeyList, items: &'a [AggItem]) -> Option<GroupTotals<
         return None;
     }
     if !are_folded(items) {
+        return None;
+    }
+    if has_many_levels(keys.as_slice()) {
         return None;
     }
     Some(GroupTotals { keys, items })
