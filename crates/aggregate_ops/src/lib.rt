@@ -3,7 +3,8 @@
 //! `SumOf`, `MinOf`, `MaxOf`, `DistinctOf` and `CountOf` are each a `Partial` over values: made for a type by `new`, given one
 //! value at a time or those of a later part, and ended by `finish`. `aggregate_values` folds a list of values by the partial of
 //! a method, and `aggregate_places` those of a list that stand at some places, where they stand (`placed_folds`). The first
-//! three are a `SeenPartial` each, which takes a value also where it is borrowed. `KeyPlaces` is
+//! three are a `SeenPartial` each, which takes a value also where it is borrowed, and `Aggregated`: what each has in the end is
+//! the aggregate by its method (`aggregated`). `KeyPlaces` is
 //! a `Partial` over key lists with their hashes, which are borrowed from lists or from columns (`hashed`): by these it finds a key
 //! (`key_maps`). `KeyTable` is the same over plain key lists. `column_groups` folds the key lists that stand in columns, each of
 //! which is read when its place is added (`placed_keys`); their numbers are worked out before, by several threads
@@ -22,6 +23,7 @@
 //! partial of fewer than 2^63 items keeps its sum in 128 bits.
 #![tactic(auto)]
 
+mod aggregated;
 mod column_numbers;
 mod counts;
 mod distincts;
@@ -41,6 +43,7 @@ mod seeds;
 mod sums;
 mod values;
 
+pub use aggregated::Aggregated;
 pub use counts::CountOf;
 pub use distincts::{DistinctOf, DistinctValues};
 pub use extremes::{MaxOf, MinOf};

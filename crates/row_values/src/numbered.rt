@@ -21,48 +21,13 @@ use crate::distincts::distinct_by;
 use crate::frame_folds::frame_aggregates;
 use crate::group_folds::GroupFolds;
 use crate::lists::RowList;
-use aggregate_ops::{DistinctOf, MaxOf, MinOf, Seed, SumOf, hashed_values, kind_of};
+use aggregate_ops::{Aggregated, DistinctOf, MaxOf, MinOf, Seed, SumOf, hashed_values, kind_of};
 use apply_ast::Expr;
 use edm_data::Data;
 use edm_values::{EdmType, Method, Value};
 use par_stages::{Gate, pieces};
-use seen_partials::SeenPartial;
 use std::alloc::{AllocError, Global};
 use std::thread::Threads;
-
-/// A partial over values that has their aggregate by a method.
-pub(crate) trait Aggregated: SeenPartial {
-    // The method.
-    ghost method: { Method' };
-
-    /// The aggregate of the values that were added.
-    fn outcome(&self) -> Result<Value, AllocError>
-        ensures value { IfOk result (λ v. (xs : List (Value' × ℕ)) → Self.stands_for self.now xs → v ≡ aggregate method (partials.values xs)) };
-}
-
-impl Aggregated for SumOf {
-    ghost method = { by.Sum };
-
-    fn outcome(&self) -> Result<Value, AllocError> {
-        Ok(self.finish())
-    }
-}
-
-impl Aggregated for MinOf {
-    ghost method = { by.Min };
-
-    fn outcome(&self) -> Result<Value, AllocError> {
-        self.finish()
-    }
-}
-
-impl Aggregated for MaxOf {
-    ghost method = { by.Max };
-
-    fn outcome(&self) -> Result<Value, AllocError> {
-        self.finish()
-    }
-}
 
 /// How many rows a thread is worth: starting one takes about as long as folding these.
 const FEW: usize = 4096;
