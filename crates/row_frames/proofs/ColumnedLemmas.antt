@@ -24,7 +24,7 @@ read-or (x ∷ l) zero d = refl
 read-or (x ∷ l) (suc k) d = read-or l k d
 
 -- the columns of a row are what stands at its place of each list
-across : (cs : List Column) (k : ℕ) → map (column_at k) cs ≡ (row_across (map listed cs) k).columns
+pub across : (cs : List Column) (k : ℕ) → map (column_at k) cs ≡ (row_across (map listed cs) k).columns
 across [] k = refl
 across (c ∷ cs) k = λ i. (c.path, read-or (arc_value c.values).items k Value.Null i) ∷ across cs k i
 

@@ -136,35 +136,55 @@ new-at w l (x ∷ xs) (c ∷ cs) k d h e =
     λ i. (path i, value i) ∷ new-at w l xs cs k d h tail i
 
 -- where a row of a table is picked, its columns differ from the new ones
-pick-free : (w : World) (items : List of_named.Named) (ts : List Table) (xs : List Pick) (cs : List Column) → all_free w (map named_of items) (all_picked ts xs) ≡ true
-    → map listed cs ≡ map (λ x. (x.name ∷ [], values w (expr_of x.expr) (all_picked ts xs))) items
-    → (m : ℕ) (t : Table) → slice_get ts m ≡ Some t → list_any (λ x. x.table == m) xs ≡ true → columns_differ (columns_at t 0 ++ map (column_at 0) cs) ≡ true
-pick-free w items ts xs cs free e m t s a =
-    let ns = map named_of items in
-    let d : Pick = record { table = 0; row = 0 } in
-    let found = any-at (λ (x : Pick). x.table == m) xs d a in
-    let k = found.0 in
-    let x = get_or xs k d in
-    let same : x.table ≡ m = eqb-true x.table m found.2 in
-    let size = length-map xs (picked ts) in
-    let less = found.1 in
-    let long : k < length (all_picked ts xs) = omega (arith, size, less) in
-    let at : slice_get (all_picked ts xs) k ≡ Some (picked ts x) = slice_get-map (picked ts) xs k ∙ ap (option_map (picked ts)) (slice_get-get_or xs k d found.1) in
-    let own : picked ts x ≡ instance_at t x.row = ap (λ n. picked_in (slice_get ts n) x.row) same ∙ ap (λ o. picked_in o x.row) s in
-    let new : map (column_at k) cs ≡ new_columns w ns (picked ts x) = new-at w (all_picked ts xs) items cs k (picked ts x) long e ∙ ap (new_columns w ns) (get_or_from_slice_get (all_picked ts xs) k (picked ts x) (picked ts x) at) in
-    differ-at t cs 0 0 x.row k
-    ∙ (λ i. columns_differ (columns_at t x.row ++ new i))
-    ∙ sym (λ i. columns_differ ((own i).columns ++ new_columns w ns (picked ts x)))
-    ∙ all-at (λ i. columns_differ (extended i (new_columns w ns i)).columns) (all_picked ts xs) k (picked ts x) free at
+pub free-tables : (ts us : List Table) (xs : List Pick) (cs : List Column) (d : Pick) → All IsTable ts → AreComputed xs cs 0 ts us
+    → ((k : ℕ) → k < length xs → columns_differ (extended (picked ts (get_or xs k d)) (map (column_at k) cs)).columns ≡ true) → All IsTable us
+free-tables ts us xs cs d T C free =
+    computed-all xs cs 0 ts us C T (λ m t s a.
+    let first : 0 + m ≡ m = omega arith in
+    one m t s (subst (λ k. list_any (λ (x : Pick). x.table == k) xs ≡ true) first a))
+  where
+    one : (m : ℕ) (t : Table) → slice_get ts m ≡ Some t → list_any (λ (x : Pick). x.table == m) xs ≡ true → columns_differ (columns_at t 0 ++ map (column_at 0) cs) ≡ true
+    one m t s a =
+        let found = any-at (λ (x : Pick). x.table == m) xs d a in
+        let k = found.0 in
+        let x = get_or xs k d in
+        let same : x.table ≡ m = eqb-true x.table m found.2 in
+        let own : picked ts x ≡ instance_at t x.row = ap (λ n. picked_in (slice_get ts n) x.row) same ∙ ap (λ o. picked_in o x.row) s in
+        differ-at t cs 0 0 x.row k
+        ∙ sym (λ i. columns_differ ((own i).columns ++ map (column_at k) cs))
+        ∙ free k found.1
 
 -- ---- the whole
 
 pub computed-tables : (w : World) (items : List of_named.Named) (ts us : List Table) (xs : List Pick) (cs : List Column) → All IsTable ts → AreComputed xs cs 0 ts us → all_free w (map named_of items) (all_picked ts xs) ≡ true
     → map listed cs ≡ map (λ x. (x.name ∷ [], values w (expr_of x.expr) (all_picked ts xs))) items → All IsTable us
 computed-tables w items ts us xs cs T C free e =
-    computed-all xs cs 0 ts us C T (λ m t s a.
-    let first : 0 + m ≡ m = omega arith in
-    pick-free w items ts xs cs free e m t s (subst (λ k. list_any (λ (x : Pick). x.table == k) xs ≡ true) first a))
+    let ns = map named_of items in
+    let d : Pick = record { table = 0; row = 0 } in
+    free-tables ts us xs cs d T C (λ k h.
+    let x = get_or xs k d in
+    let size = length-map xs (picked ts) in
+    let long : k < length (all_picked ts xs) = omega (arith, size, h) in
+    let at : slice_get (all_picked ts xs) k ≡ Some (picked ts x) = slice_get-map (picked ts) xs k ∙ ap (option_map (picked ts)) (slice_get-get_or xs k d h) in
+    let new : map (column_at k) cs ≡ new_columns w ns (picked ts x) = new-at w (all_picked ts xs) items cs k (picked ts x) long e ∙ ap (new_columns w ns) (get_or_from_slice_get (all_picked ts xs) k (picked ts x) (picked ts x) at) in
+    ap (λ cs. columns_differ ((picked ts x).columns ++ cs)) new
+    ∙ all-at (λ i. columns_differ (extended i (new_columns w ns i)).columns) (all_picked ts xs) k (picked ts x) free at)
+
+-- the row of the pick at a place, with what stands there of the columns
+pub pick-widened : (ts us : List Table) (xs : List Pick) (cs : List Column) (n : ℕ) (d : Pick) → AreComputed xs cs 0 ts us → AreInOrder xs → n < length xs → (get_or xs n d).table < length ts
+    → picked us (get_or xs n d) ≡ extended (picked ts (get_or xs n d)) (map (column_at n) cs)
+pick-widened ts us xs cs n d C O within l =
+    let x = get_or xs n d in
+    let row : x.row ≡ n = O n d within in
+    let t = there ts x.table l in
+    let c = computed-at xs cs 0 ts us x.table t.0 C t.1 in
+    let first : 0 + x.table ≡ x.table = omega arith in
+    let used : list_any (λ (y : Pick). y.table == x.table) xs ≡ true = list_any_at (λ (y : Pick). y.table == x.table) xs n d within (eq-eqb x.table x.table refl) in
+    let W : IsWidened cs t.0 c.0 = (c.2).picked (subst (λ k. list_any (λ (y : Pick). y.table == k) xs ≡ true) (sym first) used) in
+    let old : picked ts x ≡ instance_at t.0 x.row = ap (λ o. picked_in o x.row) t.1 in
+    ap (λ o. picked_in o x.row) c.1
+    ∙ widened-instance cs t.0 c.0 W x.row
+    ∙ (λ i. extended (sym old i) (map (column_at (row i)) cs))
 
 -- the row of a pick, with the new columns
 pick-computed : (w : World) (items : List of_named.Named) (ts us : List Table) (xs : List Pick) (cs : List Column) (n : ℕ) (x : Pick) (rest : List Pick) → AreComputed xs cs 0 ts us → AreInOrder xs → x.table < length ts
@@ -176,17 +196,10 @@ pick-computed w items ts us xs cs n x rest C O l e D =
     let size = length-map xs (picked ts) in
     let long : n < length (all_picked ts xs) = omega (arith, size, within) in
     let own : get_or xs n d ≡ x = sym (get-map-id xs n d) ∙ drop-at (λ (y : Pick). y) xs n d x rest D in
-    let row : x.row ≡ n = ap (λ (y : Pick). y.row) (sym own) ∙ O n d within in
-    let t = there ts x.table l in
-    let c = computed-at xs cs 0 ts us x.table t.0 C t.1 in
-    let first : 0 + x.table ≡ x.table = omega arith in
-    let used : list_any (λ (y : Pick). y.table == x.table) xs ≡ true = list_any_at (λ (y : Pick). y.table == x.table) xs n d within (ap (λ (y : Pick). y.table == x.table) own ∙ eq-eqb x.table x.table refl) in
-    let W : IsWidened cs t.0 c.0 = (c.2).picked (subst (λ k. list_any (λ (y : Pick). y.table == k) xs ≡ true) (sym first) used) in
-    let old : picked ts x ≡ instance_at t.0 x.row = ap (λ o. picked_in o x.row) t.1 in
     let new : map (column_at n) cs ≡ new_columns w ns (picked ts x) = new-at w (all_picked ts xs) items cs n (picked ts x) long e ∙ ap (new_columns w ns) (drop-at (picked ts) xs n (picked ts x) x rest D) in
-    ap (λ o. picked_in o x.row) c.1
-    ∙ widened-instance cs t.0 c.0 W x.row
-    ∙ (λ i. extended (sym old i) (map (column_at (row i)) cs))
+    ap (picked us) (sym own)
+    ∙ pick-widened ts us xs cs n d C O within (subst (λ (y : Pick). y.table < length ts) (sym own) l)
+    ∙ ap (λ y. extended (picked ts y) (map (column_at n) cs)) own
     ∙ ap (extended (picked ts x)) new
   where
     get-map-id : (ys : List Pick) (k : ℕ) (d : Pick) → get_or (map (λ (y : Pick). y) ys) k d ≡ get_or ys k d

@@ -15,6 +15,7 @@ use Rattle.edm_data.specs.contracts.linked_places.LinkedPlaces as links_type
 use Rattle.edm_data.specs.contracts.property_values.PropertyValues as values_type
 use Rattle.row_frames.proofs.Sharing.{column-sync, data-sync, path-sync, relation-sync, text-sync}
 use Rattle.row_frames.specs.contracts.tables.Table as table_type
+use Rattle.row_frames.specs.contracts.told.TextValues as told_type
 use Rattle.row_frames.specs.contracts.readers.Leaf as leaf_type
 use Rattle.row_frames.specs.contracts.readers.Bound as bound_type
 use Rattle.row_frames.specs.contracts.readers.Bound.TheKnot as knot
@@ -33,11 +34,14 @@ values-sync a = search (sendable, crosses, maps.crosses, column-sync) depth 60 f
 pub links-sync : (a : NamedLft) → IsSync (links_type.the_row a)
 links-sync a = search (sendable, crosses, maps.crosses, relation-sync) depth 60 fits 20000
 
+pub told-sync : (a : NamedLft) → IsSync (told_type.the_row a)
+told-sync a = search (sendable, crosses, maps.crosses, seen-sync) depth 60 fits 20000
+
 pub leaf-sync : (a : NamedLft) → IsSync (leaf_type.the_row a)
 leaf-sync a = search (sendable, crosses, maps.crosses, path-sync, seen-sync, values-sync, links-sync) depth 60 fits 20000
 
 layer-sync : (a : NamedLft) (h : the_members → RattleType) → ((j : the_members) → IsSync (h j)) → (i : the_members) → IsSync (layer_row (knot.ring a) i h)
-layer-sync a h all member-Bound = variants_sync (knot.type-Bound a (h member-Bound) (h member-Bound) (h member-Bound) (h member-Bound) (h member-Bound) (h member-Bound)) (search (sendable, crosses, maps.crosses, as_row_sync, variants_sync, leaf-sync, all) depth 60 fits 20000)
+layer-sync a h all member-Bound = variants_sync (knot.type-Bound a (h member-Bound) (h member-Bound) (h member-Bound) (h member-Bound) (h member-Bound) (h member-Bound)) (search (sendable, crosses, maps.crosses, as_row_sync, variants_sync, leaf-sync, told-sync, all) depth 60 fits 20000)
 
 hole-sync : (a : NamedLft) (i : the_members) → IsSync (holes (knot.ring a) i)
 hole-sync a = fix_sync (knot.ring a) (λ i. record { sync = λ h all. layer-sync a h all i })

@@ -18,6 +18,7 @@ use Rattle.apply_meaning.specs.Meaning.{Outcome}
 use Rattle.apply_meaning.specs.RowViews.{is_of, row_instance, IsRow}
 use Rattle.row_frames.specs.Answers.{answer_of}
 use Rattle.row_frames.specs.Hops.{property_in, reached}
+use Rattle.row_frames.specs.Told.{told_at}
 use Rattle.row_frames.specs.declared.tables.Roots.{Roots}
 use Rattle.row_frames.specs.declared.tables.Roots.TheVariants as roots
 use Rattle.row_frames.specs.declared.tables.Prefix.{Prefix}
@@ -127,9 +128,23 @@ leaf_value w t k (leaf.At c values) = value_at values (bound_place_in (slice_get
 leaf_value w t k (leaf.Behind c hops p) = property_in w (reached w (bound_in (slice_get t.prefixes.items c) k) hops.items) p.at
 leaf_value w t k (leaf.Path p) = lookup w (instance_at t k) p.now
 
+-- the place of the entity that has the property that a leaf is: that of the row's entity, or of what this refers to
+abbrev pub owner : Leaf → ℕ → Option ℕ
+owner (leaf.Own values) k = Some k
+owner (leaf.Linked links values) k = link_in links k
+owner (leaf.Literal v) k = None
+owner (leaf.Column c) k = None
+owner (leaf.Ints list) k = None
+owner (leaf.Decs list) k = None
+owner (leaf.Property hops p) k = None
+owner (leaf.At c values) k = None
+owner (leaf.Behind c hops p) k = None
+owner (leaf.Path p) k = None
+
 -- the value of a bound expression in a row of a table
 abbrev pub bound_value : World → Table → ℕ → of_bound.Bound → Value
 bound_value w t k (bound.Leaf l) = leaf_value w t k l
+bound_value w t k (bound.Told l d) = told_at d (owner l (place_in t.roots k))
 bound_value w t k (bound.Unary' UnOp.Neg p a) = negated (bound_value w t k a)
 bound_value w t k (bound.Unary' UnOp.Not p a) = negation (bound_value w t k a)
 bound_value w t k (bound.Binary' op p a q b) = binary op (bound_value w t k a) (bound_value w t k b)

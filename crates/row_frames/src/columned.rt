@@ -24,7 +24,10 @@ fn given_column(alloc: Global, path: Path, values: Vec<Value>) -> Result<Column,
 }
 
 /// The columns of these paths, each with its values.
-fn given_columns(alloc: Global, columns: Vec<(Path, Vec<Value>)>) -> Result<Vec<Column>, AllocError>
+pub(crate) fn given_columns(
+    alloc: Global,
+    columns: Vec<(Path, Vec<Value>)>,
+) -> Result<Vec<Column>, AllocError>
     ensures { IfOk result (λ cs. map spec.listed cs.items ≡ given columns.items) }
 {
     let mut made = Vec::with_capacity(alloc, columns.len())?;

@@ -55,7 +55,7 @@ pub(crate) fn reader_over<'a>(
     requires of { IsTrue (all_of store.now (spec.all_picked tables.now picks.now)) }
     ensures { IfOk result (λ r. r ≡ values store.now (expr_of e.now) (spec.all_picked tables.now picks.now)) }
 {
-    let readers = readers_of(alloc, store, tables, e)?;
+    let readers = readers_of(alloc, store, tables, e, picks.len())?;
     Ok(FrameReader { readers, picks })
 }
 

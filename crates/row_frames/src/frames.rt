@@ -1,5 +1,5 @@
 //! Frames: lists of instances that are kept by columns.
-ghost use Rattle.std.specs.Prelude.{◌≡◌, ◌+◌, ◌≤◌, ◌<◌, ◌==◌, ◌++◌, [], ℕ, List, IsTrue, IfOk, IfSome, Some, false, true, filter, get_or, length, map, nat_lt, take, drop};
+ghost use Rattle.std.specs.Prelude.{◌≡◌, ◌+◌, ◌≤◌, ◌<◌, ◌==◌, ◌++◌, [], ℕ, List, IsTrue, IfOk, IfSome, Some, false, true, filter, get_or, length, map, nat_lt, option_map, take, drop};
 ghost use Rattle.std.specs.List.{All, list_all, list_any};
 ghost use Rattle.edm_values.specs.Lists.{at_places, is_some_and, places};
 ghost use Rattle.edm_values.specs.Values.{is_beyond, is_value, seen_value};
@@ -14,7 +14,7 @@ ghost use Rattle.apply_meaning.specs.Meaning.{key_list, values, refused_at_beyon
 ghost use Rattle.apply_meaning.specs.RowViews.{columns_differ};
 ghost use Rattle.apply_meaning.specs.Running.{all_free, all_of, new_columns as columns_of};
 ghost use Rattle.join_concat.specs.Joins.{bound_rows, is_free_of};
-ghost use Rattle.row_frames.specs.Columned.{given, row_across};
+ghost use Rattle.row_frames.specs.Columned.{given, row_across, widened};
 ghost use Rattle.row_frames.specs.Frames as spec;
 ghost use Rattle.row_frames.specs.Keys.{key_column, key_columns, seen_columns};
 ghost use Rattle.row_frames.specs.Own.{IsOwn};
@@ -23,7 +23,7 @@ ghost use Rattle.value_codes.specs.Codes.{AreCodes};
 
 use crate::chosen::picks_at;
 use crate::codes::codes_of;
-use crate::columned::{columned_tables, row_picks};
+use crate::columned::{columned_tables, given_columns, row_picks};
 use crate::computed::{computed_tables, new_columns, rows_in_order};
 use crate::frame_readers::{FrameReader, reader_over};
 use crate::joined::{copied_picks, joined_picks, joined_tables, shared_tables};
@@ -36,6 +36,7 @@ use crate::placed::{
     placed_columns, placed_keys, placed_root, placed_row, placed_rows, placed_values,
 };
 use crate::related::{are_of_set, picked_places, related_picks};
+use crate::root_places::{RootPlaces, root_places_of};
 use crate::tables::{Pick, Table, one_table, set_table};
 use crate::values::{seen_of, values_of};
 use apply_ast::{Expr, Name, Named, Path};
@@ -272,6 +273,14 @@ impl Frame {
         placed_root(self.tables.as_slice(), self.picks.as_slice(), k)
     }
 
+    /// The places, in their set, of the entities at the empty prefix of the instances, of which none is kept: where all instances are of
+    /// one table and stand at entities.
+    pub fn root_places(&self) -> Option<RootPlaces<'_>>
+        ensures value { IfSome result (λ r. map (λ i. option_map (λ e. e.at) (root_of i)) self.now ≡ map (λ k. Some k) r) }
+    {
+        root_places_of(self.tables.as_slice(), self.picks.as_slice())
+    }
+
     /// The property that the path is, of the entity of each instance, and the set of these entities: where all instances stand at
     /// entities of one set, and none has a column of the path, or a prefix that is not the empty one.
     pub fn own_property(&self, store: &Data, path: &Path) -> Option<(SetId, PropId)>
@@ -346,6 +355,23 @@ impl Frame {
         let Frame { tables, picks } = self;
         let own = tables.as_slice();
         let columns = new_columns(rt, alloc, store, own, items, picks.as_slice(), workers)?;
+        let (tables, picks) = rows_in_order(alloc, tables, picks)?;
+        let tables = computed_tables(alloc, tables, picks.as_slice(), columns.as_slice())?;
+        Ok(Frame { tables, picks })
+    }
+
+    /// Each instance with new columns of these paths, in which it has the value at its place of each list. A list of values that was
+    /// there is not copied where all rows of a table are picked in their order. No row is made.
+    pub fn extend(
+        self,
+        alloc: Global,
+        columns: Vec<(Path, Vec<Value>)>,
+    ) -> Result<Frame, AllocError>
+        requires free { (k : ℕ) → k < length self → IsTrue (columns_differ (widened (given columns.items) self k).columns) }
+        ensures value { IfOk result (λ f. f ≡ map (widened (given columns.items) self) (places (length self))) }
+    {
+        let Frame { tables, picks } = self;
+        let columns = given_columns(alloc, columns)?;
         let (tables, picks) = rows_in_order(alloc, tables, picks)?;
         let tables = computed_tables(alloc, tables, picks.as_slice(), columns.as_slice())?;
         Ok(Frame { tables, picks })

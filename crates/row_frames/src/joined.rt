@@ -69,9 +69,7 @@ pub(crate) fn copied_picks(alloc: Global, picks: &[Pick]) -> Result<Vec<Pick>, A
     ensures { IfOk result (λ made. made.items ≡ picks.now) }
 {
     let mut made = Vec::with_capacity(alloc, picks.len())?;
-    for pick in picks {
-        made.push(*pick)?;
-    }
+    made.extend_from_slice(picks)?;
     Ok(made)
 }
 

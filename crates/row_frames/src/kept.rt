@@ -60,7 +60,7 @@ pub(crate) fn kept_picks<'a, R: Threads + Sync>(
     ensures kept { let l = spec.all_picked tables.now picks.now in spec.GivesPicks tables.now result (refused_at_beyond (values store.now (expr_of e.now) l) (filter (λ i. is_value true (val store.now i (expr_of e.now))) l)) }
     ensures within { IfOk result (λ xs. All (λ x. x.table < length tables.now) xs.items) }
 {
-    let readers = readers_of(alloc, store, tables, e)?;
+    let readers = readers_of(alloc, store, tables, e, picks.len())?;
     let found = all_answers(rt, alloc, readers.as_slice(), picks, workers)?;
     kept_by(alloc, found.as_slice(), picks)
 }

@@ -2,15 +2,18 @@
 ghost use Rattle.std.specs.Prelude.{◌≡◌, ◌<◌, ◌++◌, IfOk, OnOk, length, map};
 ghost use Rattle.std.specs.Bool.{OnTrue};
 ghost use Rattle.std.specs.List.{All, AllZip};
+ghost use Rattle.edm_values.specs.declared.Value.{Value as Value'};
 ghost use Rattle.edm_values.specs.Values.{seen_value};
 ghost use Rattle.rayon.specs.Lists.{chunks_of};
 ghost use Rattle.row_frames.specs.Answers.{answer_of};
+ghost use Rattle.row_frames.specs.Blocks.{block_values};
 ghost use Rattle.row_frames.specs.Frames as spec;
 
-use crate::blocks::{has_operator, read_block};
+use crate::blocks::{has_operator, read_block, seen_of_block};
 use crate::parts::{is_one_part, part_len, whole};
 use crate::readers::{TableReader, value_of};
 use crate::tables::Pick;
+use crate::typed_blocks::Block;
 use edm_values::{Seen, Value};
 use rayon::prelude::*;
 use std::alloc::{AllocError, Global};
@@ -35,6 +38,20 @@ fn in_blocks(readers: &[TableReader<'_>]) -> bool
 }
 
 /// The value in each row of a block that is picked, worked out operator by operator.
+fn block_of<'a>(
+    alloc: Global,
+    readers: &[TableReader<'a>],
+    picks: &[Pick],
+) -> Result<Block<'a>, AllocError>
+    requires one { length readers.now ≡ 1 }
+    requires readable { All (spec.IsReadable readers.now) picks.now }
+    ensures { IfOk result (λ b. block_values b ≡ map (spec.read_at readers.now) picks.now) }
+{
+    let reader = &readers[0];
+    read_block(alloc, reader, &reader.bound, picks)
+}
+
+/// The same as a list.
 fn seen_block<'a>(
     alloc: Global,
     readers: &[TableReader<'a>],
@@ -44,8 +61,8 @@ fn seen_block<'a>(
     requires readable { All (spec.IsReadable readers.now) picks.now }
     ensures { IfOk result (λ vs. map (λ v. seen_value v) vs.items ≡ map (spec.read_at readers.now) picks.now) }
 {
-    let reader = &readers[0];
-    read_block(alloc, reader, &reader.bound, picks)
+    let block = block_of(alloc, readers, picks)?;
+    seen_of_block(alloc, block)
 }
 
 /// The value in each row that is picked, block by block.
@@ -243,6 +260,33 @@ fn push_answers(found: &mut Vec<Option<bool>>, values: &[Seen<'_>]) -> Result<()
     Ok(())
 }
 
+/// The Booleans as answers, behind what is there already.
+fn push_truths(found: &mut Vec<Option<bool>>, list: &[bool]) -> Result<(), AllocError>
+    ensures { OnOk result (found.new.items ≡ found.old.items ++ map answer_of (map Value'.Bool list.now)) }
+{
+    for x in list {
+        found.push(Some(*x))?;
+    }
+    Ok(())
+}
+
+/// Whether each of the values of a block is true, behind what is there already.
+fn push_block_answers(
+    found: &mut Vec<Option<bool>>,
+    alloc: Global,
+    block: Block<'_>,
+) -> Result<(), AllocError>
+    ensures { OnOk result (found.new.items ≡ found.old.items ++ map answer_of (block_values block.entry)) }
+{
+    match block {
+        Block::Truths(list) => push_truths(found, list.as_slice()),
+        block => {
+            let values = seen_of_block(alloc, block)?;
+            push_answers(found, values.as_slice())
+        }
+    }
+}
+
 /// Whether the value is true, and none where it is past its range, in each row that is picked, block by block.
 fn answers_in_blocks(
     alloc: Global,
@@ -257,8 +301,8 @@ fn answers_in_blocks(
     let mut rest = picks;
     while rest.len() > 0 {
         let (block, behind) = next_block(rest);
-        let values = seen_block(alloc, readers, block)?;
-        push_answers(&mut found, values.as_slice())?;
+        let values = block_of(alloc, readers, block)?;
+        push_block_answers(&mut found, alloc, values)?;
         rest = behind;
     }
     Ok(found)

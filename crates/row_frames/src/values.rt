@@ -29,7 +29,7 @@ pub(crate) fn values_alone<'a>(
     requires of { IsTrue (all_of store.now (spec.all_picked tables.now picks.now)) }
     ensures { IfOk result (λ vs. vs.items ≡ values store.now (expr_of e.now) (spec.all_picked tables.now picks.now)) }
 {
-    let readers = readers_of(alloc, store, tables, e)?;
+    let readers = readers_of(alloc, store, tables, e, picks.len())?;
     values_in_turn(alloc, readers.as_slice(), picks)
 }
 
@@ -48,7 +48,7 @@ pub(crate) fn values_of<'a, R: Threads + Sync>(
     requires of { IsTrue (all_of store.now (spec.all_picked tables.now picks.now)) }
     ensures { IfOk result (λ vs. vs.items ≡ values store.now (expr_of e.now) (spec.all_picked tables.now picks.now)) }
 {
-    let readers = readers_of(alloc, store, tables, e)?;
+    let readers = readers_of(alloc, store, tables, e, picks.len())?;
     all_values(rt, alloc, readers.as_slice(), picks, workers)
 }
 
@@ -68,6 +68,6 @@ pub(crate) fn seen_of<'a, R: Threads + Sync>(
     requires of { IsTrue (all_of store.now (spec.all_picked tables.now picks.now)) }
     ensures { IfOk result (λ vs. map (λ v. seen_value v) vs.items ≡ values store.now (expr_of e.now) (spec.all_picked tables.now picks.now)) }
 {
-    let readers = readers_of(alloc, store, tables, e)?;
+    let readers = readers_of(alloc, store, tables, e, picks.len())?;
     all_seen(rt, alloc, readers.as_slice(), picks, workers)
 }

@@ -79,7 +79,7 @@ impl<'a> RowList<'a> {
     }
 
     /// The frame, where the list is one.
-    pub(crate) fn frame(&self) -> Option<&'a Frame>
+    pub fn frame(&self) -> Option<&'a Frame>
         ensures value { IfSome result (λ frame. frame.now ≡ self.now) }
     {
         match self.source {
