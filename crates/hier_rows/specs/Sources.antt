@@ -12,7 +12,11 @@ use Rattle.hier_rows.specs.declared.sources.Source.TheVariants as source
 abbrev pub referred_by : World → ℕ → Value → Option Entity
 referred_by w s v = if is_null v then None else by_key w s v
 
+-- the node of the entity at a place, where each of this many is its own
+abbrev pub own_at : ℕ → ℕ → Option ℕ
+own_at count k = if nat_lt k count then Some k else None
+
 -- the node of the entity at a place
 abbrev pub node_at : Source → ℕ → Option ℕ
-node_at (source.Own count) k = if nat_lt k count then Some k else None
+node_at (source.Own count) k = own_at count k
 node_at (source.Linked links) k = link_in links k

@@ -4,9 +4,10 @@
 //! each, `climb_places` the places of those that an `ancestors` or `descendants` keeps, and `traverse_places` those of the ones that
 //! a `traverse` lists. `shown_nodes` gives the nodes that rows stand at, `all_nodes` all of them, and `identifier` the key of a node.
 //!
-//! `nodes` takes the nodes that the data keeps (`sources`), where the path is a property of the entities of a frame, and else looks
-//! them up by their keys; `tried_nodes` has those that are tried first. `climbs` and `traversals` hand nodes on to `hier_traverse`,
-//! and `shown` marks nodes.
+//! `nodes` takes the nodes that the data keeps (`sources`), where the path is a property of the entities of a frame, in one loop over
+//! the places of these (`kept_places`), in which a climb looks up the mark of each row's node too; and else looks them up by their
+//! keys, those first that are tried (`tried_nodes`). `climbs` and `traversals` hand nodes on to `hier_traverse`, and `shown` marks
+//! nodes.
 //!
 //! The crate stands on `hier_states` for the nodes of a hierarchy that is named, on `hier_index` and `hier_traverse` for indexes
 //! and for rows by their nodes, on `row_orders` for the ranks of nodes, on `row_values` for lists of instances and values on them,
@@ -19,6 +20,7 @@
 #![tactic(auto)]
 
 mod climbs;
+mod kept_places;
 mod nodes;
 mod shown;
 mod sources;

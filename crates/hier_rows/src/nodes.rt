@@ -10,6 +10,7 @@ ghost use Rattle.apply_meaning.specs.Running.{all_of};
 ghost use Rattle.hier_rows.specs.HierRows.{AreOptionsBelow, GivesFor, GivesNodeBy, node_in, path_values};
 ghost use Rattle.hier_rows.specs.Sources.{node_at};
 
+use crate::kept_places::{nodes_at, places_in};
 use crate::sources::{Source, node_of, source_of};
 use crate::tried_nodes::{Tried, node_with, tried_in};
 use apply_ast::{Expr, Path};
@@ -61,7 +62,7 @@ fn nodes_by_keys(
     Ok(nodes)
 }
 
-/// The node of each instance where the data keeps it, as the path is a property of the instances' entities.
+/// The node of each instance, as it is kept for the instances' entities.
 fn kept_nodes(
     alloc: Global,
     source: &Source<'_>,
@@ -69,6 +70,9 @@ fn kept_nodes(
 ) -> Result<Vec<Option<u32>>, AllocError>
     ensures { IfOk result (λ v. v.items ≡ map (λ i. option_and_then (λ e. node_at source.now e.at) (root_of i)) list.now) }
 {
+    if let Some(places) = places_in(list) {
+        return nodes_at(alloc, source, &places);
+    }
     let mut nodes = Vec::with_capacity(alloc, list.len())?;
     for k in 0..list.len() {
         nodes.push(node_of(source, list.root(k)))?;
@@ -76,7 +80,28 @@ fn kept_nodes(
     Ok(nodes)
 }
 
-/// The same, none where it does not.
+/// Where the nodes of instances are kept, as the path is a property of their entities; none where they are not.
+pub(crate) fn own_source<'s>(
+    store: &'s Data,
+    set: SetId,
+    path: &Path,
+    list: &RowList<'_>,
+) -> Option<Source<'s>>
+    requires set { IsSet store.now.model set }
+    ensures nodes { IfSome result (λ x. map (λ i. option_and_then (λ e. node_at x e.at) (root_of i)) list.now ≡ map (node_in store.now set path.now) list.now) }
+    ensures quiet { IfSome result (λ x. list_any is_beyond (path_values store.now path.now list.now) ≡ false) }
+{
+    data_is_loaded(store);
+    let Some((of, by)) = list.own_property(store, path) else {
+        return None;
+    };
+    match source_of(store, of, by, set) {
+        Some(source) => Some(source),
+        None => None,
+    }
+}
+
+/// The node of each instance where the data keeps it, none where it does not.
 fn property_nodes(
     alloc: Global,
     store: &Data,
@@ -88,11 +113,7 @@ fn property_nodes(
     ensures nodes { IfOk result (λ o. IfSome o (λ v. v.items ≡ map (node_in store.now set path.now) list.now)) }
     ensures quiet { IfOk result (λ o. IfSome o (λ v. list_any is_beyond (path_values store.now path.now list.now) ≡ false)) }
 {
-    data_is_loaded(store);
-    let Some((of, by)) = list.own_property(store, path) else {
-        return Ok(None);
-    };
-    match source_of(store, of, by, set) {
+    match own_source(store, set, path, list) {
         Some(source) => Ok(Some(kept_nodes(alloc, &source, list)?)),
         None => Ok(None),
     }

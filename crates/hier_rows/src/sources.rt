@@ -62,6 +62,14 @@ pub(crate) fn source_of(store: &Data, of: SetId, by: PropId, set: SetId) -> Opti
     }
 }
 
+/// The node of the entity at a place, where each of this many is its own.
+#[inline(always)]
+pub(crate) fn own_node(count: u32, at: u32) -> Option<u32>
+    ensures { result ≡ spec.own_at count at }
+{
+    if at < count { Some(at) } else { None }
+}
+
 /// The node of an instance that stands at this entity.
 #[inline(always)]
 pub(crate) fn node_of(source: &Source<'_>, root: Option<EntityRef>) -> Option<u32>
@@ -69,7 +77,7 @@ pub(crate) fn node_of(source: &Source<'_>, root: Option<EntityRef>) -> Option<u3
 {
     let e = root?;
     match source {
-        Source::Own(count) => { if e.at < *count { Some(e.at) } else { None } }
+        Source::Own(count) => own_node(*count, e.at),
         Source::Linked(links) => links.at(e.at),
     }
 }
