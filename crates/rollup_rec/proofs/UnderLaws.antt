@@ -1,21 +1,26 @@
 -- The rows of a node's interval are those at or below it.
-use Rattle.std.proofs.Common.{◌≡◌, ℕ, ◌+◌, ◌<◌, ◌≤◌, true, false, ◌&&◌, List, length, map, refl, sym, ◌∙◌, ap, subst, arith, ⊎_elim, Option, Some, None, IfSome}
+use Rattle.std.proofs.Common.{◌≡◌, ℕ, ◌+◌, ◌<◌, ◌≤◌, true, false, not, ◌&&◌, List, length, get_or, drop, take, filter, ltb, map, refl, sym, ◌∙◌, ap, subst, arith, ⊎_elim, Option, Some, None, IfSome}
 use Rattle.std.specs.Prelude.{nat_le, nat_lt, slice_get, slice_index, slice_index_or}
 use Rattle.std.specs.List.{All}
 use Rattle.std.specs.Option.{option_map, unwrap_or}
-use Rattle.std.proofs.lemmas.Bool.{cases_lt, le-leb, le-ltb, lt-leb, lt-ltb}
+use Rattle.std.proofs.lemmas.Bool.{cases_lt, le-leb, le-ltb, lt-leb, lt-ltb, ltb-true}
 use Rattle.std.proofs.lemmas.List.{get_or-map, length-map}
-use Rattle.std.proofs.lemmas.Option.{unwrap_or-slice_get}
+use Rattle.std.proofs.lemmas.List.Elements.{All-drop, All-take}
+use Rattle.std.proofs.lemmas.List.Sorted.{IsStrictWeakOrder-by_number}
+use Rattle.std.proofs.lemmas.Option.{slice_get-get_or, unwrap_or-slice_get}
 use Rattle.edm_values.specs.declared.Method.{Method}
 use Rattle.edm_values.specs.declared.Value.{Value}
 use Rattle.edm_values.specs.Lists.{at_places, places}
-use Rattle.edm_data.specs.Hierarchies.{is_under, rows_under}
+use Rattle.edm_values.proofs.ListFacts.{all-at}
+use Rattle.edm_values.proofs.Reorderings.{Reorders, reorders-back, reorders-filter, reorders-same}
+use Rattle.edm_values.proofs.SortedLists.{reorders-sorted}
+use Rattle.edm_data.specs.Hierarchies.{is_under, rows_under, rows_whose}
 use Rattle.hier_index.specs.Indexes.{AreIntervals}
 use Rattle.hier_index.proofs.WalkLaws.{filter_same, each_place_below}
 use Rattle.apply_meaning.specs.Aggregates.{aggregate}
-use Rattle.rollup_rec.proofs.NodeRowLaws.{filter_twice}
+use Rattle.rollup_rec.proofs.NodeRowLaws.{between, filter_twice, rows_within}
 use Rattle.rollup_rec.specs.NodeFolds.{AreAggregates, is_between, rows_between}
-use Rattle.rollup_rec.specs.NodeRows.{row_number}
+use Rattle.rollup_rec.specs.NodeRows.{IsByNumber, row_number}
 
 upto : (n l : ℕ) → nat_lt n (l + 1) ≡ nat_le n l
 upto n l = ⊎_elim
@@ -55,3 +60,21 @@ module _ (parents : List (Option ℕ)) (numbers lasts : List ℕ) (so : AreInter
 
   pub size-under : (found : List Value) → length (map (λ k. slice_index_or found k Value.Null) numbers) ≡ length parents
   size-under found = length-map numbers (λ k. slice_index_or found k Value.Null) ∙ so.numbers_size
+
+-- the run of an interval, whatever its order, has the rows between its numbers
+pub run-between : (numbers : List ℕ) (nodes : List (Option ℕ)) (rows : List ℕ) → IsByNumber numbers nodes rows → (a l : ℕ)
+    → Reorders (filter (λ r. not (nat_lt (row_number numbers nodes r) a)) (filter (λ r. nat_le (row_number numbers nodes r) l) rows)) (rows_between numbers nodes a (l + 1))
+run-between numbers nodes rows ordered a l =
+    let number = row_number numbers nodes in
+    let all : List ℕ = rows_whose (λ y. true) nodes in
+    let same : Reorders rows all = Reorders.join (reorders-same ordered.same) (reorders-back (reorders-sorted (λ r s. ltb (number r) (number s)) (IsStrictWeakOrder-by_number number) all)) in
+    let test : (r : ℕ) → (nat_le (number r) l && not (nat_lt (number r) a)) ≡ is_between a (l + 1) (number r) = λ r. between (number r) a l ∙ ap (λ b. nat_le a (number r) && b) (sym (upto (number r) l)) in
+    Reorders.join (reorders-filter (λ r. not (nat_lt (number r) a)) (reorders-filter (λ r. nat_le (number r) l) same))
+    (reorders-same (filter_twice (λ r. nat_le (number r) l) (λ r. not (nat_lt (number r) a)) all ∙ (λ i. filter (λ r. test r i) all)))
+
+-- it has places of rows
+pub run-within : (numbers : List ℕ) (nodes : List (Option ℕ)) (rows : List ℕ) → IsByNumber numbers nodes rows → (b n : ℕ) → All (λ r. r < length nodes) (take n (drop b rows))
+run-within numbers nodes rows ordered b n' =
+    let n = length nodes in
+    let whole : All (λ r. r < n) rows = λ k d h. ltb-true (get_or rows k d) n (all-at (λ r. nat_lt r n) rows k (get_or rows k d) (rows_within numbers nodes rows ordered) (slice_get-get_or rows k d h)) in
+    All-take (λ r. r < n) n' (drop b rows) (All-drop (λ r. r < n) b rows whole)

@@ -12,12 +12,14 @@ ghost use Rattle.apply_meaning.specs.Aggregates.{aggregate};
 ghost use Rattle.aggregate_ops.specs.Partials.{AreFoldable};
 ghost use Rattle.rollup_rec.specs.NodeFolds.{AreAggregates, AreNested};
 
+use crate::distincts::distinct_aggregates;
 use crate::node_folds::{NodeRowValues, aggregates_by_number};
 use aggregate_ops::{MaxOf, MinOf, SumOf, kind_of};
 use edm_values::{EdmType, Method, Seen, Value};
 use hier_index::Index;
 use std::alloc::{AllocError, Global};
 use std::marker::Model;
+use std::thread::Threads;
 
 /// A value for each node of a hierarchy.
 #[derive(Drop)]
@@ -61,12 +63,16 @@ fn kind_among(values: &[Seen<'_>]) -> EdmType
     EdmType::Int
 }
 
-/// The aggregate at each number of a node, none of counts of distinct values.
-fn aggregates_by(
+/// The aggregate at each number of a node; none of counts of distinct values of which one is past its range.
+fn aggregates_by<R: Threads + Sync>(
+    rt: &R,
     alloc: Global,
     method: Method,
     rows: &NodeRowValues<'_, '_>,
+    workers: u32,
 ) -> Result<Option<Vec<Value>>, AllocError>
+    requires some { 0 < workers }
+    requires small { length rows.now.numbers.now < 2 ^ 32 }
     requires few { length rows.now.nodes.now < 2 ^ 63 }
     requires lasts { length rows.now.lasts.now ≡ length rows.now.numbers.now }
     requires numbers { All (λ k. k < length rows.now.numbers.now) rows.now.numbers.now }
@@ -91,20 +97,24 @@ fn aggregates_by(
             let empty = MaxOf::new(alloc, kind);
             Ok(Some(aggregates_by_number(alloc, rows, &empty)?))
         }
-        Method::CountDistinct => Ok(None),
+        Method::CountDistinct => distinct_aggregates(rt, alloc, rows, workers),
     }
 }
 
 /// For each node the aggregate by a method of the values at the rows whose node is that node or a descendant of it. `nodes` and
 /// `values` have one entry for each row; the values are of one type. Each value is folded once, whatever the depth of its node;
-/// what is kept of a node is taken over by the node above it. None for counts of distinct values, of which this would be dear.
-pub fn node_values<'a>(
+/// what is kept of a node is taken over by the node above it. Of counts of distinct values a row takes time at each node above its
+/// own, and there are none where a value is past its range.
+pub fn node_values<'a, R: Threads + Sync>(
+    rt: &R,
     alloc: Global,
     index: &'a Index,
     nodes: &[Option<u32>],
     method: Method,
     values: &[Seen<'_>],
+    workers: u32,
 ) -> Result<Option<NodeValues<'a>>, AllocError>
+    requires some { 0 < workers }
     requires there { All (λ n. IfSome n (λ y. y < length index.now)) nodes.now }
     requires size { length values.now ≡ length nodes.now }
     requires kind { AreFoldable method (map (λ v. seen_value v) values.now) }
@@ -114,6 +124,7 @@ pub fn node_values<'a>(
     if nodes.len() >= 1 << 63 {
         return Err(AllocError);
     }
+    let _count = index.count();
     let (numbers, lasts) = index.intervals();
     let rows = NodeRowValues {
         numbers,
@@ -121,7 +132,7 @@ pub fn node_values<'a>(
         nodes,
         values,
     };
-    match aggregates_by(alloc, method, &rows)? {
+    match aggregates_by(rt, alloc, method, &rows, workers)? {
         Some(values) => Ok(Some(NodeValues { numbers, values })),
         None => Ok(None),
     }

@@ -4,53 +4,15 @@
 //! is added once, to what is kept of its row's node. Then, from the last number to the first, what is kept of a node takes what is
 //! kept of the nodes below it that no other has taken: a run of numbers that follows its own.
 ghost use Rattle.std.specs.Prelude.{◌≡◌, ℕ, ◌+◌, ◌^◌, ◌<◌, ◌≤◌, ◌∷◌, [], ◌++◌, List, All, IfOk, IfSome, MatchOption, OnOk, length, map, slice_index};
-ghost use Rattle.edm_values.specs.declared.Method.{Method as Method'};
-ghost use Rattle.edm_values.specs.declared.Method.TheVariants as by;
 ghost use Rattle.edm_values.specs.declared.Value.{Value as Value'};
 ghost use Rattle.edm_values.specs.Values.{seen_value};
-ghost use Rattle.apply_meaning.specs.Aggregates.{aggregate};
-ghost use Rattle.aggregate_ops.specs.Partials as partials;
 ghost use Rattle.rollup_rec.specs.NodeFolds.{AreAggregates, AreFolds, AreLasts, AreNested, AreOpen, ArePast, HasRuns, HasValues, IsLast, rows_between};
 
-use aggregate_ops::{MaxOf, MinOf, SumOf};
+use aggregate_ops::Aggregated;
 use edm_values::{Seen, Value};
 use par_stages::Partial;
 use seen_partials::SeenPartial;
 use std::alloc::{AllocError, Global};
-
-/// A partial over values that has their aggregate by a method.
-pub(crate) trait Aggregated: SeenPartial {
-    // The method.
-    ghost method: { Method' };
-
-    /// The aggregate of the values that were added.
-    fn outcome(&self) -> Result<Value, AllocError>
-        ensures value { IfOk result (λ v. (xs : List (Value' × ℕ)) → Self.stands_for self.now xs → v ≡ aggregate method (partials.values xs)) };
-}
-
-impl Aggregated for SumOf {
-    ghost method = { by.Sum };
-
-    fn outcome(&self) -> Result<Value, AllocError> {
-        Ok(self.finish())
-    }
-}
-
-impl Aggregated for MinOf {
-    ghost method = { by.Min };
-
-    fn outcome(&self) -> Result<Value, AllocError> {
-        self.finish()
-    }
-}
-
-impl Aggregated for MaxOf {
-    ghost method = { by.Max };
-
-    fn outcome(&self) -> Result<Value, AllocError> {
-        self.finish()
-    }
-}
 
 /// Rows by the numbers of their nodes: the number of each node and the last number of its interval, and of each row its node, none
 /// where it has none, and its value.
@@ -63,7 +25,11 @@ pub(crate) struct NodeRowValues<'a, 'v> {
 }
 
 /// For each number the last number of the node that has it, 0 where none has it.
-fn lasts_by_number(alloc: Global, numbers: &[u32], lasts: &[u32]) -> Result<Vec<u32>, AllocError>
+pub(crate) fn lasts_by_number(
+    alloc: Global,
+    numbers: &[u32],
+    lasts: &[u32],
+) -> Result<Vec<u32>, AllocError>
     requires size { length lasts.now ≡ length numbers.now }
     requires numbers { All (λ k. k < length numbers.now) numbers.now }
     requires one { (x y : ℕ) → x < length numbers.now → y < length numbers.now → slice_index numbers.now x ≡ slice_index numbers.now y → x ≡ y }
