@@ -28,7 +28,7 @@ use Rattle.apply_meaning.specs.Meaning.{mean}
 use Rattle.json_render.specs.Bodies.{body}
 use Rattle.optimiser.specs.Plans.{AreOneTyping, IsPlan, own_of, written_of}
 use Rattle.optimiser.specs.declared.plans.Plan.{Plan}
-use Rattle.pipe_run.specs.Costs.{total_cost}
+use Rattle.step_run.specs.Costs.{total_cost}
 use Rattle.rewrite_laws.specs.Rewrites.{IsPlanOf}
 use Rattle.apply_replies.specs.Costs.{BoundsRequest, IsRunFor}
 use Rattle.apply_replies.specs.Replies.{IsOfBody, IsResponse, IsTyped, answer, answer_body, plan, range}

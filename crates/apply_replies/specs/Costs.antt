@@ -10,7 +10,7 @@ use Rattle.context_typing.specs.Readings.{readings}
 use Rattle.context_typing.specs.Typing.{Customs, shape_of_set}
 use Rattle.hier_states.specs.NamedHierarchies.{hierarchies}
 use Rattle.hier_states.specs.States.{first_cycle}
-use Rattle.pipe_run.specs.Costs.{total_cost}
+use Rattle.step_run.specs.Costs.{total_cost}
 use Rattle.rewrite_laws.specs.Rewrites.{IsPlanOf}
 use Rattle.apply_store.specs.Stores.{Store}
 use Rattle.apply_replies.specs.Replies.{IsTyped}

@@ -16,7 +16,7 @@ ghost use Rattle.apply_meaning.specs.Instances as instances;
 ghost use Rattle.apply_meaning.specs.Meaning.{mean};
 ghost use Rattle.apply_meaning.specs.MeaningLaws.{AllFit};
 ghost use Rattle.optimiser.specs.Plans.{AreOneTyping, IsPlan, own_of, written_of};
-ghost use Rattle.pipe_run.specs.Costs.{total_cost};
+ghost use Rattle.step_run.specs.Costs.{total_cost};
 ghost use Rattle.rewrite_laws.specs.Rewrites.{IsPlanOf};
 ghost use Rattle.apply_replies.specs.Costs.{BoundsLine, BoundsRequest, IsRunFor};
 ghost use Rattle.apply_replies.specs.Replies.{IsReply, IsResponse, IsTyped};

@@ -14,9 +14,9 @@ use Rattle.context_typing.specs.Typing.{Customs}
 use Rattle.apply_meaning.specs.Instances.{Instance}
 use Rattle.apply_meaning.specs.Meaning.{Outcome, step_mean}
 use Rattle.apply_meaning.specs.Running.{Gives}
-use Rattle.pipe_run.proofs.CostEquations.{inner_costs-Climb}
-use Rattle.pipe_run.specs.Costs.{cost, inner_costs, result_length, step_cost}
-use Rattle.pipe_run.specs.GroupTotals.{GivesFound}
+use Rattle.step_run.proofs.CostEquations.{inner_costs-Climb}
+use Rattle.step_run.specs.Costs.{cost, inner_costs, result_length, step_cost}
+use Rattle.step_run.specs.GroupTotals.{GivesFound}
 use Rattle.frame_run.specs.HeldRows.{GivesHeld, owed_by}
 use Rattle.frame_run.specs.declared.held.Held.{Held}
 use Rattle.frame_run.specs.declared.held.Held.TheVariants as held

@@ -14,7 +14,7 @@ use Rattle.edm_data.specs.Worlds.{Entity, World}
 use Rattle.edm_model.specs.Models.{Navigation}
 use Rattle.row_frames.specs.Related.{related_to}
 use Rattle.pipe_run.proofs.ListsInTurn.{all-long}
-use Rattle.pipe_run.proofs.RunLevels.{sum-append}
+use Rattle.step_run.proofs.RunLevels.{sum-append}
 use Rattle.frame_run.specs.HeldRows.{GivesHeld, GivesLists, owed, rows_of}
 use Rattle.frame_run.specs.declared.held.Held.{Held}
 

@@ -5,6 +5,6 @@ pub use Rattle.context_typing.specs.Shapes
 pub use Rattle.apply_meaning.specs.Meaning
 pub use Rattle.apply_meaning.specs.Running
 pub use Rattle.hier_states.specs.NamedHierarchies
-pub use Rattle.pipe_run.specs.Conditions
-pub use Rattle.pipe_run.specs.Costs
+pub use Rattle.step_run.specs.Conditions
+pub use Rattle.step_run.specs.Costs
 pub mod HeldRows

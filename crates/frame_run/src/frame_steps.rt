@@ -13,9 +13,9 @@ ghost use Rattle.apply_meaning.specs.Running.{all_free, all_of, new_columns};
 ghost use Rattle.row_frames.specs.Frames.{GivesFrame};
 ghost use Rattle.row_orders.specs.Places.{GivesOrder};
 ghost use Rattle.hier_states.specs.States.{IsReadyAt};
-ghost use Rattle.pipe_run.specs.Conditions.{LimitReady, StepReadyFrom};
-ghost use Rattle.pipe_run.specs.Costs.{walk_cost};
-ghost use Rattle.pipe_run.specs.Hierarchies.{climb_from, traversal};
+ghost use Rattle.step_run.specs.Conditions.{LimitReady, StepReadyFrom};
+ghost use Rattle.step_run.specs.Costs.{walk_cost};
+ghost use Rattle.step_run.specs.Hierarchies.{climb_from, traversal};
 ghost use Rattle.frame_run.specs.HeldRows.{rows_of};
 
 use crate::held::Held;
@@ -24,13 +24,13 @@ use apply_meaning::{Row, RunRefused, Steps, data_is_loaded};
 use edm_data::Data;
 use edm_model::TypeId;
 use par_stages::Gate;
-use pipe_run::{Context, aggregated, climbed_places, selected_places, traversed_places};
 use row_frames::Frame;
 use row_orders::item_places;
 use row_values::{PlacedRows, RowList};
 use std::alloc::{AllocError, Global};
 use std::sync::ledger::Ledger;
 use std::thread::Threads;
+use step_run::{Context, aggregated, climbed_places, selected_places, traversed_places};
 
 /// The instances have values that a selection can be made by.
 fn selection_ready<R: Threads + Sync, G: Gate>(

@@ -14,8 +14,9 @@ ghost use Rattle.apply_meaning.specs.Meaning.{Outcome, inner_mean, joined, mean,
 ghost use Rattle.apply_meaning.specs.Running.{Gives, all_of};
 ghost use Rattle.row_frames.specs.Frames.{GivesFrame};
 ghost use Rattle.hier_states.specs.NamedHierarchies.{branch_hierarchies, hierarchies, inner_hierarchies, step_hierarchies};
-ghost use Rattle.pipe_run.specs.Conditions.{AreReady, BranchesReady, BranchesRun, InnerReady, InnerRuns, ReadyFrom, RelatedReady, RelatedRun, RunsFrom, StepReadyFrom, StepRunsFrom, is_grouping};
-ghost use Rattle.pipe_run.specs.Costs.{application, applications, cost, inner_cost, step_cost};
+ghost use Rattle.pipe_run.specs.SeveralRuns.{BranchesReady, BranchesRun, RelatedReady, RelatedRun};
+ghost use Rattle.step_run.specs.Conditions.{AreReady, InnerReady, InnerRuns, ReadyFrom, RunsFrom, StepReadyFrom, StepRunsFrom, is_grouping};
+ghost use Rattle.step_run.specs.Costs.{application, applications, cost, inner_cost, step_cost};
 ghost use Rattle.join_concat.specs.Joins.{has_root_of};
 ghost use Rattle.frame_run.specs.HeldRows as spec;
 
@@ -30,12 +31,13 @@ use apply_ast::{ClimbStep, Expr, JoinStep, Name, Pipe, PipeList, Step};
 use apply_meaning::{Row, RunRefused, Steps, data_is_loaded};
 use edm_model::{NavId, TypeId};
 use par_stages::Gate;
-use pipe_run::{Context, grouped_frame, root_after, run_grouping, run_step};
+use pipe_run::{run_grouping, run_step};
 use row_frames::Frame;
 use row_values::RowList;
 use std::alloc::{AllocError, Global};
 use std::sync::ledger::Ledger;
 use std::thread::Threads;
+use step_run::{Context, grouped_frame, kept_frame, root_after};
 
 /// The rows that a pipeline has come to.
 #[derive(Debug, Drop)]
@@ -152,7 +154,7 @@ fn held_groups<L: Ledger>(
 }
 
 /// What a grouping gives on a frame: a frame where its groups are told by numbers, and else rows.
-fn frame_grouped<R: Threads + Sync, G: Gate, L: Ledger>(
+fn frame_numbered<R: Threads + Sync, G: Gate, L: Ledger>(
     alloc: Global,
     context: &Context<'_, R, G>,
     root: &Option<TypeId>,
@@ -173,6 +175,31 @@ fn frame_grouped<R: Threads + Sync, G: Gate, L: Ledger>(
     match grouped_frame(alloc, context, root, step, &list)? {
         Some(made) => held_groups(alloc, made, steps),
         None => as_held(run_grouping(alloc, context, root, step, &list, steps)),
+    }
+}
+
+/// What a grouping gives on a frame: a frame where its inner pipeline only keeps some of the instances of each group, or puts them in
+/// order, or where its groups are told by numbers, and else rows.
+fn frame_grouped<R: Threads + Sync, G: Gate, L: Ledger>(
+    alloc: Global,
+    context: &Context<'_, R, G>,
+    root: &Option<TypeId>,
+    step: &Step,
+    frame: &Frame,
+    steps: &mut Steps<L>,
+) -> Result<Held, RunRefused>
+    requires grouping { IsTrue (is_grouping (step_of step.now)) }
+    requires ready { StepReadyFrom context.now root.now (step_of step.now) frame.now }
+    requires named { AreReady context.now (step_hierarchies (step_of step.now)) }
+    ensures mean { (S S' : Shape) → StepRunsFrom context.now root.now S S' (step_of step.now) frame.now
+        → spec.GivesHeld result (step_mean context.now.world (readings context.now.customs) S (step_of step.now) frame.now) }
+    ensures steps { (S S' : Shape) → StepRunsFrom context.now root.now S S' (step_of step.now) frame.now
+        → steps.new + spec.owed_by result ≤ steps.old + step_cost context.now.world (readings context.now.customs) S (step_of step.now) frame.now }
+    ensures grown { steps.old ≤ steps.new }
+{
+    match kept_frame(alloc, context, root, step, frame)? {
+        Some(made) => held_groups(alloc, made, steps),
+        None => frame_numbered(alloc, context, root, step, frame, steps),
     }
 }
 

@@ -12,7 +12,8 @@ ghost use Rattle.apply_meaning.specs.Instances.{no_instance};
 ghost use Rattle.apply_meaning.specs.Meaning as meaning;
 ghost use Rattle.join_concat.specs.Joins.{bound_rows, has_root_of, is_free_of};
 ghost use Rattle.row_frames.specs.Related.{placed};
-ghost use Rattle.pipe_run.specs.Conditions.{InnerReady, RelatedReady, StepReadyFrom};
+ghost use Rattle.pipe_run.specs.SeveralRuns.{RelatedReady};
+ghost use Rattle.step_run.specs.Conditions.{InnerReady, StepReadyFrom};
 ghost use Rattle.frame_run.specs.HeldRows.{owed, owed_by, rows_of};
 
 use crate::held::{Held, made_rows};
@@ -21,11 +22,11 @@ use apply_meaning::{Row, Steps, data_is_loaded};
 use edm_model::{NavId, SetId, TypeId};
 use join_concat::{join, outerjoin};
 use par_stages::Gate;
-use pipe_run::Context;
 use row_frames::Frame;
 use std::alloc::{AllocError, Global};
 use std::sync::ledger::Ledger;
 use std::thread::Threads;
+use step_run::Context;
 
 /// The navigation property that a join takes, which is one of the type at the empty prefix.
 pub(crate) fn join_navigation<R: Threads + Sync, G: Gate>(

@@ -24,11 +24,11 @@ use Rattle.apply_meaning.specs.Meaning.{climbed, mean, refused_at_beyond, step_m
 use Rattle.apply_meaning.specs.MeaningLaws.{IsLoaded}
 use Rattle.apply_meaning.specs.Running.{all_of}
 use Rattle.std.specs.List.{list_all}
-use Rattle.pipe_run.proofs.CostEquations.{inner_costs-Climb, inner_costs-Traverse}
-use Rattle.pipe_run.specs.Conditions.{RunsFrom, StepRunsFrom}
-use Rattle.pipe_run.specs.Contexts.{Context}
-use Rattle.pipe_run.specs.Costs.{cost, result_length, step_cost, walk_cost}
-use Rattle.pipe_run.specs.Hierarchies.{climb_from, traversal}
+use Rattle.step_run.proofs.CostEquations.{inner_costs-Climb, inner_costs-Traverse}
+use Rattle.step_run.specs.Conditions.{RunsFrom, StepRunsFrom}
+use Rattle.step_run.specs.Contexts.{Context}
+use Rattle.step_run.specs.Costs.{cost, result_length, step_cost, walk_cost}
+use Rattle.step_run.specs.Hierarchies.{climb_from, traversal}
 
 -- the hierarchy of a path to its nodes is in the model
 there : (m : Model) (S : Shape) (h : HierName) (p : Path) → is_node_path m S h p ≡ true → is_some (hierarchy_at m h) ≡ true

@@ -18,12 +18,13 @@ use Rattle.context_typing.specs.Typing.{Customs, branch_shapes, concat_shape, st
 use Rattle.apply_meaning.proofs.MeaningEquations.{branch_means-MorePipes, branch_means-NoPipes, step_mean-Concat}
 use Rattle.apply_meaning.specs.Instances.{Instance}
 use Rattle.apply_meaning.specs.Meaning.{branch_means, joined, mean, step_mean}
-use Rattle.pipe_run.proofs.CostEquations.{branch_costs-MorePipes, branch_costs-NoPipes, inner_costs-Concat}
-use Rattle.pipe_run.proofs.GroupLemmas.{next-sum, sum-cons}
-use Rattle.pipe_run.specs.Conditions.{BranchesRun, RunsFrom, StepRunsFrom}
-use Rattle.pipe_run.specs.Contexts.{Context}
-use Rattle.pipe_run.specs.Costs.{application, branch_costs, cost, step_cost}
-use Rattle.pipe_run.proofs.RunLevels.{slice-at}
+use Rattle.step_run.proofs.CostEquations.{branch_costs-MorePipes, branch_costs-NoPipes, inner_costs-Concat}
+use Rattle.step_run.proofs.GroupLemmas.{next-sum, sum-cons}
+use Rattle.pipe_run.specs.SeveralRuns.{BranchesRun}
+use Rattle.step_run.specs.Conditions.{RunsFrom, StepRunsFrom}
+use Rattle.step_run.specs.Contexts.{Context}
+use Rattle.step_run.specs.Costs.{application, branch_costs, cost, step_cost}
+use Rattle.step_run.proofs.RunLevels.{slice-at}
 
 -- ---- the meaning
 

@@ -17,8 +17,8 @@ use Rattle.context_typing.specs.Typing.{Customs, inner_shape, is_free, join_navi
 use Rattle.apply_meaning.specs.Instances.{Instance}
 use Rattle.join_concat.proofs.JoinLemmas.{fit-free, fit-root}
 use Rattle.join_concat.specs.Joins.{has_root_of, is_free_of}
-use Rattle.pipe_run.specs.Conditions.{StepReadyFrom}
-use Rattle.pipe_run.specs.Contexts.{Context}
+use Rattle.step_run.specs.Conditions.{StepReadyFrom}
+use Rattle.step_run.specs.Contexts.{Context}
 
 -- the parts of a typed join: the type at the empty prefix, its navigation property with its place, the shape of what is related, and the alias, which is free
 pub record JoinTyped (m : Model) (c : Customs) (S S' : Shape) (outer : Bool) (n a : Name) (T : OptPipe) : Type 0 where

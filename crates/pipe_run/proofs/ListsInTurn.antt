@@ -12,7 +12,7 @@ use Rattle.edm_values.specs.Refusals.{Returns}
 use Rattle.apply_meaning.specs.Instances.{Instance}
 use Rattle.apply_meaning.specs.Meaning.{Outcome}
 use Rattle.apply_meaning.specs.Running.{Gives}
-use Rattle.pipe_run.proofs.GroupLemmas.{next-map}
+use Rattle.step_run.proofs.GroupLemmas.{next-map}
 
 -- several lists, refused where one of them is
 abbrev pub Lists : Type 0

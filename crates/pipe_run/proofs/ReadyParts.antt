@@ -9,9 +9,9 @@ use Rattle.apply_ast.specs.declared.steps.Step as of_step
 use Rattle.apply_meaning.proofs.RunLemmas.{next-step}
 use Rattle.hier_states.specs.NamedHierarchies.{branch_hierarchies, hierarchies, key_hierarchies, keys_hierarchies, step_hierarchies}
 use Rattle.hier_states.specs.States.{IsReadyAt}
-use Rattle.pipe_run.specs.Conditions.{AreReady}
-use Rattle.pipe_run.specs.Contexts.{Context}
-use Rattle.pipe_run.specs.RecursiveKeys.{HasKey}
+use Rattle.step_run.specs.Conditions.{AreReady}
+use Rattle.step_run.specs.Contexts.{Context}
+use Rattle.step_run.specs.RecursiveKeys.{HasKey}
 
 -- a fact of all elements of two lists holds of those of each
 

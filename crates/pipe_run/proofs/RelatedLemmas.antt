@@ -24,14 +24,15 @@ use Rattle.apply_meaning.proofs.MeaningProved.{loaded-related}
 use Rattle.apply_meaning.specs.Instances.{Instance}
 use Rattle.apply_meaning.specs.Meaning.{Outcome, bound_to, inner_mean, joined, mean, related_rows, step_mean}
 use Rattle.apply_meaning.specs.MeaningLaws.{AllFit, IsLoaded}
-use Rattle.pipe_run.proofs.CostEquations.{applications-NoPipe, applications-SomePipe, inner_costs-Join}
-use Rattle.pipe_run.proofs.GroupLemmas.{next-sum}
+use Rattle.step_run.proofs.CostEquations.{applications-NoPipe, applications-SomePipe, inner_costs-Join}
+use Rattle.step_run.proofs.GroupLemmas.{next-sum}
 use Rattle.pipe_run.proofs.ListsInTurn.{all-long}
-use Rattle.pipe_run.proofs.RunLevels.{slice-at}
+use Rattle.step_run.proofs.RunLevels.{slice-at}
 use Rattle.pipe_run.proofs.JoinParts.{JoinTyped, join-typed}
-use Rattle.pipe_run.specs.Conditions.{InnerRuns, RelatedReady, RelatedRun, StepRunsFrom}
-use Rattle.pipe_run.specs.Contexts.{Context}
-use Rattle.pipe_run.specs.Costs.{application, applications, cost, inner_cost, inner_costs, result_length, step_cost}
+use Rattle.pipe_run.specs.SeveralRuns.{RelatedReady, RelatedRun}
+use Rattle.step_run.specs.Conditions.{InnerRuns, StepRunsFrom}
+use Rattle.step_run.specs.Contexts.{Context}
+use Rattle.step_run.specs.Costs.{application, applications, cost, inner_cost, inner_costs, result_length, step_cost}
 
 -- ---- the meaning
 

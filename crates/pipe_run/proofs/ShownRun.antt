@@ -23,10 +23,10 @@ use Rattle.row_orders.specs.Ranks.{GivesNumbers}
 use Rattle.apply_meaning.specs.MeaningLaws.{IsLoaded}
 use Rattle.hier_rows.proofs.ShownLaws.{roots-below}
 use Rattle.hier_rows.specs.HierRows.{AreRootsBelow}
-use Rattle.pipe_run.proofs.CostEquations.{given_applications-SomePipe}
-use Rattle.pipe_run.specs.Conditions.{RunsFrom, ShownRuns}
-use Rattle.pipe_run.specs.Contexts.{Context}
-use Rattle.pipe_run.specs.Costs.{cost, given_applications}
+use Rattle.step_run.proofs.CostEquations.{given_applications-SomePipe}
+use Rattle.step_run.specs.Conditions.{RunsFrom, ShownRuns}
+use Rattle.step_run.specs.Contexts.{Context}
+use Rattle.step_run.specs.Costs.{cost, given_applications}
 
 -- the type of the set of a hierarchy's nodes
 pub type-of : (m : Model) (h : HierName) (f : HierarchyPlace) (s : ℕ) → hierarchy_at m h ≡ Some f → s ≡ f.set → set_type m s ≡ f.type

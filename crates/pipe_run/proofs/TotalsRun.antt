@@ -25,17 +25,17 @@ use Rattle.apply_meaning.specs.Running.{Gives}
 use Rattle.row_orders.specs.Ranks.{GivesNumbers}
 use Rattle.hier_states.specs.States.{IsReadyAt}
 use Rattle.hier_states.specs.NamedHierarchies.{inner_hierarchies, keys_hierarchies, step_hierarchies}
-use Rattle.pipe_run.proofs.GroupingLevels.{shown-gives, shown-is, shown-least}
-use Rattle.pipe_run.proofs.KeyParts.{Recursive, recursive}
-use Rattle.pipe_run.proofs.LevelLemmas.{keys-least, keys-ready, levels-refused}
+use Rattle.step_run.proofs.GroupingLevels.{shown-gives, shown-is, shown-least}
+use Rattle.step_run.proofs.KeyParts.{Recursive, recursive}
+use Rattle.step_run.proofs.LevelLemmas.{keys-least, keys-ready, levels-refused}
 use Rattle.pipe_run.proofs.ReadyParts.{ready-first, ready-front, ready-key, ready-others}
-use Rattle.pipe_run.proofs.RunLevels.{levels-err}
-use Rattle.pipe_run.proofs.TotalLaws.{totals-cost, totals-mean}
-use Rattle.pipe_run.specs.Conditions.{AreReady, KeysReady, StepRunsFrom}
-use Rattle.pipe_run.specs.Contexts.{Context}
-use Rattle.pipe_run.specs.Costs.{given_applications, step_cost}
-use Rattle.pipe_run.specs.RecursiveKeys.{HasKey}
-use Rattle.pipe_run.specs.Totals.{GivesTotals, totals, totals_step}
+use Rattle.step_run.proofs.RunLevels.{levels-err}
+use Rattle.step_run.proofs.TotalLaws.{totals-cost, totals-mean}
+use Rattle.step_run.specs.Conditions.{AreReady, KeysReady, StepRunsFrom}
+use Rattle.step_run.specs.Contexts.{Context}
+use Rattle.step_run.specs.Costs.{given_applications, step_cost}
+use Rattle.step_run.specs.RecursiveKeys.{HasKey}
+use Rattle.step_run.specs.Totals.{GivesTotals, totals, totals_step}
 
 module _ (x : Context) (h : HierName) (p : Path) (T : OptPipe) (items : List AggItem) where
   abbrev key : Key

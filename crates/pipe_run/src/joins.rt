@@ -8,14 +8,14 @@ ghost use Rattle.context_typing.specs.Shapes.{Shape};
 ghost use Rattle.context_typing.specs.Typing as typing;
 ghost use Rattle.context_typing.specs.Typing.{root_type};
 ghost use Rattle.join_concat.specs.Joins.{has_root_of, is_free_of};
-ghost use Rattle.pipe_run.specs.Conditions.{StepReadyFrom};
+ghost use Rattle.step_run.specs.Conditions.{StepReadyFrom};
 
-use crate::contexts::Context;
 use apply_ast::{Name, Pipe};
 use apply_meaning::{Row, data_is_loaded};
 use edm_model::{NavId, TypeId};
 use par_stages::Gate;
 use std::thread::Threads;
+use step_run::Context;
 
 /// The navigation property that a join takes, which is one of the type at the empty prefix.
 pub(crate) fn join_navigation<R: Threads + Sync, G: Gate>(

@@ -21,25 +21,15 @@ ghost use Rattle.join_concat.specs.Joins.{has_root_of};
 ghost use Rattle.row_orders.specs.Ranks.{GivesNumbers};
 ghost use Rattle.hier_states.specs.NamedHierarchies.{branch_hierarchies, hierarchies, inner_hierarchies, keys_hierarchies, step_hierarchies};
 ghost use Rattle.hier_states.specs.States.{IsReadyAt};
-ghost use Rattle.pipe_run.specs.Conditions.{AreReady, BranchesReady, BranchesRun, GivesAll, GroupReady, GroupRuns, InnerReady, InnerRuns, KeysReady, LevelsReady, LevelsRun, LimitReady, ReadyFrom, RelatedReady, RelatedRun, RunsFrom, ShownReady, ShownRuns, StepReadyFrom, StepRunsFrom, charge_of, is_grouping};
-ghost use Rattle.pipe_run.specs.Costs.{application, applications, cost, given_applications, inner_cost, keys_cost, step_cost};
-ghost use Rattle.pipe_run.specs.ItemLists.{AreFirstLists};
-ghost use Rattle.pipe_run.specs.Levels.{GivesLevels, group_made, level_lists, level_made};
-ghost use Rattle.pipe_run.specs.Totals.{totals_step};
+ghost use Rattle.pipe_run.specs.SeveralRuns.{BranchesReady, BranchesRun, GivesAll, RelatedReady, RelatedRun};
+ghost use Rattle.step_run.specs.Conditions.{AreReady, GroupReady, GroupRuns, InnerReady, InnerRuns, KeysReady, LevelsReady, LevelsRun, LimitReady, ReadyFrom, RunsFrom, ShownReady, ShownRuns, StepReadyFrom, StepRunsFrom, charge_of, is_grouping};
+ghost use Rattle.step_run.specs.Costs.{application, applications, cost, given_applications, inner_cost, keys_cost, step_cost};
+ghost use Rattle.step_run.specs.ItemLists.{AreFirstLists};
+ghost use Rattle.step_run.specs.Levels.{GivesLevels, group_made, level_lists, level_made};
+ghost use Rattle.step_run.specs.Totals.{totals_step};
 
-use crate::aggregations::aggregated;
-use crate::contexts::Context;
 use crate::copies::copy_rows;
-use crate::group_totals::{group_totals, run_group_totals};
-use crate::groups::{key_rows, with_keys};
-use crate::hierarchies::{climb_rows, traverse_rows};
-use crate::item_lists::{ItemList, aggregated_at, first_lists};
 use crate::joins::{alias_ready, join_navigation};
-use crate::levels::{Level, all_paths, levels_of};
-use crate::recursive::node_levels;
-use crate::roots::root_after;
-use crate::selections::select_rows;
-use crate::totals::{NodeTotals, node_totals, total_rows};
 use apply_ast::{
     ClimbStep, HierName, JoinStep, KeyItem, KeyList, Name, Path, Pipe, PipeList, Step, TopStep,
 };
@@ -53,6 +43,11 @@ use row_values::{PlacedRows, RowList};
 use std::alloc::Global;
 use std::sync::ledger::Ledger;
 use std::thread::Threads;
+use step_run::{
+    Context, ItemList, Level, NodeTotals, aggregated, aggregated_at, all_paths, as_group_totals,
+    climb_rows, first_lists, key_rows, levels_of, node_levels, node_totals, root_after,
+    run_group_totals, select_rows, total_rows, traverse_rows, with_keys,
+};
 
 /// The next transformation of a pipeline may be run.
 fn step_ready<R: Threads + Sync, G: Gate>(
@@ -356,7 +351,7 @@ pub fn run_grouping<R: Threads + Sync, G: Gate, L: Ledger>(
     ensures grown { steps.old ≤ steps.new }
 {
     let Some(totals) = node_totals(step) else {
-        if let Some(groups) = group_totals(step) {
+        if let Some(groups) = as_group_totals(step) {
             return run_group_totals(alloc, context, root, step, &groups, rows, steps);
         }
         return run_by_levels(alloc, context, root, step, rows, steps);

@@ -20,8 +20,8 @@ use Rattle.context_typing.specs.Shapes.{Shape}
 use Rattle.context_typing.specs.declared.typed.Typed.{Typed}
 use Rattle.context_typing.specs.Readings.{readings}
 use Rattle.hier_states.specs.States.{IsReadyAt}
-use Rattle.pipe_run.specs.Conditions.{AreReady, RunsFrom}
-use Rattle.pipe_run.specs.Contexts.{Context}
+use Rattle.step_run.specs.Conditions.{AreReady, RunsFrom}
+use Rattle.step_run.specs.Contexts.{Context}
 
 -- the plan's own pipeline runs on the instances of its set
 pub plan-runs : (w : World) (c : Customs) (p : Plan) (l : List Instance) → IsLoaded w → IsTrue (customs_typed w.model c) → IsPlan w.model c p → IsSet w.model (written_of p).set

@@ -8,4 +8,4 @@ pub use Rattle.apply_meaning.specs.Meaning
 pub use Rattle.apply_meaning.specs.Running
 pub use Rattle.hier_states.specs.NamedHierarchies
 pub use Rattle.hier_states.specs.States
-pub use Rattle.pipe_run.specs.Costs
+pub use Rattle.step_run.specs.Costs

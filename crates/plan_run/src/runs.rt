@@ -7,9 +7,9 @@ ghost use Rattle.context_typing.specs.Typing.{customs_typed, shape_of_set};
 ghost use Rattle.apply_meaning.specs.Instances as instances;
 ghost use Rattle.apply_meaning.specs.Meaning.{mean};
 ghost use Rattle.apply_meaning.specs.Running.{Gives};
-ghost use Rattle.pipe_run.specs.Conditions.{AreReady, RunsFrom};
+ghost use Rattle.step_run.specs.Conditions.{AreReady, RunsFrom};
 ghost use Rattle.optimiser.specs.Plans.{IsPlan, own_of, written_of};
-ghost use Rattle.pipe_run.specs.Costs.{total_cost};
+ghost use Rattle.step_run.specs.Costs.{total_cost};
 ghost use Rattle.frame_run.specs.HeldRows.{rows_of};
 ghost use Rattle.hier_states.specs.NamedHierarchies.{hierarchies};
 ghost use Rattle.hier_states.specs.States.{IsReadyAt};
@@ -22,11 +22,11 @@ use frame_run::{Held, run_held};
 use hier_states::HierState;
 use optimiser::Plan;
 use par_stages::Gate;
-use pipe_run::Context;
 use row_frames::Frame;
 use std::alloc::Global;
 use std::sync::ledger::Ledger;
 use std::thread::Threads;
+use step_run::Context;
 
 /// A plan may be run on the instances of its entity set: it means there what was written, and names no other hierarchy.
 fn plan_ready<R: Threads + Sync, G: Gate>(

@@ -5,7 +5,7 @@ use Rattle.apply_ast.specs.Views.{agg_of}
 use Rattle.context_typing.specs.Readings.{readings}
 use Rattle.apply_meaning.specs.Instances.{Instance}
 use Rattle.apply_meaning.specs.Meaning.{step_mean}
-use Rattle.pipe_run.specs.Conditions.{StepReadyFrom}
+use Rattle.step_run.specs.Conditions.{StepReadyFrom}
 use Rattle.frame_run.proofs.frame_steps.frame_aggregated.Goals as goal
 
 pub aggregated-requires-clause-ready : goal.aggregated-requires-clause-ready

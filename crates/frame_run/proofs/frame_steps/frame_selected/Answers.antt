@@ -11,7 +11,7 @@ use Rattle.apply_ast.specs.Views.{top_of}
 use Rattle.apply_meaning.specs.Instances.{Instance, val}
 use Rattle.apply_meaning.specs.Meaning.{reaches, values}
 use Rattle.row_frames.specs.Frames.{GivesFrame}
-use Rattle.pipe_run.specs.Conditions.{LimitReady}
+use Rattle.step_run.specs.Conditions.{LimitReady}
 use Rattle.frame_run.proofs.FrameSteps.{frame-numbers}
 use Rattle.frame_run.proofs.frame_steps.frame_selected.Goals as goal
 

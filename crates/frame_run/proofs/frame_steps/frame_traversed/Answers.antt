@@ -6,7 +6,7 @@ use Rattle.edm_values.specs.Lists.{at_places}
 use Rattle.apply_ast.specs.Views.{traverse_of}
 use Rattle.apply_meaning.specs.Instances.{Instance}
 use Rattle.row_orders.specs.Places.{GivesOrder}
-use Rattle.pipe_run.specs.Hierarchies.{traversal}
+use Rattle.step_run.specs.Hierarchies.{traversal}
 use Rattle.frame_run.proofs.FrameSteps.{frame-order}
 use Rattle.frame_run.proofs.frame_steps.frame_traversed.Goals as goal
 

@@ -15,8 +15,9 @@ use Rattle.apply_meaning.proofs.MeaningEquations.{inner_mean-NoPipe, inner_mean-
 use Rattle.apply_meaning.proofs.RunLemmas.{all-fit-of, turn, next-step}
 use Rattle.row_frames.specs.Frames.{GivesFrame}
 use Rattle.hier_states.specs.NamedHierarchies.{branch_hierarchies, hierarchies, inner_hierarchies, step_hierarchies}
-use Rattle.pipe_run.specs.Conditions.{AreReady, BranchesReady, InnerRuns, ReadyFrom, RunsFrom, StepReadyFrom, StepRunsFrom}
-use Rattle.pipe_run.specs.Costs.{cost, inner_cost, result_length, step_cost}
+use Rattle.pipe_run.specs.SeveralRuns.{BranchesReady}
+use Rattle.step_run.specs.Conditions.{AreReady, InnerRuns, ReadyFrom, RunsFrom, StepReadyFrom, StepRunsFrom}
+use Rattle.step_run.specs.Costs.{cost, inner_cost, result_length, step_cost}
 use Rattle.frame_run.specs.HeldRows.{GivesHeld, owed, rows_of}
 use Rattle.frame_run.specs.declared.held.Held.{Held}
 use Rattle.edm_model.specs.Models.{Navigation}
@@ -30,10 +31,10 @@ use Rattle.frame_run.proofs.JoinLemmas.{join-refused, lists-refused, more-owed, 
 use Rattle.frame_run.proofs.HeldLemmas.{climb-inner, held-refused, owed-beside}
 use Rattle.pipe_run.proofs.ClimbLemmas.{climb-costs, climb-means, climb-of}
 use Rattle.pipe_run.proofs.ConcatLemmas.{branch-at, branch-turn, concat-run}
-use Rattle.pipe_run.proofs.GroupLemmas.{begun}
+use Rattle.step_run.proofs.GroupLemmas.{begun}
 use Rattle.pipe_run.proofs.ReadyParts.{ready-branch, ready-first, ready-here, ready-next, ready-others}
-use Rattle.pipe_run.proofs.RunLemmas.{turn-cost, turn-least}
-use Rattle.pipe_run.proofs.RunLevels.{last-joined, next-joined, next-refused}
+use Rattle.step_run.proofs.RunLemmas.{turn-cost, turn-least}
+use Rattle.step_run.proofs.RunLevels.{last-joined, next-joined, next-refused}
 use Rattle.frame_run.proofs.held.+held.Goals as goal
 
 -- ---- the transformations of a pipeline

@@ -9,8 +9,9 @@ use Rattle.context_typing.specs.Readings.{readings}
 use Rattle.context_typing.specs.Shapes.{Shape}
 use Rattle.apply_meaning.specs.Meaning.{joined, mean}
 use Rattle.hier_states.specs.NamedHierarchies.{hierarchies}
-use Rattle.pipe_run.specs.Conditions.{AreReady, BranchesRun, RelatedRun, RunsFrom}
-use Rattle.pipe_run.specs.Costs.{cost}
+use Rattle.pipe_run.specs.SeveralRuns.{BranchesRun, RelatedRun}
+use Rattle.step_run.specs.Conditions.{AreReady, RunsFrom}
+use Rattle.step_run.specs.Costs.{cost}
 use Rattle.pipe_run.proofs.ConcatLemmas.{branch_charge}
 use Rattle.pipe_run.proofs.RelatedLemmas.{related_charge, related_mean}
 use Rattle.frame_run.specs.HeldRows.{owed, rows_of}

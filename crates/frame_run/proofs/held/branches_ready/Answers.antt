@@ -2,7 +2,7 @@ use Rattle.std.proofs.Common.{ap, subst, map}
 use Rattle.apply_ast.proofs.ViewEquations.{pipes_of-is}
 use Rattle.apply_ast.specs.Trees.{Step}
 use Rattle.apply_ast.specs.Views.{pipe_of, pipes_in}
-use Rattle.pipe_run.specs.Conditions.{StepRunsFrom}
+use Rattle.step_run.specs.Conditions.{StepRunsFrom}
 use Rattle.pipe_run.proofs.ConcatLemmas.{branches-run}
 use Rattle.frame_run.proofs.held.branches_ready.Goals as goal
 

@@ -11,13 +11,13 @@ use Rattle.apply_meaning.proofs.MeaningEquations.{step_mean-Compute, step_mean-F
 use Rattle.apply_meaning.proofs.RunLemmas.{all-fit-of}
 use Rattle.row_frames.specs.Frames.{GivesFrame}
 use Rattle.hier_states.specs.NamedHierarchies.{step_hierarchies}
-use Rattle.pipe_run.specs.Conditions.{AreReady, StepReadyFrom, StepRunsFrom}
-use Rattle.pipe_run.specs.Costs.{step_cost}
-use Rattle.pipe_run.specs.Hierarchies.{traversal}
+use Rattle.step_run.specs.Conditions.{AreReady, StepReadyFrom, StepRunsFrom}
+use Rattle.step_run.specs.Costs.{step_cost}
+use Rattle.step_run.specs.Hierarchies.{traversal}
 use Rattle.frame_run.proofs.HeldLemmas.{made-least, owed-least, owed-length}
 use Rattle.pipe_run.proofs.ClimbLemmas.{traverse-run}
 use Rattle.pipe_run.proofs.ReadyParts.{ready-first}
-use Rattle.pipe_run.proofs.RunLemmas.{aggregate-cost}
+use Rattle.step_run.proofs.RunLemmas.{aggregate-cost}
 use Rattle.frame_run.proofs.held.run_on_frame.Goals as goal
 
 pub frame_filter-requires-after_bounds : goal.frame_filter-requires-after_bounds

@@ -3,8 +3,8 @@ use Rattle.apply_ast.specs.Views.{step_of}
 use Rattle.context_typing.specs.Readings.{readings}
 use Rattle.apply_meaning.specs.Meaning.{step_mean}
 use Rattle.apply_meaning.specs.Running.{Gives}
-use Rattle.pipe_run.specs.Conditions.{StepReadyFrom, StepRunsFrom}
-use Rattle.pipe_run.specs.Costs.{step_cost}
+use Rattle.step_run.specs.Conditions.{StepReadyFrom, StepRunsFrom}
+use Rattle.step_run.specs.Costs.{step_cost}
 use Rattle.frame_run.proofs.held.run_on_rows.Goals as goal
 
 pub run_step-requires-clause-ready : goal.run_step-requires-clause-ready

@@ -18,18 +18,19 @@ use Rattle.apply_ast.specs.Trees as tree
 use Rattle.apply_ast.specs.Views.{key_of, agg_of, expr_of, inner_of, item_of, keys_of, named_of, pipe_of, step_of, pipes_in, top_of, climb_of, hier_of, traverse_of}
 use Rattle.apply_ast.proofs.ViewEquations.{step_of-Aggregate, step_of-GroupBy, step_of-Identity, step_of-Filter, step_of-Compute, step_of-OrderBy, step_of-Skip, step_of-Top, join_of-is, pipes_of-is, step_of-Concat, step_of-Join, step_of-TopBy, climb_of-is, key_of-Plain, key_of-Recursive, key_of-Rollup, step_of-Climb, step_of-Traverse}
 use Rattle.context_typing.specs.Readings.{readings}
-use Rattle.pipe_run.specs.Conditions.{AreReady, RunsFrom, StepReadyFrom, StepRunsFrom, charge_of, BranchesReady, InnerRuns, ReadyFrom, ShownReady}
-use Rattle.pipe_run.specs.Costs.{cost, result_length, step_cost, inner_cost, given_applications}
-use Rattle.pipe_run.proofs.AggregateFirst.{begun, begun-by, behind-first}
-use Rattle.pipe_run.proofs.GroupingRun.{grouping-run, levels-found, step-cost-on, step-mean-on, step-runs-on}
+use Rattle.pipe_run.specs.SeveralRuns.{BranchesReady}
+use Rattle.step_run.specs.Conditions.{AreReady, RunsFrom, StepReadyFrom, StepRunsFrom, charge_of, InnerRuns, ReadyFrom, ShownReady}
+use Rattle.step_run.specs.Costs.{cost, result_length, step_cost, inner_cost, given_applications}
+use Rattle.step_run.proofs.AggregateFirst.{begun, begun-by, behind-first}
+use Rattle.step_run.proofs.GroupingRun.{grouping-run, levels-found, step-cost-on, step-mean-on, step-runs-on}
 use Rattle.pipe_run.proofs.ReadyParts.{ready-back, ready-branch, ready-front, ready-here, ready-next, ready-first, ready-key, ready-others}
-use Rattle.pipe_run.proofs.RunLemmas.{turn-cost, turn-least, compute-cost, aggregate-cost, cost-same, gives-same, ready-same, runs-same}
-use Rattle.pipe_run.specs.ItemLists.{AreFirstLists}
-use Rattle.pipe_run.specs.Levels.{Level, group_made, level_made}
-use Rattle.pipe_run.specs.Roots.{LeadsTo}
-use Rattle.pipe_run.proofs.GroupLemmas.{next-sum}
-use Rattle.pipe_run.proofs.LevelLemmas.{keys-least, keys-ready}
-use Rattle.pipe_run.proofs.RunLevels.{group-run, last-joined, level-costs, levels-err, next-group, next-joined, next-level, next-refused, read-key, read-places, slice-at, total-charge}
+use Rattle.step_run.proofs.RunLemmas.{turn-cost, turn-least, compute-cost, aggregate-cost, cost-same, gives-same, ready-same, runs-same}
+use Rattle.step_run.specs.ItemLists.{AreFirstLists}
+use Rattle.step_run.specs.Levels.{Level, group_made, level_made}
+use Rattle.step_run.specs.Roots.{LeadsTo}
+use Rattle.step_run.proofs.GroupLemmas.{next-sum}
+use Rattle.step_run.proofs.LevelLemmas.{keys-least, keys-ready}
+use Rattle.step_run.proofs.RunLevels.{group-run, last-joined, level-costs, levels-err, next-group, next-joined, next-level, next-refused, read-key, read-places, slice-at, total-charge}
 use Rattle.std.specs.Global.{Vec}
 use Rattle.std.proofs.lemmas.List.{length-map, map-append}
 use Rattle.std.proofs.lemmas.List.Folds.{flat_map-map}
@@ -46,16 +47,16 @@ use Rattle.edm_data.specs.References.{count}
 use Rattle.context_typing.specs.Typing.{hierarchy_at, plain_paths, rollup_paths}
 use Rattle.apply_meaning.specs.Instances as instances
 use Rattle.hier_rows.specs.HierRows.{AreNodesBelow, AreRootsBelow}
-use Rattle.pipe_run.specs.Hierarchies.{climb_from, traversal}
-use Rattle.pipe_run.specs.RecursiveKeys.{is_flat_key}
+use Rattle.step_run.specs.Hierarchies.{climb_from, traversal}
+use Rattle.step_run.specs.RecursiveKeys.{is_flat_key}
 use Rattle.pipe_run.proofs.ClimbLemmas.{climb-costs, climb-means, climb-of, traverse-run}
-use Rattle.pipe_run.proofs.ClimbOutcomes.{found}
+use Rattle.step_run.proofs.ClimbOutcomes.{found}
 use Rattle.edm_values.proofs.OptionFacts.{some_value}
-use Rattle.pipe_run.proofs.GroupingLevels.{all-flat, flat-gives, met-key, next-among, next-flat_key, node-gives, shown-gives, shown-least}
-use Rattle.pipe_run.proofs.KeyParts.{recursive, recursive-part}
+use Rattle.step_run.proofs.GroupingLevels.{all-flat, flat-gives, met-key, next-among, next-flat_key, node-gives, shown-gives, shown-least}
+use Rattle.step_run.proofs.KeyParts.{recursive, recursive-part}
 use Rattle.pipe_run.proofs.ShownRun.{shown-below, shown-err, shown-rows, shown-run}
-use Rattle.pipe_run.proofs.TotalLaws.{totals-ready}
-use Rattle.pipe_run.specs.Totals.{totals_step}
+use Rattle.step_run.proofs.TotalLaws.{totals-ready}
+use Rattle.step_run.specs.Totals.{totals_step}
 use Rattle.pipe_run.proofs.TotalsRun.{found-key, hier-ready, key-named, shown-same, totals-err, totals-gives, totals-least, totals-spent}
 use Rattle.pipe_run.proofs.pipes.+run.Goals as goal
 use Rattle.pipe_run.proofs.pipes.+run.Goals.{grouping_levels-in-Plain, grouping_levels-in-Rollup}
@@ -287,20 +288,20 @@ run_at-returns-in_ok-copies-in_default-clause-grown g t c = omega (arith, c.memb
 -- ---- one piece alone
 
 pub run_alone-run_pipe-requires-clause-ready : goal.run_alone-run_pipe-requires-clause-ready
-run_alone-run_pipe-requires-clause-ready g t c κs within = subst (λ x. ReadyFrom x c.args.root.now (pipe_of c.args.pipe.now) c.args.rows.items) (sym c.alone-inner.ensures) c.requires.ready
+run_alone-run_pipe-requires-clause-ready g t c κs within = subst (λ x. ReadyFrom x c.args.root.now (pipe_of c.args.pipe.now) c.args.rows.items) (sym c.alone-inner.ensures.value) c.requires.ready
 
 pub run_alone-run_pipe-requires-clause-named : goal.run_alone-run_pipe-requires-clause-named
-run_alone-run_pipe-requires-clause-named g t c κs within = subst (λ x. AreReady x (hierarchies (pipe_of c.args.pipe.now))) (sym c.alone-inner.ensures) c.requires.named
+run_alone-run_pipe-requires-clause-named g t c κs within = subst (λ x. AreReady x (hierarchies (pipe_of c.args.pipe.now))) (sym c.alone-inner.ensures.value) c.requires.named
 
 pub run_alone-returns-clause-mean : goal.run_alone-returns-clause-mean
 run_alone-returns-clause-mean g t c = λ S S' R.
-    let e = c.alone-inner.ensures in
+    let e = c.alone-inner.ensures.value in
     subst (λ x. Gives c.run_pipe.result (mean x.world (readings x.customs) S (pipe_of c.args.pipe.now) c.args.rows.items)) e
     (c.run_pipe.ensures.mean S S' (subst (λ x. RunsFrom x c.args.root.now S S' (pipe_of c.args.pipe.now) c.args.rows.items) (sym e) R))
 
 pub run_alone-returns-clause-steps : goal.run_alone-returns-clause-steps
 run_alone-returns-clause-steps g t c = λ S S' R.
-    let e = c.alone-inner.ensures in
+    let e = c.alone-inner.ensures.value in
     let spent = c.run_pipe.ensures.steps S S' (subst (λ x. RunsFrom x c.args.root.now S S' (pipe_of c.args.pipe.now) c.args.rows.items) (sym e) R) in
     let same = ap (λ x. cost x.world (readings x.customs) S (pipe_of c.args.pipe.now) c.args.rows.items) e in
     omega (arith, spent, same)
@@ -310,8 +311,8 @@ run_alone-returns-clause-grown g t c = omega (arith, c.run_pipe.ensures.grown)
 
 -- ---- one transformation
 
-pub run_step-filter-requires-after_bounds : goal.run_step-filter-requires-after_bounds
-run_step-filter-requires-after_bounds g t c κs within =
+pub run_step-filter-requires-clause-of : goal.run_step-filter-requires-clause-of
+run_step-filter-requires-clause-of g t c κs within =
     let r = c.requires.ready in
     all-fit-of c.args.context.now.world r.0 c.args.rows.items (r.2).runs.fit
 
@@ -345,7 +346,7 @@ run_step-returns-in-Filter-clause-mean g t c = λ S S' R.
     let l = c.args.rows.items in
     let e = expr_of c.in-Filter.e in
     subst (Gives c.filter.result) (sym (ap (λ s. step_mean x.world (readings x.customs) S s l) (ap step_of c.in-Filter.is ∙ step_of-Filter c.in-Filter.e) ∙ step_mean-Filter x.world (readings x.customs) S e l))
-    c.filter.ensures
+    c.filter.ensures.value
 
 pub run_step-returns-in_err-compute-in-Compute-clause-steps :
     goal.run_step-returns-in_err-compute-in-Compute-clause-steps
@@ -446,25 +447,25 @@ run_group-run_at-requires-clause-within g t c κs within =
     let level = c.args.level.now in
     let d = get_or level.1 c.args.k ([], []) in
     let at = slice_get-get_or level.1 c.args.k ([], []) c.requires.within in
-    let places = read-places level.1 c.args.k d c.places-places.result.now at c.places-places.ensures in
+    let places = read-places level.1 c.args.k d c.places-places.result.now at c.places-places.ensures.value in
     subst (λ ns. IsTrue (list_all (λ k. nat_lt k (length l)) ns)) (sym places) ((c.requires.ready.2).within c.args.k d at)
 
 pub run_group-run_at-requires-clause-lists : goal.run_group-run_at-requires-clause-lists
-run_group-run_at-requires-clause-lists g t c κs within = subst (λ x. AreFirstLists x.world c.args.rows.now (pipe_of c.args.pipe.now) c.args.lists.now) (sym c.alone-inner.ensures) c.requires.lists
+run_group-run_at-requires-clause-lists g t c κs within = subst (λ x. AreFirstLists x.world c.args.rows.now (pipe_of c.args.pipe.now) c.args.lists.now) (sym c.alone-inner.ensures.value) c.requires.lists
 
 pub run_group-run_at-requires-clause-ready : goal.run_group-run_at-requires-clause-ready
-run_group-run_at-requires-clause-ready g t c κs within = subst (λ x. ReadyFrom x c.args.root.now (pipe_of c.args.pipe.now) (at_places c.args.rows.now c.places-places.result.now)) (sym c.alone-inner.ensures) c.group_ready.ensures
+run_group-run_at-requires-clause-ready g t c κs within = subst (λ x. ReadyFrom x c.args.root.now (pipe_of c.args.pipe.now) (at_places c.args.rows.now c.places-places.result.now)) (sym c.alone-inner.ensures.value) c.group_ready.ensures
 
 pub run_group-run_at-requires-clause-named : goal.run_group-run_at-requires-clause-named
-run_group-run_at-requires-clause-named g t c κs within = subst (λ x. AreReady x (hierarchies (pipe_of c.args.pipe.now))) (sym c.alone-inner.ensures) c.requires.named
+run_group-run_at-requires-clause-named g t c κs within = subst (λ x. AreReady x (hierarchies (pipe_of c.args.pipe.now))) (sym c.alone-inner.ensures.value) c.requires.named
 
 pub run_group-returns-in_err-results-clause-mean : goal.run_group-returns-in_err-results-clause-mean
 run_group-returns-in_err-results-clause-mean g t c = λ S G d R at.
     let x = c.args.context.now in
     let T = pipe_of c.args.pipe.now in
     let l = c.args.rows.now in
-    let u = group-run c.args.k R at c.places-places.ensures refl in
-    let given = subst (λ x. (S G : Shape) → RunsFrom x c.args.root.now S G T (at_places l c.places-places.result.now) → Gives (Err c.in_err-results.field-0.0) (mean x.world (readings x.customs) S T (at_places l c.places-places.result.now))) c.alone-inner.ensures c.in_err-results.ensures.mean in
+    let u = group-run c.args.k R at c.places-places.ensures.value refl in
+    let given = subst (λ x. (S G : Shape) → RunsFrom x c.args.root.now S G T (at_places l c.places-places.result.now) → Gives (Err c.in_err-results.field-0.0) (mean x.world (readings x.customs) S T (at_places l c.places-places.result.now))) c.alone-inner.ensures.value c.in_err-results.ensures.mean in
     let p = err_from_is_err_and c.from_residual.result c.from_residual.ensures.1 in
     rw (p.1, p.2) (gives-err c.in_err-results.field-0.0 _ _ (given S G u.runs) (λ n. ap (option_map (map (λ r. extended r (keyed c.args.level.now.0 d.0)))) (u.means ∙ n)))
 
@@ -473,8 +474,8 @@ run_group-returns-in_err-results-clause-steps g t c = λ S G d R at.
     let x = c.args.context.now in
     let T = pipe_of c.args.pipe.now in
     let l = c.args.rows.now in
-    let u = group-run c.args.k R at c.places-places.ensures refl in
-    let e = c.alone-inner.ensures in
+    let u = group-run c.args.k R at c.places-places.ensures.value refl in
+    let e = c.alone-inner.ensures.value in
     let spent = c.run_at.ensures.steps S G (subst (λ x. RunsFrom x c.args.root.now S G T (at_places l c.places-places.result.now)) (sym e) u.runs) in
     let same = ap (λ x. cost x.world (readings x.customs) S T (at_places l c.places-places.result.now)) e in
     let costs = u.costs in
@@ -490,8 +491,8 @@ run_group-returns-in_err-key-clause-steps g t c = λ S G d R at.
     let x = c.args.context.now in
     let T = pipe_of c.args.pipe.now in
     let l = c.args.rows.now in
-    let u = group-run c.args.k R at c.places-places.ensures refl in
-    let e = c.alone-inner.ensures in
+    let u = group-run c.args.k R at c.places-places.ensures.value refl in
+    let e = c.alone-inner.ensures.value in
     let spent = c.run_at.ensures.steps S G (subst (λ x. RunsFrom x c.args.root.now S G T (at_places l c.places-places.result.now)) (sym e) u.runs) in
     let same = ap (λ x. cost x.world (readings x.customs) S T (at_places l c.places-places.result.now)) e in
     let costs = u.costs in
@@ -512,12 +513,12 @@ run_group-with_keys-requires g t c =
     let R = r.2 in
     let d = get_or level.1 c.args.k ([], []) in
     let at = slice_get-get_or level.1 c.args.k ([], []) c.requires.within in
-    let u = group-run c.args.k R at c.places-places.ensures refl in
-    let given = subst (λ x. (S G : Shape) → RunsFrom x c.args.root.now S G T (at_places l c.places-places.result.now) → mean x.world (readings x.customs) S T (at_places l c.places-places.result.now) ≡ Some c.in_ok-results.results.items) c.alone-inner.ensures c.in_ok-results.ensures.mean in
+    let u = group-run c.args.k R at c.places-places.ensures.value refl in
+    let given = subst (λ x. (S G : Shape) → RunsFrom x c.args.root.now S G T (at_places l c.places-places.result.now) → mean x.world (readings x.customs) S T (at_places l c.places-places.result.now) ≡ Some c.in_ok-results.results.items) c.alone-inner.ensures.value c.in_ok-results.ensures.mean in
     let m = u.means ∙ given r.0 r.1 u.runs in
-    let key = read-key level.1 c.args.k d c.in_ok-key.key.items at c.in_ok-key.ensures in
+    let key = read-key level.1 c.args.k d c.in_ok-key.key.items at c.in_ok-key.ensures.value in
     record {
-      free = subst (λ ps. IsTrue (list_all (λ i. columns_differ (extended i (keyed ps c.as_slice.result.now)).columns) c.in_ok-results.results.items)) (sym c.paths.ensures)
+      free = subst (λ ps. IsTrue (list_all (λ i. columns_differ (extended i (keyed ps c.as_slice.result.now)).columns) c.in_ok-results.results.items)) (sym c.paths.ensures.value)
           (subst (λ k. IsTrue (list_all (λ i. columns_differ (extended i (keyed level.0 k)).columns) c.in_ok-results.results.items)) (sym (c.as_slice.ensures.value ∙ key)) (R.free c.args.k d c.in_ok-results.results.items at m));
     }
 
@@ -526,13 +527,13 @@ run_group-returns-in_err-with_keys-clause-steps g t c = λ S G d R at.
     let x = c.args.context.now in
     let T = pipe_of c.args.pipe.now in
     let l = c.args.rows.now in
-    let u = group-run c.args.k R at c.places-places.ensures refl in
-    let e = c.alone-inner.ensures in
+    let u = group-run c.args.k R at c.places-places.ensures.value refl in
+    let e = c.alone-inner.ensures.value in
     let spent = c.run_at.ensures.steps S G (subst (λ x. RunsFrom x c.args.root.now S G T (at_places l c.places-places.result.now)) (sym e) u.runs) in
     let same = ap (λ x. cost x.world (readings x.customs) S T (at_places l c.places-places.result.now)) e in
     let costs = u.costs in
     let few = u.few in
-    let given = subst (λ x. (S G : Shape) → RunsFrom x c.args.root.now S G T (at_places l c.places-places.result.now) → mean x.world (readings x.customs) S T (at_places l c.places-places.result.now) ≡ Some c.in_ok-results.results.items) c.alone-inner.ensures c.in_ok-results.ensures.mean in
+    let given = subst (λ x. (S G : Shape) → RunsFrom x c.args.root.now S G T (at_places l c.places-places.result.now) → mean x.world (readings x.customs) S T (at_places l c.places-places.result.now) ≡ Some c.in_ok-results.results.items) c.alone-inner.ensures.value c.in_ok-results.ensures.mean in
     let made = ap result_length (u.means ∙ given S G u.runs) in
     let keyed = c.with_keys.ensures.steps in
     let charged : charge_of x S T l d ≡ length (at_places l d.1) + cost x.world (readings x.customs) S T (at_places l d.1) + result_length (mean x.world (readings x.customs) S T (at_places l d.1)) = refl in
@@ -546,13 +547,13 @@ run_group-returns-clause-steps g t c = λ S G d R at.
     let x = c.args.context.now in
     let T = pipe_of c.args.pipe.now in
     let l = c.args.rows.now in
-    let u = group-run c.args.k R at c.places-places.ensures refl in
-    let e = c.alone-inner.ensures in
+    let u = group-run c.args.k R at c.places-places.ensures.value refl in
+    let e = c.alone-inner.ensures.value in
     let spent = c.run_at.ensures.steps S G (subst (λ x. RunsFrom x c.args.root.now S G T (at_places l c.places-places.result.now)) (sym e) u.runs) in
     let same = ap (λ x. cost x.world (readings x.customs) S T (at_places l c.places-places.result.now)) e in
     let costs = u.costs in
     let few = u.few in
-    let given = subst (λ x. (S G : Shape) → RunsFrom x c.args.root.now S G T (at_places l c.places-places.result.now) → mean x.world (readings x.customs) S T (at_places l c.places-places.result.now) ≡ Some c.in_ok-results.results.items) c.alone-inner.ensures c.in_ok-results.ensures.mean in
+    let given = subst (λ x. (S G : Shape) → RunsFrom x c.args.root.now S G T (at_places l c.places-places.result.now) → mean x.world (readings x.customs) S T (at_places l c.places-places.result.now) ≡ Some c.in_ok-results.results.items) c.alone-inner.ensures.value c.in_ok-results.ensures.mean in
     let made = ap result_length (u.means ∙ given S G u.runs) in
     let keyed = c.with_keys.ensures.steps in
     let charged : charge_of x S T l d ≡ length (at_places l d.1) + cost x.world (readings x.customs) S T (at_places l d.1) + result_length (mean x.world (readings x.customs) S T (at_places l d.1)) = refl in
@@ -567,11 +568,11 @@ run_group-returns-clause-mean g t c = λ S G d R at.
     let T = pipe_of c.args.pipe.now in
     let l = c.args.rows.now in
     let level = c.args.level.now in
-    let u = group-run c.args.k R at c.places-places.ensures refl in
-    let given = subst (λ x. (S G : Shape) → RunsFrom x c.args.root.now S G T (at_places l c.places-places.result.now) → mean x.world (readings x.customs) S T (at_places l c.places-places.result.now) ≡ Some c.in_ok-results.results.items) c.alone-inner.ensures c.in_ok-results.ensures.mean in
-    let own = c.as_slice.ensures.value ∙ read-key level.1 c.args.k d c.in_ok-key.key.items at c.in_ok-key.ensures in
+    let u = group-run c.args.k R at c.places-places.ensures.value refl in
+    let given = subst (λ x. (S G : Shape) → RunsFrom x c.args.root.now S G T (at_places l c.places-places.result.now) → mean x.world (readings x.customs) S T (at_places l c.places-places.result.now) ≡ Some c.in_ok-results.results.items) c.alone-inner.ensures.value c.in_ok-results.ensures.mean in
+    let own = c.as_slice.ensures.value ∙ read-key level.1 c.args.k d c.in_ok-key.key.items at c.in_ok-key.ensures.value in
     ap (option_map (map (λ r. extended r (keyed level.0 d.0)))) (u.means ∙ given S G u.runs)
-    ∙ ap Some ((λ i. map (λ r. extended r (keyed (sym c.paths.ensures i) (sym own i))) c.in_ok-results.results.items) ∙ sym c.in_ok-with_keys.ensures.rows)
+    ∙ ap Some ((λ i. map (λ r. extended r (keyed (sym c.paths.ensures.value i) (sym own i))) c.in_ok-results.results.items) ∙ sym c.in_ok-with_keys.ensures.rows)
 
 -- ---- the groups of a level
 
@@ -581,7 +582,7 @@ run_groups-returns-in_err-made-clause-mean g t c = λ S G R.
     let level = c.args.level.now in
     let T = pipe_of c.args.pipe.now in
     let l = c.args.rows.now in
-    let u = next-group x S level T l c.loop-k.k _ c.loop-k-test.true c.len-k-end.ensures in
+    let u = next-group x S level T l c.loop-k.k _ c.loop-k-test.true c.len-k-end.ensures.value in
     let p = err_from_is_err_and c.from_residual.result c.from_residual.ensures.1 in
     rw (p.1, p.2) (gives-err c.in_err-made.field-0.0 _ _ (c.in_err-made.ensures.mean S G u.group R u.at)
     (next-refused (group_made level.0 (mean x.world (readings x.customs) S T) l) level.1 c.loop-k.k u.group c.loop-k.all.items _ u.within u.here (c.loop-k.invariant.1 S G R).0))
@@ -592,7 +593,7 @@ run_groups-returns-in_err-made-clause-steps g t c = λ S G R.
     let level = c.args.level.now in
     let T = pipe_of c.args.pipe.now in
     let l = c.args.rows.now in
-    let u = next-group x S level T l c.loop-k.k _ c.loop-k-test.true c.len-k-end.ensures in
+    let u = next-group x S level T l c.loop-k.k _ c.loop-k-test.true c.len-k-end.ensures.value in
     let left = (c.loop-k.invariant.1 S G R).1 in
     let next = u.costs in
     let total = total-charge x S level T l in
@@ -608,7 +609,7 @@ run_groups-returns-in_err-append-clause-steps g t c = λ S G R.
     let level = c.args.level.now in
     let T = pipe_of c.args.pipe.now in
     let l = c.args.rows.now in
-    let u = next-group x S level T l c.loop-k.k _ c.loop-k-test.true c.len-k-end.ensures in
+    let u = next-group x S level T l c.loop-k.k _ c.loop-k-test.true c.len-k-end.ensures.value in
     let left = (c.loop-k.invariant.1 S G R).1 in
     let next = u.costs in
     let total = total-charge x S level T l in
@@ -627,7 +628,7 @@ run_groups-loop-k-preserved g t c = (
       let T = pipe_of c.args.pipe.now in
       let l = c.args.rows.now in
       let f : List Value × List ℕ → Outcome = group_made level.0 (mean x.world (readings x.customs) S T) l in
-      let u = next-group x S level T l c.loop-k.k _ c.loop-k-test.true c.len-k-end.ensures in
+      let u = next-group x S level T l c.loop-k.k _ c.loop-k-test.true c.len-k-end.ensures.value in
       let inv = c.loop-k.invariant.1 S G R in
       let left = inv.1 in
       let next = u.costs in
@@ -643,7 +644,7 @@ pub run_groups-returns-clause-mean : goal.run_groups-returns-clause-mean
 run_groups-returns-clause-mean g t c = λ S G R.
     let x = c.args.context.now in
     let level = c.args.level.now in
-    let counted = c.len-k-end.ensures in
+    let counted = c.len-k-end.ensures.value in
     let past : length level.1 ≤ c.loop-k.k = omega (arith, c.loop-k-test.false, counted) in
     last-joined (group_made level.0 (mean x.world (readings x.customs) S (pipe_of c.args.pipe.now)) c.args.rows.now) level.1 c.loop-k.k c.loop-k.all.items _ past (c.loop-k.invariant.1 S G R).0
 
@@ -809,8 +810,8 @@ run_by_levels-returns-in_err-levels-in-GroupBy-clause-steps g t c = λ S S' R.
 pub run_by_levels-returns-in_err-levels-in-GroupBy-clause-grown : goal.run_by_levels-returns-in_err-levels-in-GroupBy-clause-grown
 run_by_levels-returns-in_err-levels-in-GroupBy-clause-grown g t c = omega (arith, c.grouping_levels.ensures.grown)
 
-pub run_by_levels-first_lists-requires-after_bounds : goal.run_by_levels-first_lists-requires-after_bounds
-run_by_levels-first_lists-requires-after_bounds g t c κs within =
+pub run_by_levels-first_lists-requires-clause-of : goal.run_by_levels-first_lists-requires-clause-of
+run_by_levels-first_lists-requires-clause-of g t c κs within =
     let r = c.requires.ready in
     all-fit-of c.args.context.now.world r.0 c.args.rows.now (r.2).runs.fit
 
@@ -824,7 +825,7 @@ run_by_levels-returns-in_err-lists-in-Some-clause-steps g t c = λ S S' R.
 
 pub run_by_levels-run_levels-requires-clause-lists : goal.run_by_levels-run_levels-requires-clause-lists
 run_by_levels-run_levels-requires-clause-lists g t c κs within =
-    subst (AreFirstLists c.args.context.now.world c.args.rows.now (pipe_of c.in-Some.pipe)) (sym c.as_slice-lists.ensures.value) c.in_ok-lists-in-Some.ensures
+    subst (AreFirstLists c.args.context.now.world c.args.rows.now (pipe_of c.in-Some.pipe)) (sym c.as_slice-lists.ensures.value) c.in_ok-lists-in-Some.ensures.lists
 
 pub run_by_levels-run_levels-requires-clause-ready : goal.run_by_levels-run_levels-requires-clause-ready
 run_by_levels-run_levels-requires-clause-ready g t c κs within =
@@ -931,7 +932,7 @@ run_step-returns-in-TopBy-clause-mean g t c = λ S S' R.
     let l = c.args.rows.items in
     let s = top_of c.in-TopBy.top in
     subst (Gives c.select_rows.result) (sym (ap (λ s. step_mean x.world (readings x.customs) S s l) (ap step_of c.in-TopBy.is ∙ step_of-TopBy c.in-TopBy.top) ∙ step_mean-TopBy x.world (readings x.customs) S s l))
-    c.select_rows.ensures
+    c.select_rows.ensures.mean
 
 -- ---- a concatenation
 
@@ -1533,7 +1534,7 @@ run_climb-returns-clause-mean g t c = λ S S' R.
     let copied = c.in_ok-copies.ensures.rows ∙ c.as_slice.ensures.value in
     let runs = subst (RunsFrom x c.args.root.now S u.shape (pipe_of k.inner)) (sym copied) u.runs in
     let made = ap (mean x.world (readings x.customs) S (pipe_of k.inner)) (sym copied) ∙ c.in_ok-starts.ensures.mean S u.shape runs in
-    subst (Gives c.climb_rows.result) (sym (climb-means x S k l ∙ u.means c.in_ok-starts.starts.items made ∙ ap (climb_from x.world k.up (hier_of k.hier) k.path k.distance k.keep l) (sym c.as_slice-2.ensures.value))) c.climb_rows.ensures
+    subst (Gives c.climb_rows.result) (sym (climb-means x S k l ∙ u.means c.in_ok-starts.starts.items made ∙ ap (climb_from x.world k.up (hier_of k.hier) k.path k.distance k.keep l) (sym c.as_slice-2.ensures.value))) c.climb_rows.ensures.mean
 
 pub run_climb-returns-clause-steps : goal.run_climb-returns-clause-steps
 run_climb-returns-clause-steps g t c = λ S S' R.
@@ -1655,7 +1656,7 @@ grouping_levels-returns-in-Recursive-clause-levels g t c =
     let has = met-key c.args.keys.now c.as_slice-items.result.now c.loop-key.key-index c.key-item.result c.as_slice-items.ensures.value c.loop-key-test.true c.key-item.is (c.loop-key.invariant).1 (ap key_of c.in-Recursive.is ∙ key_of-Recursive c.in-Recursive.hier p c.in-Recursive.inner) in
     let u = recursive x h p T (keys_of c.args.keys.now) has c.requires.ready in
     node-gives x h p T (keys_of c.args.keys.now) has c.requires.ready u.place u.at c.node_levels.result c.as_slice-shown.result.now c.args.rows.now
-    (c.in_ok-shown-in-Recursive.ensures.shown u.place u.at ∙ ap Some (sym c.as_slice-shown.ensures.value)) (c.node_levels.ensures u.place u.at)
+    (c.in_ok-shown-in-Recursive.ensures.shown u.place u.at ∙ ap Some (sym c.as_slice-shown.ensures.value)) (c.node_levels.ensures.levels u.place u.at)
 
 pub grouping_levels-returns-in-Recursive-clause-steps : goal.grouping_levels-returns-in-Recursive-clause-steps
 grouping_levels-returns-in-Recursive-clause-steps g t c =
@@ -1697,7 +1698,7 @@ pub grouping_levels-returns-clause-levels : goal.grouping_levels-returns-clause-
 grouping_levels-returns-clause-levels g t c =
     let x = c.args.context.now in
     let flat = all-flat c.args.keys.now c.as_slice-items.result.now c.loop-key.key-index c.as_slice-items.ensures.value (omega (arith, c.loop-key-test.false)) (c.loop-key.invariant).0 in
-    flat-gives c.levels_of.result x.world (readings x.customs) (keys_of c.args.keys.now) c.args.rows.now flat c.levels_of.ensures
+    flat-gives c.levels_of.result x.world (readings x.customs) (keys_of c.args.keys.now) c.args.rows.now flat c.levels_of.ensures.levels
 
 -- ---- a recursive rollup with an aggregation alone
 
@@ -1838,40 +1839,40 @@ run_grouping-run_totals-requires-clause-ready g t c κs within =
     let r = c.requires.ready in
     let k = c.in-Some.totals in
     let same = shown-same c.args.step.now c.in-GroupBy.keys c.in-GroupBy.field-1 c.index-items-0.result c.in-Recursive.field-0 c.in-Recursive.field-1 c.in-Recursive.shown (hier_of k.hier.now) k.path.now (inner_of (option_map pipe_of k.shown.now)) (map agg_of k.items.now)
-    (ap step_of c.in-GroupBy.is ∙ step_of-GroupBy c.in-GroupBy.keys c.in-GroupBy.field-1) c.in-Some.ensures
+    (ap step_of c.in-GroupBy.is ∙ step_of-GroupBy c.in-GroupBy.keys c.in-GroupBy.field-1) c.in-Some.ensures.step
     (ap (λ ks. slice_get ks 0) (sym c.as_slice-items.ensures.value) ∙ slice-at c.as_slice-items.result.now 0 c.index-items-0.result (omega (arith, c.if-items-eq0.false)) c.index-items-0.is)
     (ap key_of c.in-Recursive.is ∙ key_of-Recursive c.in-Recursive.field-0 c.in-Recursive.field-1 c.in-Recursive.shown) in
-    let e = c.in-Some.ensures ∙ ap (λ o. totals_step (hier_of k.hier.now) k.path.now o (map agg_of k.items.now)) (sym same) in
+    let e = c.in-Some.ensures.step ∙ ap (λ o. totals_step (hier_of k.hier.now) k.path.now o (map agg_of k.items.now)) (sym same) in
     (r.0, r.1, subst (λ s. StepRunsFrom c.args.context.now c.args.root.now r.0 r.1 s c.args.rows.now) e r.2)
 
 pub run_grouping-run_totals-requires-clause-named : goal.run_grouping-run_totals-requires-clause-named
 run_grouping-run_totals-requires-clause-named g t c κs within =
     let k = c.in-Some.totals in
     let same = shown-same c.args.step.now c.in-GroupBy.keys c.in-GroupBy.field-1 c.index-items-0.result c.in-Recursive.field-0 c.in-Recursive.field-1 c.in-Recursive.shown (hier_of k.hier.now) k.path.now (inner_of (option_map pipe_of k.shown.now)) (map agg_of k.items.now)
-    (ap step_of c.in-GroupBy.is ∙ step_of-GroupBy c.in-GroupBy.keys c.in-GroupBy.field-1) c.in-Some.ensures
+    (ap step_of c.in-GroupBy.is ∙ step_of-GroupBy c.in-GroupBy.keys c.in-GroupBy.field-1) c.in-Some.ensures.step
     (ap (λ ks. slice_get ks 0) (sym c.as_slice-items.ensures.value) ∙ slice-at c.as_slice-items.result.now 0 c.index-items-0.result (omega (arith, c.if-items-eq0.false)) c.index-items-0.is)
     (ap key_of c.in-Recursive.is ∙ key_of-Recursive c.in-Recursive.field-0 c.in-Recursive.field-1 c.in-Recursive.shown) in
-    let e = c.in-Some.ensures ∙ ap (λ o. totals_step (hier_of k.hier.now) k.path.now o (map agg_of k.items.now)) (sym same) in
+    let e = c.in-Some.ensures.step ∙ ap (λ o. totals_step (hier_of k.hier.now) k.path.now o (map agg_of k.items.now)) (sym same) in
     subst (λ s. AreReady c.args.context.now (step_hierarchies s)) e c.requires.named
 
 pub run_grouping-returns-in-Recursive-clause-mean : goal.run_grouping-returns-in-Recursive-clause-mean
 run_grouping-returns-in-Recursive-clause-mean g t c = λ S S' R.
     let k = c.in-Some.totals in
     let same = shown-same c.args.step.now c.in-GroupBy.keys c.in-GroupBy.field-1 c.index-items-0.result c.in-Recursive.field-0 c.in-Recursive.field-1 c.in-Recursive.shown (hier_of k.hier.now) k.path.now (inner_of (option_map pipe_of k.shown.now)) (map agg_of k.items.now)
-    (ap step_of c.in-GroupBy.is ∙ step_of-GroupBy c.in-GroupBy.keys c.in-GroupBy.field-1) c.in-Some.ensures
+    (ap step_of c.in-GroupBy.is ∙ step_of-GroupBy c.in-GroupBy.keys c.in-GroupBy.field-1) c.in-Some.ensures.step
     (ap (λ ks. slice_get ks 0) (sym c.as_slice-items.ensures.value) ∙ slice-at c.as_slice-items.result.now 0 c.index-items-0.result (omega (arith, c.if-items-eq0.false)) c.index-items-0.is)
     (ap key_of c.in-Recursive.is ∙ key_of-Recursive c.in-Recursive.field-0 c.in-Recursive.field-1 c.in-Recursive.shown) in
-    let e = c.in-Some.ensures ∙ ap (λ o. totals_step (hier_of k.hier.now) k.path.now o (map agg_of k.items.now)) (sym same) in
+    let e = c.in-Some.ensures.step ∙ ap (λ o. totals_step (hier_of k.hier.now) k.path.now o (map agg_of k.items.now)) (sym same) in
     subst (Gives c.run_totals.result) (sym (step-mean-on c.args.context.now S {l = c.args.rows.now} e refl)) (c.run_totals.ensures.mean S S' (step-runs-on e refl R))
 
 pub run_grouping-returns-in-Recursive-clause-steps : goal.run_grouping-returns-in-Recursive-clause-steps
 run_grouping-returns-in-Recursive-clause-steps g t c = λ S S' R.
     let k = c.in-Some.totals in
     let same = shown-same c.args.step.now c.in-GroupBy.keys c.in-GroupBy.field-1 c.index-items-0.result c.in-Recursive.field-0 c.in-Recursive.field-1 c.in-Recursive.shown (hier_of k.hier.now) k.path.now (inner_of (option_map pipe_of k.shown.now)) (map agg_of k.items.now)
-    (ap step_of c.in-GroupBy.is ∙ step_of-GroupBy c.in-GroupBy.keys c.in-GroupBy.field-1) c.in-Some.ensures
+    (ap step_of c.in-GroupBy.is ∙ step_of-GroupBy c.in-GroupBy.keys c.in-GroupBy.field-1) c.in-Some.ensures.step
     (ap (λ ks. slice_get ks 0) (sym c.as_slice-items.ensures.value) ∙ slice-at c.as_slice-items.result.now 0 c.index-items-0.result (omega (arith, c.if-items-eq0.false)) c.index-items-0.is)
     (ap key_of c.in-Recursive.is ∙ key_of-Recursive c.in-Recursive.field-0 c.in-Recursive.field-1 c.in-Recursive.shown) in
-    let e = c.in-Some.ensures ∙ ap (λ o. totals_step (hier_of k.hier.now) k.path.now o (map agg_of k.items.now)) (sym same) in
+    let e = c.in-Some.ensures.step ∙ ap (λ o. totals_step (hier_of k.hier.now) k.path.now o (map agg_of k.items.now)) (sym same) in
     let spent = c.run_totals.ensures.steps S S' (step-runs-on e refl R) in
     let whole = step-cost-on c.args.context.now S {l = c.args.rows.now} e refl in
     omega (arith, spent, whole)

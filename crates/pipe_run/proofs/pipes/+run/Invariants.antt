@@ -11,10 +11,11 @@ use Rattle.apply_meaning.specs.Meaning.{joined, mean}
 use Rattle.hier_states.specs.NamedHierarchies.{hierarchies}
 use Rattle.pipe_run.proofs.ConcatLemmas.{branch_charge}
 use Rattle.pipe_run.proofs.RelatedLemmas.{related_charge, related_mean}
-use Rattle.pipe_run.specs.Conditions.{AreReady, BranchesRun, GroupRuns, LevelsRun, RelatedRun, RunsFrom, charge_of}
-use Rattle.pipe_run.specs.Costs.{application, cost}
-use Rattle.pipe_run.specs.Levels.{group_made, level_lists, level_made}
-use Rattle.pipe_run.specs.RecursiveKeys.{HasKey, are_flat_keys}
+use Rattle.pipe_run.specs.SeveralRuns.{BranchesRun, RelatedRun}
+use Rattle.step_run.specs.Conditions.{AreReady, GroupRuns, LevelsRun, RunsFrom, charge_of}
+use Rattle.step_run.specs.Costs.{application, cost}
+use Rattle.step_run.specs.Levels.{group_made, level_lists, level_made}
+use Rattle.step_run.specs.RecursiveKeys.{HasKey, are_flat_keys}
 use Rattle.pipe_run.proofs.pipes.+run.Given as goal
 
 -- the hierarchies of the rest are ready, for each shape on which the pipeline is typed there is one on which the rest is, with the same meaning and the cost that is left, and the count has not fallen

@@ -1,4 +1,4 @@
-use Rattle.pipe_run.proofs.RunLevels.{slice-at}
+use Rattle.step_run.proofs.RunLevels.{slice-at}
 use Rattle.pipe_run.proofs.pipes.level_ready.Goals as goal
 
 pub returns : goal.returns

@@ -3,7 +3,7 @@ use Rattle.apply_ast.specs.Views.{top_of}
 use Rattle.context_typing.specs.Readings.{readings}
 use Rattle.apply_meaning.proofs.RunLemmas.{all-fit-of}
 use Rattle.apply_meaning.specs.MeaningLaws.{IsLoaded}
-use Rattle.pipe_run.proofs.SelectionLemmas.{limit-ready}
+use Rattle.step_run.proofs.SelectionLemmas.{limit-ready}
 use Rattle.pipe_run.proofs.pipes.selection_ready.Goals as goal
 
 pub returns-clause-of : goal.returns-clause-of

@@ -10,9 +10,9 @@ use Rattle.apply_meaning.specs.Running.{Gives}
 use Rattle.apply_meaning.proofs.SetLemmas.{rows-length}
 use Rattle.optimiser.specs.Plans.{own_of, written_of}
 use Rattle.hier_states.specs.NamedHierarchies.{hierarchies}
-use Rattle.pipe_run.specs.Conditions.{AreReady}
-use Rattle.pipe_run.specs.Contexts.{Context}
-use Rattle.pipe_run.specs.Costs.{cost, total_cost}
+use Rattle.step_run.specs.Conditions.{AreReady}
+use Rattle.step_run.specs.Contexts.{Context}
+use Rattle.step_run.specs.Costs.{cost, total_cost}
 use Rattle.plan_run.proofs.PlanLemmas.{runs-as}
 use Rattle.plan_run.proofs.runs.run.Goals as goal
 

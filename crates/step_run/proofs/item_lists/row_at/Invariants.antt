@@ -1,0 +1,12 @@
+use Rattle.std.proofs.Common.{◌≡◌, take, map}
+use Rattle.edm_values.specs.Lists.{at_places}
+use Rattle.apply_ast.specs.Views.{agg_of}
+use Rattle.context_typing.specs.Readings.{readings}
+use Rattle.context_typing.specs.Shapes.{Shape}
+use Rattle.context_typing.specs.Typing.{root_type}
+use Rattle.apply_meaning.specs.Meaning.{item_value}
+use Rattle.step_run.proofs.item_lists.row_at.Given as goal
+
+-- the columns of the items so far, by any shape with this type at its empty prefix
+abbrev pub invariant-loop-k : goal.invariant-loop-k
+invariant-loop-k g l = (S : Shape) → root_type S ≡ l.root → l.columns.items ≡ map (item_value l.context.world (readings l.context.customs) S (at_places l.rows l.places)) (map agg_of (take l.k l.items))
