@@ -1,6 +1,6 @@
 //! What the entities of a set refer to by one navigation property.
 ghost use Rattle.std.specs.Prelude.{◌≡◌, option_map};
-ghost use Rattle.edm_data.specs.LinkLists.{link_in};
+ghost use Rattle.edm_data.specs.LinkLists.{link_in, linking_to};
 ghost use Rattle.edm_data.specs.Readers.{seen_links};
 
 use crate::relations::Relation;
@@ -38,6 +38,16 @@ impl<'a> LinkedPlaces<'a> {
         match self.relation {
             Some(relation) => relation.place(place),
             None => None,
+        }
+    }
+
+    /// The places of the entities that refer to the one at this place, in data order.
+    pub fn linking(&self, to: u32) -> &'a [u32]
+        ensures value { result.now ≡ linking_to to self.now }
+    {
+        match self.relation {
+            Some(relation) => relation.linking_at(to),
+            None => &[],
         }
     }
 }

@@ -80,6 +80,16 @@ impl Relation {
         }
     }
 
+    /// The places of the entities that refer to the one at a place, in data order.
+    pub(crate) fn linking_at(&self, to: u32) -> &[u32]
+        ensures { result.now ≡ linking_to to self.now.links }
+    {
+        match self.groups.get(&to) {
+            Some(places) => places.as_slice(),
+            None => &[],
+        }
+    }
+
     /// The places of the entities that refer to one, in data order.
     pub(crate) fn linking(&self, to: EntityRef) -> &[u32]
         ensures { result.now ≡ (if to.set == self.now.target then linking_to to.at self.now.links else []) }
@@ -87,10 +97,7 @@ impl Relation {
         if to.set != self.target {
             return &[];
         }
-        match self.groups.get(&to.at) {
-            Some(places) => places.as_slice(),
-            None => &[],
-        }
+        self.linking_at(to.at)
     }
 }
 
