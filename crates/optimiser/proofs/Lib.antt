@@ -1,9 +1,11 @@
+mod AnywhereLemmas
 mod ApartLemmas
 mod FactorLemmas
 mod GivenLemmas
 mod PlanSteps
 mod PlanTurns
 mod RestLemmas
+mod SamePipes
 pub mod HeadLemmas
 pub mod HeldLists
 pub mod IdleLemmas

@@ -1,8 +1,9 @@
 -- From a typed pipeline to its plan: by one walk, or turn by turn, where a turn is a rewrite by a later rule and the early walk.
 use Rattle.std.specs.Prelude.{option_and_then}
-use Rattle.std.proofs.Common.{◌≡◌, sym, ◌∙◌, ap, subst, ℕ, zero, suc, ◌<◌, ◌≤◌, Some, None, IsTrue, arith}
+use Rattle.std.proofs.Common.{◌≡◌, sym, ◌∙◌, ap, subst, ℕ, zero, suc, ◌<◌, ◌≤◌, Bool, true, false, Option, Some, None, IsTrue, arith}
+use Rattle.std.proofs.lemmas.Bool.{true≢false}
 use Rattle.edm_values.specs.Lists.{find_map, first_some}
-use Rattle.edm_values.proofs.OptionFacts.{chained, some_value}
+use Rattle.edm_values.proofs.OptionFacts.{chained, none_or, some_value}
 use Rattle.edm_model.specs.LookUps.{set_type}
 use Rattle.edm_model.specs.Models.{Model}
 use Rattle.apply_ast.specs.Trees.{Pipe}
@@ -14,14 +15,14 @@ use Rattle.context_typing.specs.Typing.{Customs, Types, customs_typed, shape_of_
 use Rattle.context_typing.specs.declared.typed.Typed.{Typed}
 use Rattle.context_typing.proofs.LawfulShapes.{own_is_lawful}
 use Rattle.rewrite_laws.specs.RewriteLaws.{IsTypedFrom, MayStandFor}
-use Rattle.rewrite_laws.specs.Rewrites.{IsPlanOf, first_rewrite, next, rewritten}
+use Rattle.rewrite_laws.specs.Rewrites.{IsPlanOf, Rule, first_rewrite, next, rewritten}
 use Rattle.rewrite_laws.proofs.PlanEnds.{plan_of_next, plan_of_settled, rewrites_left, rewrites_left-next}
 use Rattle.walk_laws.specs.Apart.{stays_apart}
 use Rattle.walk_laws.specs.Factored.{factored, pipe_rests}
-use Rattle.walk_laws.specs.FiltersOut.{gives_at_front}
+use Rattle.walk_laws.specs.FiltersOut.{gives_anywhere, gives_at_front}
 use Rattle.walk_laws.specs.Walks.{All, Early, rules_of, walk}
-use Rattle.walk_laws.specs.WalkLaws.{ApartWalkIsPlan, EarlyWalkIsPlan, EarlyWalkKeepsMeaning, FactoringIsRewriting, GivenWalkIsPlan, IsFactored, LaterRulesFollow, next_by, rewritten_by}
-use Rattle.optimiser.specs.Plans.{IsFirstOf, IsGiven, IsTurn, IsTypedPlan, IsWalked, IsWithFactored, later_rules}
+use Rattle.walk_laws.specs.WalkLaws.{ApartWalkIsPlan, EarlyWalkIsPlan, EarlyWalkKeepsMeaning, FactoringIsRewriting, FactoringKeepsPlan, GivenWalkIsPlan, IsFactored, IsRound, LaterRulesFollow, UnfactoredIsSettled, next_by, rewritten_by}
+use Rattle.optimiser.specs.Plans.{HasPlanOf, IsBegun, IsFirstOf, IsGiven, IsRounded, IsTurn, IsTurned, IsTypedPlan, IsWalked, IsWithFactored, later_rules}
 use Rattle.optimiser.proofs.PlanSteps.{found-append, typing-kept}
 
 module _ (m : Model) (c : Customs) where
@@ -133,16 +134,8 @@ module _ (m : Model) (c : Customs) where
 
   -- ---- turns
 
-  -- a typed pipeline reached from another by turns: it has the set and the shape of that, its plan is the plan of that, and the next rewrite is by a later rule
-  pub record IsTurned (t q : Typed) : Type 0 where
-    pub set : q.set ≡ t.set
-    pub shape : q.shape ≡ t.shape
-    pub typing : IsTyping m c q
-    pub plan : (r : Pipe) → IsPlanOf m c (shape_of_set m q.set) (pipe_of q.pipe) r → IsPlanOf m c (shape_of_set m t.set) (pipe_of t.pipe) r
-    pub later : next m c (shape_of_set m q.set) (pipe_of q.pipe) ≡ find_map (λ r. first_rewrite r m c (shape_of_set m q.set) (pipe_of q.pipe)) later_rules
-
   -- one turn
-  pub turn-first : (t q : Typed) → IsTurn m c t q → IsTurned t q
+  pub turn-first : (t q : Typed) → IsTurn m c t q → IsTurned m c t q
   turn-first t q k =
       let Later : ℕ → Type 0 = λ n. next m c (shape_of_set m n) (pipe_of q.pipe) ≡ find_map (λ r. first_rewrite r m c (shape_of_set m n) (pipe_of q.pipe)) later_rules in
       let Plan : Pipe → ℕ → Type 0 = λ r n. IsPlanOf m c (shape_of_set m n) (pipe_of q.pipe) r in
@@ -154,24 +147,30 @@ module _ (m : Model) (c : Customs) where
         later = subst Later (sym k.set) k.later;
       }
 
+  -- pipelines with the same plan, one after the other
+  pub plan-chain : (t q r : Typed) → HasPlanOf m c t q → HasPlanOf m c q r → HasPlanOf m c t r
+  plan-chain t q r h k = record { set = k.set ∙ h.set; shape = k.shape ∙ h.shape; typing = k.typing; plan = λ x p. h.plan x (k.plan x p) }
+
+  -- a turn behind a pipeline with the same plan
+  pub turn-chain : (t q r : Typed) → HasPlanOf m c t q → IsTurned m c q r → IsTurned m c t r
+  turn-chain t q r h k = record { set = k.set ∙ h.set; shape = k.shape ∙ h.shape; typing = k.typing; plan = λ x p. h.plan x (k.plan x p); later = k.later }
+
   -- one more turn
-  module _ (t q a r : Typed) (so-far : IsTurned t q) (rewrite' : IsFirstOf later_rules m c q (Some a)) (turn : IsTurn m c a r) where
+  module _ (t q a r : Typed) (so-far : IsTurned m c t q) (rewrite' : IsFirstOf later_rules m c q (Some a)) where
     rewritten-next : next m c (shape_of_set m q.set) (pipe_of q.pipe) ≡ Some (pipe_of a.pipe)
     rewritten-next = so-far.later ∙ rewrite'.2
 
-    pub turn-turned : IsTurned t r
-    turn-turned =
-        let k = turn-first a r turn in
-        record {
-          set = k.set ∙ rewrite'.0 ∙ so-far.set;
-          shape = k.shape ∙ rewrite'.1 ∙ so-far.shape;
-          typing = k.typing;
-          plan = λ x h. so-far.plan x (plan_of_next m c (shape_of_set m q.set) (pipe_of q.pipe) (pipe_of a.pipe) x rewritten-next (subst (λ n. IsPlanOf m c (shape_of_set m n) (pipe_of a.pipe) x) rewrite'.0 (k.plan x h)));
-          later = k.later;
-        }
+    pub turn-turned : IsTurned m c a r → IsTurned m c t r
+    turn-turned k = record {
+      set = k.set ∙ rewrite'.0 ∙ so-far.set;
+      shape = k.shape ∙ rewrite'.1 ∙ so-far.shape;
+      typing = k.typing;
+      plan = λ x h. so-far.plan x (plan_of_next m c (shape_of_set m q.set) (pipe_of q.pipe) (pipe_of a.pipe) x rewritten-next (subst (λ n. IsPlanOf m c (shape_of_set m n) (pipe_of a.pipe) x) rewrite'.0 (k.plan x h)));
+      later = k.later;
+    }
 
-    pub turn-less : rewrites_left m c (shape_of_set m r.set) (pipe_of r.pipe) < rewrites_left m c (shape_of_set m q.set) (pipe_of q.pipe)
-    turn-less =
+    pub turn-less : IsTurn m c a r → rewrites_left m c (shape_of_set m r.set) (pipe_of r.pipe) < rewrites_left m c (shape_of_set m q.set) (pipe_of q.pipe)
+    turn-less turn =
         let k = rewrites_left-next m c (shape_of_set m q.set) (pipe_of q.pipe) (pipe_of a.pipe) rewritten-next in
         let l = left-reached (shape_of_set m a.set) turn.reached.0 (pipe_of a.pipe) (pipe_of r.pipe) turn.reached.1 in
         let same = ap (λ n. rewrites_left m c (shape_of_set m n) (pipe_of a.pipe)) rewrite'.0 in
@@ -179,9 +178,68 @@ module _ (m : Model) (c : Customs) where
         omega (arith, k, l, same, there)
 
   -- where no later rule applies, what was reached is the plan
-  pub turned-plan : (t q : Typed) → IsTurned t q → IsFirstOf later_rules m c q None → IsTypedPlan m c t q
+  pub turned-plan : (t q : Typed) → IsTurned m c t q → IsFirstOf later_rules m c q None → IsTypedPlan m c t q
   turned-plan t q h none = record {
     set = h.set;
     shape = h.shape;
     pipe = h.plan (pipe_of q.pipe) (plan_of_settled m c (shape_of_set m q.set) (pipe_of q.pipe) (h.later ∙ none));
   }
+
+  -- ---- rounds
+
+  -- a typed pipeline has its own plan, and so has a copy
+  pub own-plan : (t q : Typed) → IsTyping m c t → q.set ≡ t.set → q.shape ≡ t.shape → pipe_of q.pipe ≡ pipe_of t.pipe → HasPlanOf m c t q
+  own-plan t q typing set shape same = record {
+    set = set;
+    shape = shape;
+    typing = subst (λ Z. Types m c (shape_of_set m q.set) (pipe_of q.pipe) Z) (sym shape) (subst (λ p. Types m c (shape_of_set m q.set) p t.shape) (sym same) (subst (λ n. Types m c (shape_of_set m n) (pipe_of t.pipe) t.shape) (sym set) typing));
+    plan = λ r h. subst (λ n. IsPlanOf m c (shape_of_set m n) (pipe_of t.pipe) r) set (subst (λ p. IsPlanOf m c (shape_of_set m q.set) p r) same h);
+  }
+
+  -- what comes in place of it
+  round-plan : (t q : Typed) (p : Pipe) → q.set ≡ t.set → q.shape ≡ t.shape → pipe_of q.pipe ≡ p → IsRound m c (shape_of_set m t.set) t.shape (pipe_of t.pipe) p → HasPlanOf m c t q
+  round-plan t q p set shape same k = record {
+    set = set;
+    shape = shape;
+    typing = subst (λ Z. Types m c (shape_of_set m q.set) (pipe_of q.pipe) Z) (sym shape) (subst (λ z. Types m c (shape_of_set m q.set) z t.shape) (sym same) (subst (λ n. Types m c (shape_of_set m n) p t.shape) (sym set) (k.typed).typed));
+    plan = λ r h. k.plan r (subst (λ z. IsPlanOf m c (shape_of_set m t.set) z r) same (subst (λ n. IsPlanOf m c (shape_of_set m n) (pipe_of q.pipe) r) set h));
+  }
+
+  module _ (t : Typed) (customs : IsTrue (customs_typed m c)) (typing : IsTyping m c t) (gives : IsTrue (gives_anywhere (pipe_of t.pipe))) where
+    -- the walk by all rules, and the filters that come out then
+    pub factor-round : FactoringKeepsPlan → (q r : Typed) → IsWalked All m c t q → IsWithFactored q r → HasPlanOf m c t r
+    factor-round law q r w f =
+        let S = shape_of_set m t.set in
+        round-plan t r (factored (walk All m c S (pipe_of t.pipe))) (f.set ∙ w.set) (f.shape ∙ w.shape) (f.pipe ∙ ap factored w.pipe) (law m c S t.shape (pipe_of t.pipe) (typed-from t customs typing) gives)
+
+    -- where none came out, no rule applies
+    pub round-end : UnfactoredIsSettled → (q r : Typed) → IsWalked All m c t q → IsWithFactored q r → pipe_of r.pipe ≡ pipe_of q.pipe → next m c (shape_of_set m r.set) (pipe_of r.pipe) ≡ None
+    round-end law q r w f same =
+        let S = shape_of_set m t.set in
+        let v = walk All m c S (pipe_of t.pipe) in
+        let e : factored v ≡ v = sym (ap factored w.pipe) ∙ sym f.pipe ∙ same ∙ w.pipe in
+        (λ i. next m c (shape_of_set m ((f.set ∙ w.set) i)) ((same ∙ w.pipe) i)) ∙ law m c S t.shape (pipe_of t.pipe) (typed-from t customs typing) gives e
+
+  -- it is not known whether a rule applies
+  pub not-known : (t q : Typed) → HasPlanOf m c t q → IsRounded m c t (q, false)
+  not-known t q h = record { made = h; done = λ d. absurd (true≢false (sym d)) }
+
+  -- of what no rule applies to, the next rewrite is by a later rule, and there is none
+  pub ended-begun : (t q : Typed) → HasPlanOf m c t q → next m c (shape_of_set m q.set) (pipe_of q.pipe) ≡ None → IsBegun m c t (q, true)
+  ended-begun t q h e =
+      let S = shape_of_set m q.set in
+      let First : Rule → Option Pipe = λ r. first_rewrite r m c S (pipe_of q.pipe) in
+      let later : find_map First later_rules ≡ None = (no-first (find_map First (rules_of Early)) (find_map First later_rules) (sym (found-append First (rules_of Early) later_rules) ∙ e)) in
+      record { made = record { set = h.set; shape = h.shape; typing = h.typing; plan = h.plan; later = e ∙ sym later }; done = λ d. later }
+    where
+      no-first : {X : Type 0} (a b : Option X) → first_some a b ≡ None → b ≡ None
+      no-first None b e = e
+      no-first (Some x) b e = none_or x (sym e)
+
+  -- turned behind rounds
+  pub begun-chain : (t q r : Typed) → HasPlanOf m c t q → IsTurn m c q r → IsBegun m c t (r, false)
+  begun-chain t q r h k = record { made = turn-chain t q r h (turn-first q r k); done = λ d. absurd (true≢false (sym d)) }
+
+  -- a turn more, and what comes of it
+  pub turn-begun : (t q a : Typed) (r : Typed × Bool) → IsTurned m c t q → IsFirstOf later_rules m c q (Some a) → IsBegun m c a r → IsBegun m c t r
+  turn-begun t q a r h f k = record { made = turn-turned t q a r.0 h f k.made; done = k.done }

@@ -1,7 +1,8 @@
 -- Plans as their two typings, and one rewrite of a typed pipeline.
-use Rattle.std.specs.Prelude.{◌≡◌, ◌⊎◌, ℕ, List, Option, Some, None, drop, length, unwrap_or}
+use Rattle.std.specs.Prelude.{◌≡◌, ◌⊎◌, ℕ, Bool, true, List, Option, Some, None, drop, length, unwrap_or}
 use Rattle.edm_values.specs.Lists.{find_map}
 use Rattle.edm_model.specs.Models.{Model}
+use Rattle.apply_ast.specs.Trees.{Pipe}
 use Rattle.apply_ast.specs.Views.{pipe_of}
 use Rattle.context_typing.specs.Answers.{IsTyping}
 use Rattle.context_typing.specs.Typing.{Customs, shape_of_set}
@@ -66,6 +67,31 @@ pub record IsGiven (m : Model) (c : Customs) (t q : Typed) : Type 0 where
   pub set : q.set ≡ t.set
   pub shape : q.shape ≡ t.shape
   pub pipe : pipe_of q.pipe ≡ factored (walk All m c (shape_of_set m t.set) (pipe_of t.pipe))
+
+-- a typed pipeline whose plan is the plan of another, with its set and its shape
+pub record HasPlanOf (m : Model) (c : Customs) (t q : Typed) : Type 0 where
+  pub set : q.set ≡ t.set
+  pub shape : q.shape ≡ t.shape
+  pub typing : IsTyping m c q
+  pub plan : (r : Pipe) → IsPlanOf m c (shape_of_set m q.set) (pipe_of q.pipe) r → IsPlanOf m c (shape_of_set m t.set) (pipe_of t.pipe) r
+
+-- such a pipeline, of which the next rewrite is by a later rule
+pub record IsTurned (m : Model) (c : Customs) (t q : Typed) : Type 0 where
+  pub set : q.set ≡ t.set
+  pub shape : q.shape ≡ t.shape
+  pub typing : IsTyping m c q
+  pub plan : (r : Pipe) → IsPlanOf m c (shape_of_set m q.set) (pipe_of q.pipe) r → IsPlanOf m c (shape_of_set m t.set) (pipe_of t.pipe) r
+  pub later : next m c (shape_of_set m q.set) (pipe_of q.pipe) ≡ find_map (λ r. first_rewrite r m c (shape_of_set m q.set) (pipe_of q.pipe)) later_rules
+
+-- a pipeline with the same plan, and whether it is known that no rule applies to it
+pub record IsRounded (m : Model) (c : Customs) (t : Typed) (q : Typed × Bool) : Type 0 where
+  pub made : HasPlanOf m c t q.0
+  pub done : q.1 ≡ true → next m c (shape_of_set m q.0.set) (pipe_of q.0.pipe) ≡ None
+
+-- such a pipeline, of which the next rewrite is by a later rule, and whether it is known that there is none
+pub record IsBegun (m : Model) (c : Customs) (t : Typed) (q : Typed × Bool) : Type 0 where
+  pub made : IsTurned m c t q.0
+  pub done : q.1 ≡ true → IsFirstOf later_rules m c q.0 None
 
 -- a typed pipeline that rewrites lead to from another, with its set and its shape, of which the next rewrite is by a later rule
 pub record IsTurn (m : Model) (c : Customs) (t q : Typed) : Type 0 where

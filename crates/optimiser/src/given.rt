@@ -63,7 +63,7 @@ fn has_own_front(all: &PipeList, branch: &Pipe) -> bool
 }
 
 /// Whether so it is with one of the branches.
-fn some_own(branches: &PipeList) -> bool
+pub(crate) fn some_own(branches: &PipeList) -> bool
     ensures { result ≡ spec.some_own (pipes_of branches.now) (pipes_of branches.now) }
 {
     for branch in branches.as_slice() {

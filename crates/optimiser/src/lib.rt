@@ -14,13 +14,14 @@
 //! A plan is not made rewrite by rewrite. `walk_laws` defines a walk over a pipeline, and has the laws by which `plans` uses it: a
 //! pipeline becomes its plan in one walk by all rules where two branches of each concatenation begin with different steps for good,
 //! as where there is no concatenation, and in one walk and what then comes out of all branches where the others give filters alone,
-//! which stay before them. Any other is settled in one walk by the rules that come first; where its filters rest then,
-//! all steps that come out of branches are put before their concatenations; then comes one rewrite by a later rule, and the walk
-//! again, until no rule applies. `next_rewrite` makes one rewrite, for comparisons.
+//! which stay before them. Where the others give filters alone that may go on, it is put anew in rounds of these two, as long as
+//! filters come out. Any other is settled in one walk by the rules that come first; where its filters rest then,
+//! all steps that come out of branches are put before their concatenations; then comes one rewrite by a later rule, and the rounds
+//! and the walk again, until no rule applies. `next_rewrite` makes one rewrite, for comparisons.
 //!
 //! `plans` has the plan, `walking` the walk, `apart` whether branches begin with different steps for good,
-//! `given` whether filters come out of the others and stay before them, `resting` whether filters
-//! rest, `factoring` the steps that come out of branches, and `rewriting` the one rewrite. Below `walking`, `known` has what is
+//! `given` whether filters come out of the others and stay before them, `anywhere` whether nothing but filters comes out of them,
+//! `resting` whether filters rest, `factoring` the steps that come out of branches, and `rewriting` the one rewrite. Below `walking`, `known` has what is
 //! known of the steps of a pipeline before a walk comes to them: the shapes at the ends of branches, and those behind steps that
 //! hold pipelines, so that no branch is typed again. `held` has the segments of a walk, a step with the filters behind it;
 //! `heads` says which filters pass a step and which go into it; `idle` drops steps that are idle at the end; `putting` puts
@@ -28,6 +29,7 @@
 //! and `inside` laws of what is typed and known inside a typed step.
 #![tactic(auto)]
 
+mod anywhere;
 mod apart;
 mod ends;
 mod factoring;
@@ -42,6 +44,7 @@ mod putting;
 mod resting;
 mod rewriting;
 mod rules;
+mod same;
 mod stepping;
 mod walking;
 

@@ -10,16 +10,19 @@ ghost use Rattle.context_typing.specs.Typing.{customs_typed, shape_of_set};
 ghost use Rattle.context_typing.specs.Typing as typing;
 ghost use Rattle.rewrite_laws.specs.RewriteLaws.{MayStandFor};
 ghost use Rattle.rewrite_laws.specs.Rewrites.{IsPlanOf};
+ghost use Rattle.walk_laws.specs.FiltersOut as spec;
 ghost use Rattle.walk_laws.specs.Walks as walks;
-ghost use Rattle.optimiser.specs.Plans.{AreOneTyping, IsGiven, IsPlan, IsTurn, IsTypedPlan, IsWalked, IsWithFactored, own_of, written_of};
+ghost use Rattle.optimiser.specs.Plans.{AreOneTyping, IsBegun, IsGiven, IsPlan, IsRounded, IsTurn, IsTypedPlan, IsWalked, IsWithFactored, own_of, written_of};
 ghost use Rattle.optimiser.specs.WalkRules.{rules_named};
 
+use crate::anywhere::gives_anywhere;
 use crate::apart::stays_apart;
 use crate::factoring::factored;
 use crate::given::gives_at_front;
 use crate::resting::pipe_rests;
 use crate::rewriting::later_rewrite;
 use crate::rules::Rules;
+use crate::same::same_pipe;
 use crate::walking::walk;
 use apply_ast::Pipe;
 use context_typing::{Customs, Typed, set_shape};
@@ -27,8 +30,14 @@ use edm_model::Model;
 use std::alloc::{AllocError, Global};
 use walk_laws::{
     apart_walk_is_plan, early_walk_is_plan, early_walk_keeps_meaning, factoring_is_rewriting,
-    given_walk_is_plan, later_rules_follow,
+    factoring_keeps_plan, given_walk_is_plan, later_rules_follow, unfactored_is_settled,
 };
+
+/// How often filters come out of all branches and are put anew, at most: a line has fewer steps.
+const ROUNDS: usize = 256;
+
+/// How many rewrites by later rules are made with such rounds behind them, at most.
+const TURNS: usize = 65_536;
 
 /// A pipeline that was written, and the pipeline that is run in its place. Where nothing is in its place, it is run itself.
 #[derive(Drop)]
@@ -145,9 +154,91 @@ fn given(alloc: Global, m: &Model, c: &Customs, t: &Typed) -> Result<Typed, Allo
     with_factored(alloc, &all)
 }
 
+/// A typed pipeline each of whose concatenations stays apart or gives filters alone, settled in one walk by all rules, with the filters
+/// that come out of branches then before the concatenations; and whether none did.
+fn one_round(alloc: Global, m: &Model, c: &Customs, t: &Typed) -> Result<(Typed, bool), AllocError>
+    requires set { IsSet m.now t.now.set }
+    requires customs { AreTypedOver m.now c.now }
+    requires whole { IsTrue (customs_typed m.now (readings c.now)) }
+    requires typing { IsTyping m.now (readings c.now) t.now }
+    requires gives { IsTrue (spec.gives_anywhere (pipe_of t.now.pipe)) }
+    ensures { IfOk result (IsRounded m.now (readings c.now) t.now) }
+{
+    factoring_keeps_plan();
+    unfactored_is_settled();
+    let all = walked(alloc, m, c, Rules::All, t)?;
+    let out = with_factored(alloc, &all)?;
+    let done = same_pipe(&out.pipe, &all.pipe);
+    Ok((out, done))
+}
+
+/// A typed pipeline with the same plan: put anew in such rounds as long as each concatenation stays apart or gives filters alone, and
+/// some come out; and whether no rule applies to it, since none came out.
+fn rounded(alloc: Global, m: &Model, c: &Customs, t: &Typed) -> Result<(Typed, bool), AllocError>
+    requires set { IsSet m.now t.now.set }
+    requires customs { AreTypedOver m.now c.now }
+    requires whole { IsTrue (customs_typed m.now (readings c.now)) }
+    requires typing { IsTyping m.now (readings c.now) t.now }
+    ensures { IfOk result (IsRounded m.now (readings c.now) t.now) }
+{
+    let mut current = t.copy(alloc)?;
+    for _round in 0..ROUNDS {
+        if !gives_anywhere(&current.pipe) {
+            return Ok((current, false));
+        }
+        let (next, done) = one_round(alloc, m, c, &current)?;
+        current = next;
+        if done {
+            return Ok((current, true));
+        }
+    }
+    Ok((current, false))
+}
+
+/// The same, settled by the rules that come first.
+fn begun(alloc: Global, m: &Model, c: &Customs, t: &Typed) -> Result<(Typed, bool), AllocError>
+    requires set { IsSet m.now t.now.set }
+    requires customs { AreTypedOver m.now c.now }
+    requires whole { IsTrue (customs_typed m.now (readings c.now)) }
+    requires typing { IsTyping m.now (readings c.now) t.now }
+    ensures { IfOk result (IsBegun m.now (readings c.now) t.now) }
+{
+    let (from, done) = rounded(alloc, m, c, t)?;
+    if done {
+        return Ok((from, true));
+    }
+    let next = turned(alloc, m, c, &from)?;
+    Ok((next, false))
+}
+
+/// The same behind rewrites by later rules, until none applies or as many have been made.
+fn turns(alloc: Global, m: &Model, c: &Customs, t: &Typed) -> Result<(Typed, bool), AllocError>
+    requires set { IsSet m.now t.now.set }
+    requires customs { AreTypedOver m.now c.now }
+    requires whole { IsTrue (customs_typed m.now (readings c.now)) }
+    requires typing { IsTyping m.now (readings c.now) t.now }
+    ensures { IfOk result (IsBegun m.now (readings c.now) t.now) }
+{
+    let (mut current, mut done) = begun(alloc, m, c, t)?;
+    for _turn in 0..TURNS {
+        if done {
+            return Ok((current, true));
+        }
+        match later_rewrite(alloc, m, c, &current)? {
+            Some(after) => {
+                let (next, ended) = begun(alloc, m, c, &after)?;
+                current = next;
+                done = ended;
+            }
+            None => return Ok((current, true)),
+        }
+    }
+    Ok((current, done))
+}
+
 /// The plan of a typed pipeline. One walk by all rules makes it where the branches of concatenations stay apart; and where the others
-/// give filters that stay before them, once these have come out. Any other is settled by the rules that come first, and again behind
-/// each rewrite by a later rule, until none applies.
+/// give filters that stay before them, once these have come out. Any other is put anew as long as the others give filters alone and
+/// some come out, and settled by the rules that come first; so again behind each rewrite by a later rule, until none applies.
 fn planned(alloc: Global, m: &Model, c: &Customs, t: &Typed) -> Result<Typed, AllocError>
     requires set { IsSet m.now t.now.set }
     requires customs { AreTypedOver m.now c.now }
@@ -163,7 +254,10 @@ fn planned(alloc: Global, m: &Model, c: &Customs, t: &Typed) -> Result<Typed, Al
     if gives_at_front(&t.pipe) {
         return given(alloc, m, c, t);
     }
-    let mut current = turned(alloc, m, c, t)?;
+    let (mut current, done) = turns(alloc, m, c, t)?;
+    if done {
+        return Ok(current);
+    }
     while let Some(after) = later_rewrite(alloc, m, c, &current)? {
         let next = turned(alloc, m, c, &after)?;
         current = next;

@@ -12,11 +12,11 @@ use context_typing::{Shape, is_sure};
 use edm_model::Model;
 use std::alloc::{AllocError, Global};
 
-/// Whether a filter passes a segment.
+/// Whether a filter passes a segment. The filters behind it are looked at last, since they may be many.
 fn passed(segment: &Segment, test: &Test) -> bool
     ensures { result ≡ (spec.tests_passed (map held.test_of segment.now.tests.items) (held.test_of test.now) && segment.now.lets && held.passes segment.now.passage (held.test_of test.now)) }
 {
-    tests_passed(segment.tests.as_slice(), test) && segment.lets && passes(&segment.passage, test)
+    segment.lets && passes(&segment.passage, test) && tests_passed(segment.tests.as_slice(), test)
 }
 
 /// How many segments stand before those at the end that a filter passes.
@@ -44,10 +44,15 @@ fn entering(
     requires { IsTrue (held.is_right m.now segment.now.entry) }
     ensures { IfOk result (λ o. option_map expr_of o ≡ (if spec.tests_passed (map held.test_of segment.now.tests.items) (held.test_of test.now) then held.enters m.now segment.now.entry (held.test_of test.now) else None)) }
 {
-    if tests_passed(segment.tests.as_slice(), test) {
-        enters(alloc, m, &segment.entry, test)
-    } else {
-        Ok(None)
+    match enters(alloc, m, &segment.entry, test)? {
+        Some(into) => {
+            if tests_passed(segment.tests.as_slice(), test) {
+                Ok(Some(into))
+            } else {
+                Ok(None)
+            }
+        }
+        None => Ok(None),
     }
 }
 

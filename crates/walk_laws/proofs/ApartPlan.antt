@@ -1,10 +1,10 @@
 -- A typed pipeline whose concatenations stay apart, settled in one walk by all rules, is its plan.
 use Rattle.std.proofs.Common.{◌≡◌, ◌||◌, refl, sym, ◌∙◌, ap, subst, ℕ, zero, suc, Bool, true, false, List, [], ◌∷◌, drop, Option, Some, None, IsTrue, Contains, arith, ◌⊎◌, inl, inr}
-use Rattle.std.proofs.lemmas.Bool.{true≢false}
+use Rattle.std.proofs.lemmas.Bool.{and_from, and_parts, true≢false}
 use Rattle.edm_values.specs.Lists.{find_map}
 use Rattle.edm_values.proofs.EachLemmas.{Each, each-contains}
 use Rattle.edm_model.specs.Models.{Model}
-use Rattle.apply_ast.specs.Trees.{Pipe, is_long}
+use Rattle.apply_ast.specs.Trees.{Key, Keys, OptPipe, Pipe, Step, is_long}
 use Rattle.context_typing.specs.Shapes.{Shape}
 use Rattle.context_typing.specs.Typing.{Customs, is_nodes}
 use Rattle.context_typing.proofs.TypingLaw.{typing_keeps_lawful}
@@ -15,9 +15,9 @@ use Rattle.rewrite_laws.proofs.OneOutcome.{outcome-in_place}
 use Rattle.rewrite_laws.proofs.PlanEnds.{plan_of_next, plan_of_settled, rewrites_left, rewrites_left-next}
 use Rattle.rewrite_laws.proofs.PlanLaws.{no-first}
 use Rattle.rewrite_laws.proofs.PlanMeaning.{find_map-from, first-contains}
-use Rattle.walk_laws.specs.Apart.{stays_apart}
-use Rattle.walk_laws.specs.Walks.{All, front, walk, whole}
-use Rattle.walk_laws.specs.WalkLaws.{ApartWalkIsPlan}
+use Rattle.walk_laws.specs.Apart.{inner_apart, key_apart, keys_apart, step_apart, stays_apart}
+use Rattle.walk_laws.specs.Walks.{All, front, is_unbranched, unbranched_inner, unbranched_key, unbranched_keys, unbranched_step, walk, whole}
+use Rattle.walk_laws.specs.WalkLaws.{ApartWalkIsPlan, WalkIsPlan}
 use Rattle.walk_laws.proofs.ApartPlaces.{apart_anywhere, factor-nowhere}
 use Rattle.walk_laws.proofs.ApartRules.{KeepsApart, aggregate-apart, branches-apart, compute-apart, count-apart, grouping-apart, identity-apart, idle-apart, join-apart, nodes-apart, order-apart, outer_join-apart, related-apart, split-apart, traverse-apart, true-apart}
 use Rattle.walk_laws.proofs.Unsplit.{Unsplit}
@@ -26,8 +26,7 @@ use Rattle.walk_laws.proofs.WalkKept.{rest-walked}
 use Rattle.walk_laws.proofs.WalkNodes.{chosen-put, idle-put}
 use Rattle.walk_laws.proofs.WalkPassing.{PutsSame}
 use Rattle.walk_laws.proofs.WalkPlaces.{AlikeSteps, put_anywhere}
-use Rattle.walk_laws.proofs.WalkPlan.{first-of_two, found-none}
-use Rattle.walk_laws.proofs.WalkRest.{at-identity, at-split, at-true}
+use Rattle.walk_laws.proofs.WalkPlan.{first-of_two, found-none, rules-within}
 use Rattle.walk_laws.proofs.WalkRules.{aggregate-put, compute-put, count-put, identity-put, order-put, split-put, true-put}
 use Rattle.walk_laws.proofs.WalkSteps.{groups-put, join-put, nodes-put, outer_join-put, rollup-put, traverse-put}
 use Rattle.walk_laws.proofs.WalkUnbranched.{KeepsUnbranched, aggregate-kept, branches-kept, compute-kept, count-kept, grouping-kept, identity-kept, idle-kept, join-kept, nodes-kept, order-kept, outer_join-kept, related-kept, split-kept, traverse-kept, true-kept}
@@ -129,19 +128,19 @@ module _ (m : Model) (c : Customs) (S S' : Shape) (p : Pipe) (t : IsTypedFrom m 
   by-others a b q e =
       let x = find_map-from First (drop 3 rules) q e in
       each-contains IsGood (drop 3 rules) x.0
-      (all-good (λ n. record { split = nothing split_conjunction (at-split All) a; true' = nothing drop_true (at-true All) b }))
+      (all-good (λ n. record { split = nothing split_conjunction (1, omega arith, refl) a; true' = nothing drop_true (2, omega arith, refl) b }))
       x.1 q x.2
 
   by-true : First split_conjunction ≡ None → (q : Pipe) → (First drop_true ≡ Some q) ⊎ ((First drop_true ≡ None) × (find_map First (drop 3 rules) ≡ Some q)) → IsAlike q
-  by-true a q (inl e) = made-alike false drop_true (at-true All) (true-put false All m c) (true-kept m c) (true-apart m c) none-needed q e
+  by-true a q (inl e) = made-alike false drop_true (2, omega arith, refl) (true-put false All m c) (true-kept m c) (true-apart m c) none-needed q e
   by-true a q (inr e) = by-others a e.0 q e.1
 
   by-split : (q : Pipe) → (First split_conjunction ≡ Some q) ⊎ ((First split_conjunction ≡ None) × (find_map First (drop_true ∷ drop 3 rules) ≡ Some q)) → IsAlike q
-  by-split q (inl e) = made-alike false split_conjunction (at-split All) (split-put false All m c) (split-kept m c) (split-apart m c) none-needed q e
+  by-split q (inl e) = made-alike false split_conjunction (1, omega arith, refl) (split-put false All m c) (split-kept m c) (split-apart m c) none-needed q e
   by-split q (inr e) = by-true e.0 q (first-of_two (First drop_true) (find_map First (drop 3 rules)) q e.1)
 
   by-identity : (q : Pipe) → (First drop_identity ≡ Some q) ⊎ ((First drop_identity ≡ None) × (find_map First (split_conjunction ∷ drop_true ∷ drop 3 rules) ≡ Some q)) → IsAlike q
-  by-identity q (inl e) = made-alike false drop_identity (at-identity All) (identity-put false All m c) (identity-kept m c) (identity-apart m c) none-needed q e
+  by-identity q (inl e) = made-alike false drop_identity (0, omega arith, refl) (identity-put false All m c) (identity-kept m c) (identity-apart m c) none-needed q e
   by-identity q (inr e) = by-split q (first-of_two (First split_conjunction) (find_map First (drop_true ∷ drop 3 rules)) q e.1)
 
   -- so it is with what comes next
@@ -150,7 +149,7 @@ module _ (m : Model) (c : Customs) (S S' : Shape) (p : Pipe) (t : IsTypedFrom m 
 
   -- where nothing comes next the walk leaves the pipeline as it stands
   walk-rest : next m c S p ≡ None → walk All m c S p ≡ p
-  walk-rest e = rest-walked All m c p S S' t.typed.0 t.typed.1 (λ r k. nothing r k (found-none First rules e r k))
+  walk-rest e = rest-walked All m c p S S' t.typed.0 t.typed.1 (λ r k. let z = rules-within All r k in nothing r z (found-none First rules e r z))
 
   -- what comes next is typed
   next-typed : (q : Pipe) → next m c S p ≡ Some q → IsTypedFrom m c S S' q
@@ -186,3 +185,32 @@ module _ (m : Model) (c : Customs) (S S' : Shape) where
 
 pub apart_walk_is_plan : ApartWalkIsPlan
 apart_walk_is_plan m c S S' p t u = by-left m c S S' (rewrites_left m c S p) p refl t u
+
+-- ---- pipelines without a concatenation
+
+mutual
+  unbranched-apart : (p : Pipe) → is_unbranched p ≡ true → stays_apart p ≡ true
+  unbranched-apart Pipe.End h = refl
+  unbranched-apart (Pipe.Then s p) h = let t = and_parts (unbranched_step s) (is_unbranched p) h in and_from (step_apart s) (stays_apart p) (step-apart s t.0) (unbranched-apart p t.1)
+
+  inner-apart : (T : OptPipe) → unbranched_inner T ≡ true → inner_apart T ≡ true
+  inner-apart OptPipe.NoPipe h = refl
+  inner-apart (OptPipe.SomePipe p) h = unbranched-apart p h
+
+  keys-apart : (ks : Keys) → unbranched_keys ks ≡ true → keys_apart ks ≡ true
+  keys-apart Keys.NoKeys h = refl
+  keys-apart (Keys.MoreKeys k ks) h = let t = and_parts (unbranched_key k) (unbranched_keys ks) h in and_from (key_apart k) (keys_apart ks) (key-apart k t.0) (keys-apart ks t.1)
+
+  key-apart : (k : Key) → unbranched_key k ≡ true → key_apart k ≡ true
+  key-apart (Key.Recursive h p T) e = inner-apart T e
+  key-apart k e = refl
+
+  step-apart : (s : Step) → unbranched_step s ≡ true → step_apart s ≡ true
+  step-apart (Step.GroupBy ks T) h = let t = and_parts (unbranched_keys ks) (unbranched_inner T) h in and_from (keys_apart ks) (inner_apart T) (keys-apart ks t.0) (inner-apart T t.1)
+  step-apart (Step.Concat ps) h = absurd (true≢false (sym h))
+  step-apart (Step.Join outer n a T) h = inner-apart T h
+  step-apart (Step.Climb up h p T d keep) e = unbranched-apart T e
+  step-apart s h = refl
+
+pub walk_is_plan : WalkIsPlan
+walk_is_plan m c S S' p t u = apart_walk_is_plan m c S S' p t (unbranched-apart p u)

@@ -57,7 +57,7 @@ rest-rests b (Pipe.Then s q) h = ap (λ p. is_alone (Pipe.Then s p) || (step_res
     go true = refl
     go false = h
 
-rest-factored : (q : Pipe) → factored_steps (pipe_or_identity (steps q)) ≡ factored_steps q
+pub rest-factored : (q : Pipe) → factored_steps (pipe_or_identity (steps q)) ≡ factored_steps q
 rest-factored Pipe.End = refl
 rest-factored (Pipe.Then s q) = ap (λ p. factored_steps (Pipe.Then s p)) (pipe-steps q)
 

@@ -9,7 +9,7 @@ use Rattle.apply_ast.specs.Trees.{Expr, Pipe, Pipes, Step, TopStep, pipe, steps}
 use Rattle.context_typing.specs.Shapes.{Shape}
 use Rattle.context_typing.specs.Typing.{Customs, steps_shape}
 use Rattle.context_typing.proofs.WalkFacts.{pipe-steps}
-use Rattle.rewrite_laws.specs.Rewrites.{branches, pipe_or_identity}
+use Rattle.rewrite_laws.specs.Rewrites.{pipe_or_identity}
 use Rattle.rewrite_laws.specs.TreeEquality.{step_same}
 use Rattle.rewrite_laws.proofs.FactorRule.{begins-with, rests}
 use Rattle.rewrite_laws.proofs.RuleLemmas.{after-filter}
@@ -163,11 +163,12 @@ module _ (m : Model) (c : Customs) (S : Shape) (e : Expr) (one : parts m S e ≡
   filter-first q = one-filter All m c S e q front ∙ ap (put_steps All m c S q) (put-one All m c S e front one ∙ put-stop (front_with []) f [] (front-stops []))
 
   -- a branch without its first filter
-  abbrev given : Pipe → List Expr → Pipe
+  abbrev pub given : Pipe → List Expr → Pipe
   given p es = whole (put_filters m (shape_behind m c S p) es (put_steps All m c S p front))
 
-  out-of-branch : (q : Pipe) (es : List Expr) → factored_steps (given (Pipe.Then (Step.Filter e) q) es) ≡ Step.Filter e ∷ factored_steps (given (pipe_or_identity (steps q)) es)
-  out-of-branch q es =
+  -- what a branch comes to, with the filter and without it
+  pub branch-given : (q : Pipe) (es : List Expr) → (l : List Step) × (given (Pipe.Then (Step.Filter e) q) es ≡ pipe_or_identity (Step.Filter e ∷ l)) × (given (pipe_or_identity (steps q)) es ≡ pipe_or_identity l)
+  branch-given q es =
       let T = shape_behind m c S q in
       let gs = put_filters m T es (put_steps All m c S q (front_with (f ∷ []) ∷ [])) in
       let hs = put_filters m T es (put_steps All m c S q front) in
@@ -177,11 +178,16 @@ module _ (m : Model) (c : Customs) (S : Shape) (e : Expr) (one : parts m S e ≡
       (record { before = []; one = front_with (f ∷ []) ∷ []; other = front; first = refl; second = refl; differ = record { tests = []; one = refl; other = refl } })) in
       let ts = map (λ (t : Test). Step.Filter t.expr) (k.differ).tests in
       let x : all_steps gs ≡ Step.Filter e ∷ (ts ++ all_steps k.before) = ap all_steps k.first ∙ steps-append k.before k.one ∙ ap (λ l. all_steps l ++ all_steps k.before) (k.differ).one in
-      let y : all_steps hs ≡ ts ++ all_steps k.before = ap all_steps k.second ∙ steps-append k.before k.other ∙ ap (λ l. all_steps l ++ all_steps k.before) (k.differ).other in
-      (λ i. factored_steps (whole (put_filters m (shape_behind m c (after-filter m c S e i) q) es (filter-first q i))))
-      ∙ out-identity (all_steps gs) ∙ ap OutOf x
-      ∙ ap (λ l. Step.Filter e ∷ OutOf l) (sym y)
-      ∙ ap (λ l. Step.Filter e ∷ l) (sym (out-identity (all_steps hs)) ∙ sym (λ i. factored_steps (whole (put_filters m (rest-behind q i) es (rest-put q front i)))))
+      let y : all_steps hs ≡ ts ++ all_steps k.before = ap all_steps k.second ∙ steps-append k.before k.other ∙ ap (λ l. all_steps l ++ all_steps k.before) (k.differ).other in (
+        ts ++ all_steps k.before,
+        (λ i. whole (put_filters m (shape_behind m c (after-filter m c S e i) q) es (filter-first q i))) ∙ ap pipe_or_identity x,
+        (λ i. whole (put_filters m (rest-behind q i) es (rest-put q front i))) ∙ ap pipe_or_identity y,
+      )
+
+  out-of-branch : (q : Pipe) (es : List Expr) → factored_steps (given (Pipe.Then (Step.Filter e) q) es) ≡ Step.Filter e ∷ factored_steps (given (pipe_or_identity (steps q)) es)
+  out-of-branch q es =
+      let t = branch-given q es in
+      ap factored_steps t.1 ∙ ap (λ l. Step.Filter e ∷ l) (sym (ap factored_steps t.2 ∙ out-identity t.0))
 
   -- all branches
   out-of-branches : (ps : Pipes) (es : List Expr) → Begin (Step.Filter e) ps ≡ true → factored_branches (settled_branches All m c S ps es) ≡ map (λ l. (Step.Filter e ∷ []) ++ l) (factored_branches (settled_branches All m c S (rests ps) es))

@@ -24,8 +24,8 @@ use Rattle.rewrite_laws.proofs.SameTrees.{Begin, rest}
 use Rattle.rewrite_laws.proofs.StepLists.{identity-shape}
 use Rattle.walk_laws.specs.Apart.{branches_apart, is_firm, is_loose, leads_to, may_go, stays_apart, step_apart}
 use Rattle.walk_laws.specs.Factored.{before_concat, factored_branches}
-use Rattle.walk_laws.specs.FiltersOut.{filters_stay, front_of, gives_filters, has_own_front, some_beside, some_own, stays_behind}
-use Rattle.walk_laws.specs.Walks.{All, Segment, Test, all_steps, head_of, judged, parts, put_selection, put_step, put_steps, put_test, segment, segment_steps, selection, settled_branches, settled_step, step_enters, taken, taken_as, tests_passed, with_test, without_orders}
+use Rattle.walk_laws.specs.FiltersOut.{branches_give, front_of, gives_alone, has_own_front, may_give, some_beside, some_own, stays_behind}
+use Rattle.walk_laws.specs.Walks.{All, Segment, Test, all_steps, head_of, judged, parts, put_selection, put_step, put_steps, put_test, segment_steps, selection, settled_branches, settled_step, step_enters, taken, taken_as, tests_passed, with_test, without_orders}
 use Rattle.walk_laws.proofs.ApartPlaces.{branches-nowhere, factor-none, step-nowhere}
 use Rattle.walk_laws.proofs.GivenFilters.{OutOf, StopsLast, middle-none, out-append, out-of-concat, put-stop, stop-step}
 use Rattle.walk_laws.proofs.SameItself.{step-self}
@@ -37,7 +37,7 @@ use Rattle.walk_laws.proofs.WalkPuts.{one-filter, one-step}
 
 -- ---- segments of concatenations
 
-abbrev concat_with : (Test → Option Expr) → (List Expr → Pipes) → List Test → Segment
+abbrev pub concat_with : (Test → Option Expr) → (List Expr → Pipes) → List Test → Segment
 concat_with E K ts = record { lets = false; passes = λ t. false; enters = E; head = λ es. Some (Step.Concat (K es)); tests = ts }
 
 -- two concatenations of which the first gives one filter more, before two lists
@@ -49,14 +49,14 @@ record ConcatsDiffer (e : Expr) (E : Test → Option Expr) (T1 T2 a b : List Seg
   one : a ≡ concat_with E k1 tests ∷ T1
   other : b ≡ concat_with E k2 tests ∷ T2
 
-put-concat : (E : Test → Option Expr) (K : List Expr → Pipes) (ts : List Test) (t : Test) (T : List Segment) → put_test t (concat_with E K ts ∷ T) ≡ taken (concat_with E K ts) t ∷ T
+pub put-concat : (E : Test → Option Expr) (K : List Expr → Pipes) (ts : List Test) (t : Test) (T : List Segment) → put_test t (concat_with E K ts ∷ T) ≡ taken (concat_with E K ts) t ∷ T
 put-concat E K ts t T = ap (λ z. if z then concat_with E K ts ∷ put_test t T else taken (concat_with E K ts) t ∷ T) (middle-none (tests_passed ts t) false false refl)
 
-concat-orders : (E : Test → Option Expr) (K : List Expr → Pipes) (ts : List Test) (T : List Segment) → without_orders (concat_with E K ts ∷ T) ≡ concat_with E K ts ∷ T
+pub concat-orders : (E : Test → Option Expr) (K : List Expr → Pipes) (ts : List Test) (T : List Segment) → without_orders (concat_with E K ts ∷ T) ≡ concat_with E K ts ∷ T
 concat-orders E K [] T = refl
 concat-orders E K (t ∷ ts) T = refl
 
-concat-counts : (t : TopStep) (E : Test → Option Expr) (K : List Expr → Pipes) (ts : List Test) (T : List Segment) → put_selection t (concat_with E K ts ∷ T) ≡ selection t ∷ concat_with E K ts ∷ T
+pub concat-counts : (t : TopStep) (E : Test → Option Expr) (K : List Expr → Pipes) (ts : List Test) (T : List Segment) → put_selection t (concat_with E K ts ∷ T) ≡ selection t ∷ concat_with E K ts ∷ T
 concat-counts t E K [] T = refl
 concat-counts t E K (u ∷ ts) T = refl
 
@@ -85,7 +85,7 @@ map-append : {X Y : Type 0} (f : X → Y) (xs ys : List X) → map f (xs ++ ys) 
 map-append f [] ys = refl
 map-append f (x ∷ xs) ys = ap (λ l. f x ∷ l) (map-append f xs ys)
 
-abbrev filters_of : List Test → List Step
+abbrev pub filters_of : List Test → List Step
 filters_of ts = map (λ (t : Test). Step.Filter t.expr) ts
 
 -- a filter behind the last segment
@@ -142,7 +142,7 @@ none-own x (Pipes.MorePipes p ps) all l h k =
     go false e = ap (λ z. z && some_beside x all) e
     go true e = ap (λ z. is_firm x && z) (leads-all x all e l k) ∙ ap (λ z. z && false) e
 
-filter-given : (x : Step) (ps : Pipes) → is_identity x ≡ false → some_own ps ps ≡ true → Begin x ps ≡ true → (e : Expr) × (x ≡ Step.Filter e)
+pub filter-given : (x : Step) (ps : Pipes) → is_identity x ≡ false → some_own ps ps ≡ true → Begin x ps ≡ true → (e : Expr) × (x ≡ Step.Filter e)
 filter-given x ps plain own h = go x plain (loose (is_loose x) refl)
   where
     loose : (b : Bool) → is_loose x ≡ b → is_loose x ≡ true
@@ -212,18 +212,33 @@ apart-rests e (Pipes.MorePipes p ps) h =
     let q = begins-with (Step.Filter e) p t.0 in
     λ i. apart-rest e p q.0 q.1 q.2 i && apart-rests e ps t.1 i
 
-gives-rests : (e : Expr) (ps : Pipes) → Begin (Step.Filter e) ps ≡ true → gives_filters (Step.Concat (rests ps)) ≡ gives_filters (Step.Concat ps)
-gives-rests e ps h = λ i. own-rests e ps ps h h i && apart-rests e ps h i
+give-rest : (e : Expr) (p q : Pipe) → p ≡ Pipe.Then (Step.Filter e) q → drop 1 (steps p) ≡ steps q → may_give true true (rest p) ≡ may_give true true p
+give-rest e p q h k = ap (λ l. may_give true true (pipe_or_identity l)) k ∙ go q ∙ sym (ap (may_give true true) h ∙ stay-filter true true e q)
+  where
+    go : (q : Pipe) → may_give true true (pipe_or_identity (steps q)) ≡ may_give true true q
+    go Pipe.End = refl
+    go (Pipe.Then s q) = ap (may_give true true) (pipe-steps (Pipe.Then s q))
+
+give-rests : (a : Bool) (e : Expr) (ps : Pipes) → Begin (Step.Filter e) ps ≡ true → branches_give a (rests ps) ≡ branches_give a ps
+give-rests false e ps h = apart-rests e ps h
+give-rests true e Pipes.NoPipes h = refl
+give-rests true e (Pipes.MorePipes p ps) h =
+    let t = and_parts (is_some_and (step_same (Step.Filter e)) (slice_get (steps p) 0)) _ h in
+    let q = begins-with (Step.Filter e) p t.0 in
+    λ i. give-rest e p q.0 q.1 q.2 i && give-rests true e ps t.1 i
+
+pub gives-rests : (a : Bool) (e : Expr) (ps : Pipes) → Begin (Step.Filter e) ps ≡ true → gives_alone a (Step.Concat (rests ps)) ≡ gives_alone a (Step.Concat ps)
+gives-rests a e ps h = λ i. own-rests e ps ps h h i && give-rests a e ps h i
 
 -- ---- at the concatenation
 
-either : (a b : Bool) → (a || b) ≡ true → (a ≡ true) ⊎ (b ≡ true)
+pub either : (a b : Bool) → (a || b) ≡ true → (a ≡ true) ⊎ (b ≡ true)
 either true b h = inl refl
 either false b h = inr h
 
 module _ (m : Model) (c : Customs) where
   -- the filter with which all branches begin is typed, and is one part
-  first-typed : (S S' : Shape) (e : Expr) (p : Pipe) (ps : Pipes) (B : Pipe) → steps_shape m c S (Pipe.Then (Step.Concat (Pipes.MorePipes p ps)) B) ≡ Some S' → Begin (Step.Filter e) (Pipes.MorePipes p ps) ≡ true → step_shape m c S (Step.Filter e) ≡ Some S
+  pub first-typed : (S S' : Shape) (e : Expr) (p : Pipe) (ps : Pipes) (B : Pipe) → steps_shape m c S (Pipe.Then (Step.Concat (Pipes.MorePipes p ps)) B) ≡ Some S' → Begin (Step.Filter e) (Pipes.MorePipes p ps) ≡ true → step_shape m c S (Step.Filter e) ≡ Some S
   unfolding steps_shape
   first-typed S S' e p ps B typed h =
       let x = typed_first m c S S' (Step.Concat (Pipes.MorePipes p ps)) B typed in
@@ -234,7 +249,7 @@ module _ (m : Model) (c : Customs) where
       let q = begins-with (Step.Filter e) p t.0 in
       (typed_first m c S u.0 (Step.Filter e) q.0 (ap (steps_shape m c S) (sym q.1) ∙ w.1)).0 ∙ ap (λ Z. Some Z) (after-filter m c S e)
 
-  first-one : (S : Shape) (before : Bool) (e : Expr) (p : Pipe) (ps : Pipes) (B : Pipe) → Unsplit m c S before (Pipe.Then (Step.Concat (Pipes.MorePipes p ps)) B) → Begin (Step.Filter e) (Pipes.MorePipes p ps) ≡ true → parts m S e ≡ e ∷ []
+  pub first-one : (S : Shape) (before : Bool) (e : Expr) (p : Pipe) (ps : Pipes) (B : Pipe) → Unsplit m c S before (Pipe.Then (Step.Concat (Pipes.MorePipes p ps)) B) → Begin (Step.Filter e) (Pipes.MorePipes p ps) ≡ true → parts m S e ≡ e ∷ []
   first-one S before e p ps B u h =
       let t = and_parts (is_some_and (step_same (Step.Filter e)) (slice_get (steps p) 0)) _ h in
       let q = begins-with (Step.Filter e) p t.0 in
@@ -257,14 +272,14 @@ module _ (m : Model) (c : Customs) where
       let u = and_parts (is_some_and (step_same (Step.Filter e)) (slice_get (steps p) 0)) _ h in
       λ i. is_some_and (λ S'. has_kind is_boolean_kind m S' t.expr) (rest-typed S e p typed u.0 i) && rests-typed S e t ps typed u.1 i
 
-  enters-same : (S : Shape) (e : Expr) (ps : Pipes) → step_shape m c S (Step.Filter e) ≡ Some S → Begin (Step.Filter e) ps ≡ true → step_enters All m c S (Step.Concat (rests ps)) ≡ step_enters All m c S (Step.Concat ps)
+  pub enters-same : (S : Shape) (e : Expr) (ps : Pipes) → step_shape m c S (Step.Filter e) ≡ Some S → Begin (Step.Filter e) ps ≡ true → step_enters All m c S (Step.Concat (rests ps)) ≡ step_enters All m c S (Step.Concat ps)
   enters-same S e ps typed h = λ i t. then_some (rests-typed S e t ps typed h i) t.expr
 
-  behind-same : (S : Shape) (e : Expr) (ps : Pipes) → step_shape m c S (Step.Filter e) ≡ Some S → Begin (Step.Filter e) ps ≡ true → after m c S (Step.Concat (rests ps)) ≡ after m c S (Step.Concat ps)
+  pub behind-same : (S : Shape) (e : Expr) (ps : Pipes) → step_shape m c S (Step.Filter e) ≡ Some S → Begin (Step.Filter e) ps ≡ true → after m c S (Step.Concat (rests ps)) ≡ after m c S (Step.Concat ps)
   unfolding steps_shape
   behind-same S e ps typed h = ap (λ l. unwrap_or (option_and_then (concat_shape m) (all_some l)) S) (rest-shapes m c S S (Step.Filter e) ps typed h)
 
-  concat-put : (S : Shape) (ps : Pipes) (B : Pipe) (gs : List Segment) → put_steps All m c S (Pipe.Then (Step.Concat ps) B) gs ≡ put_steps All m c (after m c S (Step.Concat ps)) B (concat_with (step_enters All m c S (Step.Concat ps)) (settled_branches All m c S ps) [] ∷ gs)
+  pub concat-put : (S : Shape) (ps : Pipes) (B : Pipe) (gs : List Segment) → put_steps All m c S (Pipe.Then (Step.Concat ps) B) gs ≡ put_steps All m c (after m c S (Step.Concat ps)) B (concat_with (step_enters All m c S (Step.Concat ps)) (settled_branches All m c S ps) [] ∷ gs)
   unfolding put_steps
   concat-put S ps B gs = one-step All m c S (Step.Concat ps) B gs
 
@@ -296,14 +311,14 @@ module _ (m : Model) (c : Customs) where
 
   -- both sides come to the same
   abbrev pub ComesSame : Shape → Bool → List Segment → Pipe → Pipe → Type 0
-  ComesSame S b gs p q = (OutOf (all_steps (put_steps All m c S q gs)) ≡ OutOf (all_steps (put_steps All m c S p gs))) × (filters_stay b q ≡ true)
+  ComesSame S b gs p q = (OutOf (all_steps (put_steps All m c S q gs)) ≡ OutOf (all_steps (put_steps All m c S p gs))) × (may_give false b q ≡ true)
 
-  at-concat : (S S' : Shape) (before b : Bool) (s : Step) (B : Pipe) (ss' : List Step) (gs : List Segment) → (b ≡ true → StopsLast gs) → filters_stay b (Pipe.Then s B) ≡ true → steps_shape m c S (Pipe.Then s B) ≡ Some S' → Unsplit m c S before (Pipe.Then s B)
+  at-concat : (S S' : Shape) (before b : Bool) (s : Step) (B : Pipe) (ss' : List Step) (gs : List Segment) → (b ≡ true → StopsLast gs) → may_give false b (Pipe.Then s B) ≡ true → steps_shape m c S (Pipe.Then s B) ≡ Some S' → Unsplit m c S before (Pipe.Then s B)
       → factor_branches m c S before s (steps B) ≡ Some ss' → ComesSame S b gs (Pipe.Then s B) (pipe ss')
   at-concat S S' before b (Step.Concat Pipes.NoPipes) B ss' gs stop h typed u got = none_or ss' got
   at-concat S S' before b (Step.Concat (Pipes.MorePipes Pipe.End ps)) B ss' gs stop h typed u got = none_or ss' got
   at-concat S S' before b (Step.Concat (Pipes.MorePipes (Pipe.Then x q) ps)) B ss' gs stop h typed u got =
-      elim (either (step_apart (Step.Concat qs)) (b && gives_filters (Step.Concat qs)) (and_parts (step_apart (Step.Concat qs) || (b && gives_filters (Step.Concat qs))) _ h).0) [
+      elim (either (step_apart (Step.Concat qs)) (b && gives_alone false (Step.Concat qs)) (and_parts (step_apart (Step.Concat qs) || (b && gives_alone false (Step.Concat qs))) _ h).0) [
         | inl a ↦ none_or ss' (sym (factor-none m c S before (Step.Concat qs) (steps B) a) ∙ got)
         | inr a ↦ given a
       ]
@@ -321,52 +336,52 @@ module _ (m : Model) (c : Customs) where
       not-back true e = cc
       not-back false e = refl
 
-      given : (b && gives_filters (Step.Concat qs)) ≡ true → ComesSame S b gs (Pipe.Then (Step.Concat qs) B) (pipe ss')
+      given : (b && gives_alone false (Step.Concat qs)) ≡ true → ComesSame S b gs (Pipe.Then (Step.Concat qs) B) (pipe ss')
       given a =
-          let v = and_parts b (gives_filters (Step.Concat qs)) a in
+          let v = and_parts b (gives_alone false (Step.Concat qs)) a in
           let y = and_parts (not (is_identity x)) (Begin x qs) t.0 in
           let f = filter-given x qs (not-back (is_identity x) y.0) (and_parts (some_own qs qs) (branches_apart qs) v.1).0 y.1 in
           let begin : Begin (Step.Filter f.0) qs ≡ true = ap (λ x. Begin x qs) (sym f.1) ∙ y.1 in
           let made : pipe ss' ≡ Pipe.Then (Step.Filter f.0) (Pipe.Then (Step.Concat (rests qs)) B) = into ∙ ap (λ x. Pipe.Then x (Pipe.Then (Step.Concat (rests qs)) B)) f.1 in (
             ap (λ p. OutOf (all_steps (put_steps All m c S p gs))) made ∙ given-put S S' before f.0 (Pipe.Then x q) ps B gs (stop v.0) typed u begin,
-            ap (filters_stay b) made ∙ stay-filter b f.0 (Pipe.Then (Step.Concat (rests qs)) B)
-                ∙ and_from (step_apart (Step.Concat (rests qs)) || (b && gives_filters (Step.Concat (rests qs)))) (filters_stay (stays_behind b (Step.Concat (rests qs))) B)
-                (or_right (step_apart (Step.Concat (rests qs))) (b && gives_filters (Step.Concat (rests qs))) (ap (λ z. b && z) (gives-rests f.0 qs begin) ∙ a))
-                (and_parts (step_apart (Step.Concat qs) || (b && gives_filters (Step.Concat qs))) (filters_stay (stays_behind b (Step.Concat qs)) B) h).1,
+            ap (may_give false b) made ∙ stay-filter false b f.0 (Pipe.Then (Step.Concat (rests qs)) B)
+                ∙ and_from (step_apart (Step.Concat (rests qs)) || (b && gives_alone false (Step.Concat (rests qs)))) (may_give false (stays_behind b (Step.Concat (rests qs))) B)
+                (or_right (step_apart (Step.Concat (rests qs))) (b && gives_alone false (Step.Concat (rests qs))) (ap (λ z. b && z) (gives-rests false f.0 qs begin) ∙ a))
+                (and_parts (step_apart (Step.Concat qs) || (b && gives_alone false (Step.Concat qs))) (may_give false (stays_behind b (Step.Concat qs)) B) h).1,
           )
   at-concat S S' before b s B ss' gs stop h typed u got = none_or ss' got
 
   -- no step comes out of what stands inside a step
-  inside-none : (S : Shape) (b : Bool) (s : Step) (p : Pipe) → filters_stay b (Pipe.Then s p) ≡ true → step_results factor_branches m c S s ≡ []
+  inside-none : (S : Shape) (b : Bool) (s : Step) (p : Pipe) → may_give false b (Pipe.Then s p) ≡ true → step_results factor_branches m c S s ≡ []
   unfolding pipe_results
   inside-none S b (Step.Concat ps) p h =
-      elim (either (step_apart (Step.Concat ps)) (b && gives_filters (Step.Concat ps)) (and_parts (step_apart (Step.Concat ps) || (b && gives_filters (Step.Concat ps))) _ h).0) [
+      elim (either (step_apart (Step.Concat ps)) (b && gives_alone false (Step.Concat ps)) (and_parts (step_apart (Step.Concat ps) || (b && gives_alone false (Step.Concat ps))) _ h).0) [
         | inl a ↦ step-nowhere m c (Step.Concat ps) S a
-        | inr a ↦ ap (map Step.Concat) (branches-nowhere m c ps S (and_parts (some_own ps ps) (branches_apart ps) (and_parts b (gives_filters (Step.Concat ps)) a).1).1)
+        | inr a ↦ ap (map Step.Concat) (branches-nowhere m c ps S (and_parts (some_own ps ps) (branches_apart ps) (and_parts b (gives_alone false (Step.Concat ps)) a).1).1)
       ]
-  inside-none S b s p h = step-nowhere m c s S (apart (either (step_apart s) (b && gives_filters s) (and_parts (step_apart s || (b && gives_filters s)) _ h).0))
+  inside-none S b s p h = step-nowhere m c s S (apart (either (step_apart s) (b && gives_alone false s) (and_parts (step_apart s || (b && gives_alone false s)) _ h).0))
     where
-      apart : (step_apart s ≡ true) ⊎ ((b && gives_filters s) ≡ true) → step_apart s ≡ true
+      apart : (step_apart s ≡ true) ⊎ ((b && gives_alone false s) ≡ true) → step_apart s ≡ true
       apart (inl a) = a
-      apart (inr a) = absurd (true≢false (sym (and_parts b (gives_filters s) a).1))
+      apart (inr a) = absurd (true≢false (sym (and_parts b (gives_alone false s) a).1))
 
   -- behind a step
-  rest-same : (S : Shape) (b : Bool) (s : Step) (p : Pipe) (gs : List Segment) → filters_stay b (Pipe.Then s p) ≡ true
-      → (filters_stay (stays_behind b s) p ≡ true → Each (ComesSame (after m c S s) (stays_behind b s) (put_step All m c S s (settled_step All m c S s) gs) p) (pipe_results factor_branches m c (after m c S s) true p))
+  rest-same : (S : Shape) (b : Bool) (s : Step) (p : Pipe) (gs : List Segment) → may_give false b (Pipe.Then s p) ≡ true
+      → (may_give false (stays_behind b s) p ≡ true → Each (ComesSame (after m c S s) (stays_behind b s) (put_step All m c S s (settled_step All m c S s) gs) p) (pipe_results factor_branches m c (after m c S s) true p))
       → Each (ComesSame S b gs (Pipe.Then s p)) (map (Pipe.Then s) (pipe_results factor_branches m c (after m c S s) true p))
   rest-same S b s p gs h f =
-      let v = and_parts (step_apart s || (b && gives_filters s)) (filters_stay (stays_behind b s) p) h in
+      let v = and_parts (step_apart s || (b && gives_alone false s)) (may_give false (stays_behind b s) p) h in
       let G = put_step All m c S s (settled_step All m c S s) gs in
       each-map (ComesSame S b gs (Pipe.Then s p)) (ComesSame (after m c S s) (stays_behind b s) G p) (Pipe.Then s)
       (λ q k. (
         ap (λ l. OutOf (all_steps l)) (one-step All m c S s q gs) ∙ k.0 ∙ sym (ap (λ l. OutOf (all_steps l)) (one-step All m c S s p gs)),
-        and_from (step_apart s || (b && gives_filters s)) (filters_stay (stays_behind b s) q) v.0 k.1,
+        and_from (step_apart s || (b && gives_alone false s)) (may_give false (stays_behind b s) q) v.0 k.1,
       ))
       (pipe_results factor_branches m c (after m c S s) true p)
       (f v.1)
 
   -- at any place
-  pub comes_same : (p : Pipe) (S S' : Shape) (before b : Bool) (gs : List Segment) → (b ≡ true → StopsLast gs) → filters_stay b p ≡ true → steps_shape m c S p ≡ Some S' → Unsplit m c S before p → Each (ComesSame S b gs p) (pipe_results factor_branches m c S before p)
+  pub comes_same : (p : Pipe) (S S' : Shape) (before b : Bool) (gs : List Segment) → (b ≡ true → StopsLast gs) → may_give false b p ≡ true → steps_shape m c S p ≡ Some S' → Unsplit m c S before p → Each (ComesSame S b gs p) (pipe_results factor_branches m c S before p)
   unfolding pipe_results
   comes_same Pipe.End S S' before b gs stop h typed u = tt
   comes_same (Pipe.Then s p) S S' before b gs stop h typed u =

@@ -1,10 +1,10 @@
 -- A typed pipeline whose concatenations stay apart or give filters that stay before them is its plan once it is settled in one walk by all rules, and these filters have come out.
-use Rattle.std.proofs.Common.{◌≡◌, ◌||◌, refl, sym, ◌∙◌, ap, subst, ℕ, zero, suc, Bool, true, false, List, [], ◌∷◌, drop, Option, Some, None, IsTrue, Contains, arith, ◌⊎◌, inl, inr}
+use Rattle.std.proofs.Common.{◌≡◌, ◌&&◌, ◌||◌, refl, sym, ◌∙◌, ap, subst, ℕ, zero, suc, Bool, true, false, List, [], ◌∷◌, drop, Option, Some, None, IsTrue, Contains, arith, ◌⊎◌, inl, inr}
 use Rattle.std.proofs.lemmas.Bool.{true≢false}
 use Rattle.edm_values.specs.Lists.{find_map}
 use Rattle.edm_values.proofs.EachLemmas.{Each, each-contains}
 use Rattle.edm_model.specs.Models.{Model}
-use Rattle.apply_ast.specs.Trees.{Pipe, is_long}
+use Rattle.apply_ast.specs.Trees.{Pipe, Step, is_long}
 use Rattle.context_typing.specs.Shapes.{Shape}
 use Rattle.context_typing.specs.Typing.{Customs, is_nodes}
 use Rattle.context_typing.proofs.TypingLaw.{typing_keeps_lawful}
@@ -16,7 +16,8 @@ use Rattle.rewrite_laws.proofs.PlanEnds.{plan_of_next, plan_of_settled, rewrites
 use Rattle.rewrite_laws.proofs.PlanLaws.{no-first}
 use Rattle.rewrite_laws.proofs.PlanMeaning.{find_map-from, first-contains}
 use Rattle.walk_laws.specs.Factored.{factored}
-use Rattle.walk_laws.specs.FiltersOut.{gives_at_front}
+use Rattle.walk_laws.specs.Apart.{step_apart}
+use Rattle.walk_laws.specs.FiltersOut.{filters_stay, gives_alone, gives_filters, may_give, stays_behind}
 use Rattle.walk_laws.specs.Walks.{All, all_steps, front, put_steps, walk, whole}
 use Rattle.walk_laws.specs.WalkLaws.{GivenWalkIsPlan}
 use Rattle.walk_laws.proofs.ApartRules.{KeepsApart, aggregate-apart, branches-apart, compute-apart, count-apart, grouping-apart, identity-apart, idle-apart, join-apart, nodes-apart, order-apart, outer_join-apart, related-apart, split-apart, traverse-apart, true-apart}
@@ -31,13 +32,24 @@ use Rattle.walk_laws.proofs.WalkKept.{rest-walked}
 use Rattle.walk_laws.proofs.WalkNodes.{chosen-put, idle-put}
 use Rattle.walk_laws.proofs.WalkPassing.{PutsSame}
 use Rattle.walk_laws.proofs.WalkPlaces.{AlikeSteps, put_anywhere}
-use Rattle.walk_laws.proofs.WalkPlan.{first-of_two, found-none}
-use Rattle.walk_laws.proofs.WalkRest.{at-identity, at-split, at-true}
+use Rattle.walk_laws.proofs.WalkPlan.{first-of_two, found-none, rules-within}
 use Rattle.walk_laws.proofs.WalkRules.{aggregate-put, compute-put, count-put, identity-put, order-put, split-put, true-put}
 use Rattle.walk_laws.proofs.WalkSteps.{groups-put, join-put, nodes-put, outer_join-put, rollup-put, traverse-put}
 use Rattle.walk_laws.proofs.WalkUnbranched.{KeepsUnbranched, aggregate-kept, branches-kept, compute-kept, count-kept, grouping-kept, identity-kept, idle-kept, join-kept, nodes-kept, order-kept, outer_join-kept, related-kept, split-kept, traverse-kept, true-kept}
 
-module _ (m : Model) (c : Customs) (S S' : Shape) (p : Pipe) (t : IsTypedFrom m c S S' p) (u : gives_at_front p ≡ true) where
+-- filters stay before the concatenations that give them
+abbrev at_front : Pipe → Bool
+at_front p = may_give false true p
+
+alone-filters : (s : Step) → gives_alone false s ≡ gives_filters s
+alone-filters (Step.Concat ps) = refl
+alone-filters s = refl
+
+stay-same : (b : Bool) (p : Pipe) → may_give false b p ≡ filters_stay b p
+stay-same b Pipe.End = refl
+stay-same b (Pipe.Then s p) = λ i. (step_apart s || (b && alone-filters s i)) && stay-same (stays_behind b s) p i
+
+module _ (m : Model) (c : Customs) (S S' : Shape) (p : Pipe) (t : IsTypedFrom m c S S' p) (u : at_front p ≡ true) where
   -- what a rule makes at its first place
   abbrev First : Rule → Option Pipe
   First r = first_rewrite r m c S p
@@ -48,7 +60,7 @@ module _ (m : Model) (c : Customs) (S S' : Shape) (p : Pipe) (t : IsTypedFrom m 
 
   -- the walk and what comes out then make the same of another pipeline of this kind
   abbrev IsAlike : Pipe → Type 0
-  IsAlike q = (factored (walk All m c S q) ≡ factored (walk All m c S p)) × (gives_at_front q ≡ true)
+  IsAlike q = (factored (walk All m c S q) ≡ factored (walk All m c S p)) × (at_front q ≡ true)
 
   -- so it is with what a rule makes
   abbrev IsGood : Rule → Type 0
@@ -61,7 +73,7 @@ module _ (m : Model) (c : Customs) (S S' : Shape) (p : Pipe) (t : IsTypedFrom m 
       let there = subst C (loaded-results r k m c S S' p t) (first-contains (rewrites r m c S p) q e) in
       let h = each-contains Put (pipe_results r m c S false p) q (put_anywhere All m c needs false typing_keeps_lawful r (outcome-in_place r k) P F S S' false p t.customs t.lawful t.typed.1) there in
       let a = each-contains _ (pipe_results r m c S false p) q (stay_anywhere m c typing_keeps_lawful r (outcome-in_place r k) A Z S S' false p t.customs t.lawful t.typed.1) there in
-      (ap (λ gs. factored (whole gs)) (h.1.1 false (n, λ f. absurd (true≢false (sym f))) front), a.1.1.stay true u)
+      (ap (λ gs. factored (whole gs)) (h.1.1 false (n, λ f. absurd (true≢false (sym f))) front), a.1.1.stay false true u)
 
   none-needed : false ≡ true → Unsplit m c S false p
   none-needed e = absurd (true≢false (sym e))
@@ -132,19 +144,19 @@ module _ (m : Model) (c : Customs) (S S' : Shape) (p : Pipe) (t : IsTypedFrom m 
   by-others a b q e =
       let x = find_map-from First (drop 3 rules) q e in
       each-contains IsGood (drop 3 rules) x.0
-      (all-good (λ n. record { split = nothing split_conjunction (at-split All) a; true' = nothing drop_true (at-true All) b }))
+      (all-good (λ n. record { split = nothing split_conjunction (1, omega arith, refl) a; true' = nothing drop_true (2, omega arith, refl) b }))
       x.1 q x.2
 
   by-true : First split_conjunction ≡ None → (q : Pipe) → (First drop_true ≡ Some q) ⊎ ((First drop_true ≡ None) × (find_map First (drop 3 rules) ≡ Some q)) → IsAlike q
-  by-true a q (inl e) = made-alike false drop_true (at-true All) (true-put false All m c) (true-kept m c) (true-apart m c) (true-stay m c) none-needed q e
+  by-true a q (inl e) = made-alike false drop_true (2, omega arith, refl) (true-put false All m c) (true-kept m c) (true-apart m c) (true-stay m c) none-needed q e
   by-true a q (inr e) = by-others a e.0 q e.1
 
   by-split : (q : Pipe) → (First split_conjunction ≡ Some q) ⊎ ((First split_conjunction ≡ None) × (find_map First (drop_true ∷ drop 3 rules) ≡ Some q)) → IsAlike q
-  by-split q (inl e) = made-alike false split_conjunction (at-split All) (split-put false All m c) (split-kept m c) (split-apart m c) (split-stay m c) none-needed q e
+  by-split q (inl e) = made-alike false split_conjunction (1, omega arith, refl) (split-put false All m c) (split-kept m c) (split-apart m c) (split-stay m c) none-needed q e
   by-split q (inr e) = by-true e.0 q (first-of_two (First drop_true) (find_map First (drop 3 rules)) q e.1)
 
   by-identity : (q : Pipe) → (First drop_identity ≡ Some q) ⊎ ((First drop_identity ≡ None) × (find_map First (split_conjunction ∷ drop_true ∷ drop 3 rules) ≡ Some q)) → IsAlike q
-  by-identity q (inl e) = made-alike false drop_identity (at-identity All) (identity-put false All m c) (identity-kept m c) (identity-apart m c) (identity-stay m c) none-needed q e
+  by-identity q (inl e) = made-alike false drop_identity (0, omega arith, refl) (identity-put false All m c) (identity-kept m c) (identity-apart m c) (identity-stay m c) none-needed q e
   by-identity q (inr e) = by-split q (first-of_two (First split_conjunction) (find_map First (drop_true ∷ drop 3 rules)) q e.1)
 
   -- so it is with what comes next
@@ -155,7 +167,7 @@ module _ (m : Model) (c : Customs) (S S' : Shape) (p : Pipe) (t : IsTypedFrom m 
   walk-rest : next m c S p ≡ None → factored (walk All m c S p) ≡ p
   walk-rest e =
       let none : (r : Rule) → Contains rules r → pipe_results r m c S false p ≡ [] = λ r k. nothing r k (found-none First rules e r k) in
-      ap factored (rest-walked All m c p S S' t.typed.0 t.typed.1 none)
+      ap factored (rest-walked All m c p S S' t.typed.0 t.typed.1 (λ r k. none r (rules-within All r k)))
       ∙ left_factored m c p S S' t.typed.0 t.typed.1 (none drop_identity (0, omega arith, refl)) (none factor_branches (8, omega arith, refl))
 
   -- what comes next is typed
@@ -168,7 +180,7 @@ module _ (m : Model) (c : Customs) (S S' : Shape) (p : Pipe) (t : IsTypedFrom m 
 
 module _ (m : Model) (c : Customs) (S S' : Shape) where
   abbrev Walked : Pipe → Type 0
-  Walked p = IsTypedFrom m c S S' p → gives_at_front p ≡ true → IsPlanOf m c S p (factored (walk All m c S p))
+  Walked p = IsTypedFrom m c S S' p → at_front p ≡ true → IsPlanOf m c S p (factored (walk All m c S p))
 
   where-none : (p : Pipe) → next m c S p ≡ None → Walked p
   where-none p e t u = subst (IsPlanOf m c S p) (sym (walk-rest m c S S' p t u e)) (plan_of_settled m c S p e)
@@ -191,4 +203,4 @@ module _ (m : Model) (c : Customs) (S S' : Shape) where
   by-left (suc n) p l = before-last n (by-left n) p (next m c S p) refl l
 
 pub given_walk_is_plan : GivenWalkIsPlan
-given_walk_is_plan m c S S' p t u = by-left m c S S' (rewrites_left m c S p) p refl t u
+given_walk_is_plan m c S S' p t u = by-left m c S S' (rewrites_left m c S p) p refl t (stay-same true p ∙ u)

@@ -9,7 +9,12 @@ mod FilterRest
 mod GivenFilters
 mod GivenPlaces
 mod GivenPlan
+mod LowerPipes
 mod NearestFilters
+mod OutKeeps
+mod OutPlaces
+mod OutPlan
+mod OutWalk
 mod SameItself
 mod SameOnShapes
 mod SegmentTails

@@ -12,8 +12,8 @@ use Rattle.context_typing.specs.TypingLaws.{TypingKeepsLawful}
 use Rattle.rewrite_laws.specs.Rewrites.{Rule, pipe_results}
 use Rattle.rewrite_laws.specs.RewriteLaws.{KeepsOutcomeInPlace}
 use Rattle.rewrite_laws.proofs.EachPlace.{Respected, pipe_each}
-use Rattle.walk_laws.specs.Apart.{branches_apart, inner_apart, is_firm, is_loose, key_apart, keys_apart, leads_to}
-use Rattle.walk_laws.specs.FiltersOut.{front_of, gives_filters, has_own_front, is_stop, some_beside, some_own}
+use Rattle.walk_laws.specs.Apart.{branches_apart, inner_apart, is_firm, is_loose, key_apart, keys_apart, leads_to, stays_apart}
+use Rattle.walk_laws.specs.FiltersOut.{branches_give, front_of, gives_alone, has_own_front, is_stop, may_give, some_beside, some_own}
 use Rattle.walk_laws.proofs.ApartPlaces.{kept-respected}
 use Rattle.walk_laws.proofs.ApartRules.{KeepsApart}
 use Rattle.walk_laws.proofs.ApartSteps.{KeptBranches, KeptStep, KeptSteps}
@@ -24,12 +24,13 @@ record StayStep (s s' : Step) : Type 0 where
   tight : is_loose s ≡ false
   tight' : is_loose s' ≡ false
   stop : is_stop s' ≡ is_stop s
-  gives : gives_filters s ≡ true → gives_filters s' ≡ true
+  gives : (a : Bool) → gives_alone a s ≡ true → gives_alone a s' ≡ true
 
 -- branches come to others
 record StayBranches (ps qs : Pipes) : Type 0 where
   beside : (x : Step) → is_firm x ≡ true → is_loose x ≡ false → some_beside x ps ≡ true → some_beside x qs ≡ true
   own : (all : Pipes) → some_own all ps ≡ true → some_own all qs ≡ true
+  give : (a : Bool) → branches_give a ps ≡ true → branches_give a qs ≡ true
 
 -- with what keeps branches apart
 abbrev pub BothSteps : Pipe → Pipe → Type 0
@@ -60,7 +61,7 @@ front-tight (Pipe.Then s p) x h = go (is_loose s) refl (front-tight p x) h
     go false e k h = ap is_loose (sym (some_value h)) ∙ e
 
 -- among other branches
-own-among : (ps a b : Pipes) → ((x : Step) → is_firm x ≡ true → is_loose x ≡ false → some_beside x a ≡ true → some_beside x b ≡ true) → some_own a ps ≡ true → some_own b ps ≡ true
+pub own-among : (ps a b : Pipes) → ((x : Step) → is_firm x ≡ true → is_loose x ≡ false → some_beside x a ≡ true → some_beside x b ≡ true) → some_own a ps ≡ true → some_own b ps ≡ true
 own-among Pipes.NoPipes a b f h = h
 own-among (Pipes.MorePipes p ps) a b f h = or_both (has_own_front a (front_of p)) (some_own a ps) (has_own_front b (front_of p)) (some_own b ps) (go (front_of p) (front-tight p)) (own-among ps a b f) h
   where
@@ -72,14 +73,14 @@ stay-with_step : (s s' : Step) (p : Pipe) → BothStep s s' → StaySteps (Pipe.
 stay-with_step s s' p k = record {
   bare = λ h. none_or s (sym h ∙ front-first s p k.1.tight);
   front = λ x g h. absurd (true≢false (sym g ∙ ap is_firm (some_value (sym h ∙ front-first s p k.1.tight)) ∙ k.0.soft));
-  stay = λ b. with-first s s' p p b k.1.stop (k.1.tight' ∙ sym k.1.tight) k.1.gives k.0.apart (λ y h. h);
+  stay = λ a b. with-first s s' p p a b k.1.stop (k.1.tight' ∙ sym k.1.tight) (k.1.gives a) k.0.apart (λ y h. h);
 }
 
 stay-with_rest : (s : Step) (p q : Pipe) → BothSteps p q → StaySteps (Pipe.Then s p) (Pipe.Then s q)
 stay-with_rest s p q k = record {
   bare = bare (is_loose s);
   front = λ x g. front (is_loose s) x g;
-  stay = λ b. with-first s s p q b refl refl (λ h. h) (λ h. h) k.1.stay;
+  stay = λ a b. with-first s s p q a b refl refl (λ h. h) (λ h. h) (k.1.stay a);
 }
   where
     bare : (l : Bool) → (if l then front_of p else Some s) ≡ None → (if l then front_of q else Some s) ≡ None
@@ -94,24 +95,34 @@ stay-with_branch : (p q : Pipe) (ps : Pipes) → BothSteps p q → StayBranches 
 stay-with_branch p q ps k = record {
   beside = λ x f l. or_both (not (leads_to x p)) (some_beside x ps) (not (leads_to x q)) (some_beside x ps) (λ h. ap not (k.0.leads x f l) ∙ h) (λ h. h);
   own = λ all. or_both (has_own_front all (front_of p)) (some_own all ps) (has_own_front all (front_of q)) (some_own all ps) (go all (front_of p) k.1.bare k.1.front) (λ h. h);
+  give = give;
 }
   where
     go : (all : Pipes) (o : Option Step) → (o ≡ None → front_of q ≡ None) → ((x : Step) → is_firm x ≡ true → o ≡ Some x → front_of q ≡ Some x) → has_own_front all o ≡ true → has_own_front all (front_of q) ≡ true
     go all None e f h = ap (has_own_front all) (e refl)
     go all (Some x) e f h = let t = and_parts (is_firm x) (some_beside x all) h in ap (has_own_front all) (f x t.0 refl) ∙ h
 
+    give : (a : Bool) → branches_give a (Pipes.MorePipes p ps) ≡ true → branches_give a (Pipes.MorePipes q ps) ≡ true
+    give false = and_both (stays_apart p) (branches_apart ps) (stays_apart q) (branches_apart ps) k.0.apart (λ h. h)
+    give true = and_both (may_give true true p) (branches_give true ps) (may_give true true q) (branches_give true ps) (k.1.stay true true) (λ h. h)
+
 stay-with_other_branches : (p : Pipe) (ps qs : Pipes) → BothBranches ps qs → StayBranches (Pipes.MorePipes p ps) (Pipes.MorePipes p qs)
 stay-with_other_branches p ps qs k = record {
   beside = λ x f l. or_both (not (leads_to x p)) (some_beside x ps) (not (leads_to x p)) (some_beside x qs) (λ h. h) (k.1.beside x f l);
   own = λ all. or_both (has_own_front all (front_of p)) (some_own all ps) (has_own_front all (front_of p)) (some_own all qs) (λ h. h) (k.1.own all);
+  give = give;
 }
+  where
+    give : (a : Bool) → branches_give a (Pipes.MorePipes p ps) ≡ true → branches_give a (Pipes.MorePipes p qs) ≡ true
+    give false = and_both (stays_apart p) (branches_apart ps) (stays_apart p) (branches_apart qs) (λ h. h) (k.1.give false)
+    give true = and_both (may_give true true p) (branches_give true ps) (may_give true true p) (branches_give true qs) (λ h. h) (k.1.give true)
 
 stay-with_branches : (ps qs : Pipes) → BothBranches ps qs → StayStep (Step.Concat ps) (Step.Concat qs)
 stay-with_branches ps qs k = record {
   tight = refl;
   tight' = refl;
   stop = refl;
-  gives = and_both (some_own ps ps) (branches_apart ps) (some_own qs qs) (branches_apart qs) (λ h. own-among qs ps qs k.1.beside (k.1.own ps h)) k.0.apart;
+  gives = λ a. and_both (some_own ps ps) (branches_give a ps) (some_own qs qs) (branches_give a qs) (λ h. own-among qs ps qs k.1.beside (k.1.own ps h)) (k.1.give a);
 }
 
 module _ (m : Model) (c : Customs) where
@@ -125,11 +136,11 @@ module _ (m : Model) (c : Customs) where
     with_inner = λ S p q l l' k. R.with_inner S p q l l' k.0;
     with_branch = λ S p q ps l l' k. (R.with_branch S p q ps l l' k.0, stay-with_branch p q ps k);
     with_other_branches = λ S p ps qs k. (R.with_other_branches S p ps qs k.0, stay-with_other_branches p ps qs k);
-    with_group_keys = λ S ks ks' T k. (R.with_group_keys S ks ks' T k, record { tight = refl; tight' = refl; stop = refl; gives = λ h. h });
-    with_group_inner = λ S ks T T' k. (R.with_group_inner S ks T T' k, record { tight = refl; tight' = refl; stop = refl; gives = λ h. h });
+    with_group_keys = λ S ks ks' T k. (R.with_group_keys S ks ks' T k, record { tight = refl; tight' = refl; stop = refl; gives = λ a h. h });
+    with_group_inner = λ S ks T T' k. (R.with_group_inner S ks T T' k, record { tight = refl; tight' = refl; stop = refl; gives = λ a h. h });
     with_branches = λ S ps qs k. (R.with_branches S ps qs k.0, stay-with_branches ps qs k);
-    with_join = λ S outer n a v T T' e k. (R.with_join S outer n a v T T' e k, record { tight = refl; tight' = refl; stop = refl; gives = λ h. h });
-    with_climb = λ S up h p T T' d keep l l' k. (R.with_climb S up h p T T' d keep l l' k.0, record { tight = refl; tight' = refl; stop = refl; gives = λ h. h });
+    with_join = λ S outer n a v T T' e k. (R.with_join S outer n a v T T' e k, record { tight = refl; tight' = refl; stop = refl; gives = λ a h. h });
+    with_climb = λ S up h p T T' d keep l l' k. (R.with_climb S up h p T T' d keep l l' k.0, record { tight = refl; tight' = refl; stop = refl; gives = λ a h. h });
     with_recursive = λ h f p T T' e k. R.with_recursive h f p T T' e k;
     with_key = R.with_key;
     with_keys = R.with_keys;

@@ -22,7 +22,7 @@ use Rattle.rewrite_laws.proofs.NodeRule.{node_taken, node_test}
 use Rattle.rewrite_laws.proofs.RuleLemmas.{filters, movable-found, pipe-filters}
 use Rattle.rewrite_laws.proofs.StepLists.{last-split}
 use Rattle.walk_laws.specs.Apart.{inner_apart, is_firm, is_loose, leads_to, stays_apart, step_apart}
-use Rattle.walk_laws.specs.FiltersOut.{filters_stay, front_of, gives_filters, has_own_front, is_stop, some_beside, some_own, stays_behind}
+use Rattle.walk_laws.specs.FiltersOut.{branches_give, front_of, gives_alone, has_own_front, is_stop, may_give, some_beside, some_own, stays_behind}
 use Rattle.walk_laws.proofs.ApartSteps.{apart-appended, apart-ended_inner, apart-ended_keys, apart-identity, concat-apart, ended-kept, leads-behind}
 
 pub or_both : (a b c d : Bool) → (a ≡ true → c ≡ true) → (b ≡ true → d ≡ true) → (a || b) ≡ true → (c || d) ≡ true
@@ -37,7 +37,7 @@ and_both a b c d f g h = let t = and_parts a b h in and_from c d (f t.0) (g t.1)
 pub record StaySteps (p q : Pipe) : Type 0 where
   pub bare : front_of p ≡ None → front_of q ≡ None
   pub front : (x : Step) → is_firm x ≡ true → front_of p ≡ Some x → front_of q ≡ Some x
-  pub stay : (b : Bool) → filters_stay b p ≡ true → filters_stay b q ≡ true
+  pub stay : (a b : Bool) → may_give a b p ≡ true → may_give a b q ≡ true
 
 -- so do what a rule makes of steps
 abbrev pub KeepsStay : Model → Customs → Rule → Type 0
@@ -48,20 +48,20 @@ KeepsStay m c r = (S : Shape) (before : Bool) (s : Step) (ss ss' : List Step) �
 pub front-first : (s : Step) (p : Pipe) → is_loose s ≡ false → front_of (Pipe.Then s p) ≡ Some s
 front-first s p l = ap (λ z. if z then front_of p else Some s) l
 
-pub stay-filter : (b : Bool) (e : Expr) (p : Pipe) → filters_stay b (Pipe.Then (Step.Filter e) p) ≡ filters_stay b p
-stay-filter true e p = refl
-stay-filter false e p = refl
+pub stay-filter : (a b : Bool) (e : Expr) (p : Pipe) → may_give a b (Pipe.Then (Step.Filter e) p) ≡ may_give a b p
+stay-filter a true e p = refl
+stay-filter a false e p = refl
 
-stay-filters : (b : Bool) (es : List Expr) (p : Pipe) → filters_stay b (filters es p) ≡ filters_stay b p
-stay-filters b [] p = refl
-stay-filters b (e ∷ es) p = stay-filter b e (filters es p) ∙ stay-filters b es p
+stay-filters : (a b : Bool) (es : List Expr) (p : Pipe) → may_give a b (filters es p) ≡ may_give a b p
+stay-filters a b [] p = refl
+stay-filters a b (e ∷ es) p = stay-filter a b e (filters es p) ∙ stay-filters a b es p
 
 -- the same first step
-same-front : (p q : Pipe) → front_of q ≡ front_of p → ((b : Bool) → filters_stay b p ≡ true → filters_stay b q ≡ true) → StaySteps p q
+same-front : (p q : Pipe) → front_of q ≡ front_of p → ((a b : Bool) → may_give a b p ≡ true → may_give a b q ≡ true) → StaySteps p q
 same-front p q e f = record { bare = λ h. e ∙ h; front = λ x g h. e ∙ h; stay = f }
 
 -- a first step that rules change
-soft-front : (s : Step) (p q : Pipe) → is_loose s ≡ false → is_firm s ≡ false → ((b : Bool) → filters_stay b (Pipe.Then s p) ≡ true → filters_stay b q ≡ true) → StaySteps (Pipe.Then s p) q
+soft-front : (s : Step) (p q : Pipe) → is_loose s ≡ false → is_firm s ≡ false → ((a b : Bool) → may_give a b (Pipe.Then s p) ≡ true → may_give a b q ≡ true) → StaySteps (Pipe.Then s p) q
 soft-front s p q l soft f = record {
   bare = λ h. none_or s (sym h ∙ front-first s p l);
   front = λ x g h. absurd (true≢false (sym g ∙ ap is_firm (some_value (sym h ∙ front-first s p l)) ∙ soft));
@@ -69,12 +69,12 @@ soft-front s p q l soft f = record {
 }
 
 -- steps of the same kind before the same steps, but filters
-pub with-first : (x y : Step) (p q : Pipe) (b : Bool) → is_stop y ≡ is_stop x → is_loose y ≡ is_loose x → (gives_filters x ≡ true → gives_filters y ≡ true) → (step_apart x ≡ true → step_apart y ≡ true) → ((b : Bool) → filters_stay b p ≡ true → filters_stay b q ≡ true)
-    → filters_stay b (Pipe.Then x p) ≡ true → filters_stay b (Pipe.Then y q) ≡ true
-with-first x y p q b stop loose gives apart near =
-    and_both (step_apart x || (b && gives_filters x)) (filters_stay (stays_behind b x) p) (step_apart y || (b && gives_filters y)) (filters_stay (stays_behind b y) q)
-    (or_both (step_apart x) (b && gives_filters x) (step_apart y) (b && gives_filters y) apart (and_both b (gives_filters x) b (gives_filters y) (λ h. h) gives))
-    (λ h. ap (λ z. filters_stay z q) (λ i. stop i || (b && loose i)) ∙ near (stays_behind b x) h)
+pub with-first : (x y : Step) (p q : Pipe) (a b : Bool) → is_stop y ≡ is_stop x → is_loose y ≡ is_loose x → (gives_alone a x ≡ true → gives_alone a y ≡ true) → (step_apart x ≡ true → step_apart y ≡ true) → ((b : Bool) → may_give a b p ≡ true → may_give a b q ≡ true)
+    → may_give a b (Pipe.Then x p) ≡ true → may_give a b (Pipe.Then y q) ≡ true
+with-first x y p q a b stop loose gives apart near =
+    and_both (step_apart x || ((a || b) && gives_alone a x)) (may_give a (stays_behind b x) p) (step_apart y || ((a || b) && gives_alone a y)) (may_give a (stays_behind b y) q)
+    (or_both (step_apart x) ((a || b) && gives_alone a x) (step_apart y) ((a || b) && gives_alone a y) apart (and_both (a || b) (gives_alone a x) (a || b) (gives_alone a y) (λ h. h) gives))
+    (λ h. ap (λ z. may_give a z q) (λ i. stop i || (b && loose i)) ∙ near (stays_behind b x) h)
 
 -- a filter that passes
 passing-stay : (m : Model) (T : Shape) (test : Expr → Bool) (x : Step) (ss ss' : List Step) → is_loose x ≡ false → passing m T test x ss ≡ Some ss' → StaySteps (pipe (x ∷ ss)) (pipe ss')
@@ -90,12 +90,12 @@ passing-stay m T test x ss ss' tight got =
     let K : Pipe → Type 0 = λ z. StaySteps (Pipe.Then x z) (pipe ss') in
     subst K (sym from) (subst (StaySteps (Pipe.Then x was)) (sym into)
     (same-front (Pipe.Then x was) (Pipe.Then (Step.Filter b) (Pipe.Then x (filters es p))) (front-first x (filters es p) tight ∙ sym (front-first x was tight))
-    (λ z h. stay-filter z b (Pipe.Then x (filters es p)) ∙ with-first x x was (filters es p) z refl refl (λ h. h) (λ h. h)
-    (λ y h. stay-filters y es p ∙ sym (stay-filter y b p) ∙ sym (stay-filters y es (Pipe.Then (Step.Filter b) p)) ∙ h) h)))
+    (λ a z h. stay-filter a z b (Pipe.Then x (filters es p)) ∙ with-first x x was (filters es p) a z refl refl (λ h. h) (λ h. h)
+    (λ y h. stay-filters a y es p ∙ sym (stay-filter a y b p) ∙ sym (stay-filters a y es (Pipe.Then (Step.Filter b) p)) ∙ h) h)))
 
 -- a filter that goes in
 taking-stay : (m : Model) (T : Shape) (test : Expr → Bool) (x : Step) (into : Expr → Step) (ss ss' : List Step) → is_loose x ≡ false → is_firm x ≡ false → option_map (λ r. behind (into r.last) r) (find (λ r. test r.last) (movable m T ss)) ≡ Some ss'
-    → ((b : Expr) → is_stop (into b) ≡ is_stop x) → ((b : Expr) → is_loose (into b) ≡ is_loose x) → ((b : Expr) → gives_filters x ≡ true → gives_filters (into b) ≡ true) → ((b : Expr) → step_apart x ≡ true → step_apart (into b) ≡ true)
+    → ((b : Expr) → is_stop (into b) ≡ is_stop x) → ((b : Expr) → is_loose (into b) ≡ is_loose x) → ((a : Bool) (b : Expr) → gives_alone a x ≡ true → gives_alone a (into b) ≡ true) → ((b : Expr) → step_apart x ≡ true → step_apart (into b) ≡ true)
     → StaySteps (pipe (x ∷ ss)) (pipe ss')
 taking-stay m T test x into ss ss' tight soft got stop loose gives inside =
     let t = mapped (λ r. behind (into r.last) r) (find (λ r. test r.last) (movable m T ss)) ss' got in
@@ -109,8 +109,8 @@ taking-stay m T test x into ss ss' tight soft got stop loose gives inside =
     let K : Pipe → Type 0 = λ z. StaySteps (Pipe.Then x z) (pipe ss') in
     subst K (sym from) (subst (StaySteps (Pipe.Then x was)) (sym to)
     (soft-front x was (Pipe.Then (into b) (filters es p)) tight soft
-    (λ z h. with-first x (into b) was (filters es p) z (stop b) (loose b) (gives b) (inside b)
-    (λ y h. stay-filters y es p ∙ sym (stay-filter y b p) ∙ sym (stay-filters y es (Pipe.Then (Step.Filter b) p)) ∙ h) h)))
+    (λ a z h. with-first x (into b) was (filters es p) a z (stop b) (loose b) (gives a b) (inside b)
+    (λ y h. stay-filters a y es p ∙ sym (stay-filter a y b p) ∙ sym (stay-filters a y es (Pipe.Then (Step.Filter b) p)) ∙ h) h)))
 
 -- ---- branches with one more filter at the end
 
@@ -141,11 +141,21 @@ own-ended : (ps all : Pipes) (e : Expr) → some_own all (all_ended ps e) ≡ so
 own-ended Pipes.NoPipes all e = refl
 own-ended (Pipes.MorePipes p ps) all e = λ i. has_own_front all (front-ended p e i) || own-ended ps all e i
 
-gives-ended : (ps : Pipes) (e : Expr) → gives_filters (Step.Concat ps) ≡ true → gives_filters (Step.Concat (all_ended ps e)) ≡ true
-gives-ended ps e =
+may-ended : (a b : Bool) (p : Pipe) (e : Expr) → may_give a b (ended p (Step.Filter e)) ≡ may_give a b p
+may-ended a b Pipe.End e = stay-filter a b e Pipe.End
+may-ended a b (Pipe.Then s p) e = ap (λ z. (step_apart s || ((a || b) && gives_alone a s)) && z) (may-ended a (stays_behind b s) p e)
+
+give-ended : (a : Bool) (ps : Pipes) (e : Expr) → branches_give a ps ≡ true → branches_give a (all_ended ps e) ≡ true
+give-ended false ps e h = (ended-kept ps e).apart h
+give-ended true Pipes.NoPipes e h = h
+give-ended true (Pipes.MorePipes p ps) e h =
+    and_both (may_give true true p) (branches_give true ps) (may_give true true (ended p (Step.Filter e))) (branches_give true (all_ended ps e)) (λ k. may-ended true true p e ∙ k) (give-ended true ps e) h
+
+gives-ended : (a : Bool) (ps : Pipes) (e : Expr) → gives_alone a (Step.Concat ps) ≡ true → gives_alone a (Step.Concat (all_ended ps e)) ≡ true
+gives-ended a ps e =
     and_both (some_own ps ps) _ (some_own (all_ended ps e) (all_ended ps e)) _
     (λ h. own-ended ps (all_ended ps e) e ∙ own-same ps ps (all_ended ps e) (λ x. beside-ended x ps e) ∙ h)
-    (ended-kept ps e).apart
+    (give-ended a ps e)
 
 -- ---- the rules
 
@@ -155,9 +165,9 @@ module _ (m : Model) (c : Customs) where
       subst (λ l. StaySteps (Pipe.Then Step.Identity (pipe ss)) (pipe l)) (then_some-parts (before || is_nonempty ss) ss ss' e).1
       (same-front (Pipe.Then Step.Identity (pipe ss)) (pipe ss) refl go)
     where
-      go : (b : Bool) → filters_stay b (Pipe.Then Step.Identity (pipe ss)) ≡ true → filters_stay b (pipe ss) ≡ true
-      go true h = h
-      go false h = h
+      go : (a b : Bool) → may_give a b (Pipe.Then Step.Identity (pipe ss)) ≡ true → may_give a b (pipe ss) ≡ true
+      go a true h = h
+      go a false h = h
   identity-stay S before s ss ss' e = none_or ss' e
 
   pub split-stay : KeepsStay m c split_conjunction
@@ -165,7 +175,7 @@ module _ (m : Model) (c : Customs) where
       let x = Step.Filter (Expr.Binary BinOp.And a b) in
       let made = Step.Filter a ∷ Step.Filter b ∷ ss in
       subst (λ l. StaySteps (Pipe.Then x (pipe ss)) (pipe l)) (then_some-parts (is_sure m S b) made ss' e).1
-      (same-front (Pipe.Then x (pipe ss)) (pipe made) refl (λ z h. stay-filter z a (Pipe.Then (Step.Filter b) (pipe ss)) ∙ stay-filter z b (pipe ss) ∙ sym (stay-filter z (Expr.Binary BinOp.And a b) (pipe ss)) ∙ h))
+      (same-front (Pipe.Then x (pipe ss)) (pipe made) refl (λ y z h. stay-filter y z a (Pipe.Then (Step.Filter b) (pipe ss)) ∙ stay-filter y z b (pipe ss) ∙ sym (stay-filter y z (Expr.Binary BinOp.And a b) (pipe ss)) ∙ h))
   split-stay S before s ss ss' e = none_or ss' e
 
   pub true-stay : KeepsStay m c drop_true
@@ -174,9 +184,9 @@ module _ (m : Model) (c : Customs) where
       subst (λ l. StaySteps (Pipe.Then x (pipe ss)) (pipe l)) (some_value e)
       (same-front (Pipe.Then x (pipe ss)) (Pipe.Then Step.Identity (pipe ss)) refl go)
     where
-      go : (b : Bool) → filters_stay b (Pipe.Then (Step.Filter (Expr.Bool' true)) (pipe ss)) ≡ true → filters_stay b (Pipe.Then Step.Identity (pipe ss)) ≡ true
-      go true h = h
-      go false h = h
+      go : (a b : Bool) → may_give a b (Pipe.Then (Step.Filter (Expr.Bool' true)) (pipe ss)) ≡ true → may_give a b (Pipe.Then Step.Identity (pipe ss)) ≡ true
+      go a true h = h
+      go a false h = h
   true-stay S before s ss ss' e = none_or ss' e
 
   pub compute-stay : KeepsStay m c pass_compute
@@ -199,7 +209,7 @@ module _ (m : Model) (c : Customs) where
       let x = Step.Concat ps in
       let into : Expr → Step = λ b. concat (map (λ p. ended p (Step.Filter b)) (branches ps)) in
       taking-stay m (after m c S x) (λ b. list_all (λ p. is_some_and (λ S'. has_kind is_boolean_kind m S' b) (steps_shape m c S p)) (branches ps)) x into ss ss' refl refl e
-      (λ b. refl) (λ b. refl) (λ b. gives-ended ps b) (λ b. concat-apart ps _ (ended-kept ps b))
+      (λ b. refl) (λ b. refl) (λ a b. gives-ended a ps b) (λ b. concat-apart ps _ (ended-kept ps b))
   branches-stay S before s ss ss' e = none_or ss' e
 
   pub join-stay : KeepsStay m c pass_join
@@ -213,7 +223,7 @@ module _ (m : Model) (c : Customs) where
   related-stay S before (Step.Join false n a T) ss ss' e =
       let x = Step.Join false n a T in
       taking-stay m (after m c S x) (λ b. is_nonempty (paths b) && list_all (begins a) (paths b)) x (λ b. Step.Join false n a (ended_inner T (Step.Filter (with_paths (drop 1) b)))) ss ss' refl refl e
-      (λ b. refl) (λ b. refl) (λ b h. h) (λ b h. apart-ended_inner T (with_paths (drop 1) b) ∙ h)
+      (λ b. refl) (λ b. refl) (λ a b h. h) (λ b h. apart-ended_inner T (with_paths (drop 1) b) ∙ h)
   related-stay S before s ss ss' e = none_or ss' e
 
   pub outer_join-stay : KeepsStay m c pass_outer_join
@@ -229,9 +239,9 @@ module _ (m : Model) (c : Customs) where
       subst (λ l. StaySteps (Pipe.Then (Step.OrderBy items) (pipe made)) (pipe l)) (then_some-parts (order_sure m S items) made ss' e).1
       (soft-front (Step.OrderBy items) (pipe made) (pipe made) refl refl go)
     where
-      go : (b : Bool) → filters_stay b (Pipe.Then (Step.OrderBy items) (Pipe.Then (Step.Aggregate as') (pipe ss))) ≡ true → filters_stay b (Pipe.Then (Step.Aggregate as') (pipe ss)) ≡ true
-      go true h = h
-      go false h = h
+      go : (a b : Bool) → may_give a b (Pipe.Then (Step.OrderBy items) (Pipe.Then (Step.Aggregate as') (pipe ss))) ≡ true → may_give a b (Pipe.Then (Step.Aggregate as') (pipe ss)) ≡ true
+      go a true h = h
+      go a false h = h
   aggregate-stay S before s ss ss' e = none_or ss' e
 
   pub count-stay : KeepsStay m c join_counts
@@ -242,9 +252,9 @@ module _ (m : Model) (c : Customs) where
       subst (λ l. StaySteps (Pipe.Then (Step.TopBy t) (Pipe.Then (Step.TopBy u) (pipe ss))) (pipe l)) (then_some-parts (expr_same t.expr u.expr) (Step.TopBy both ∷ ss) ss' b.2).1
       (soft-front (Step.TopBy t) (Pipe.Then (Step.TopBy u) (pipe ss)) (Pipe.Then (Step.TopBy both) (pipe ss)) refl refl (go both))
     where
-      go : (v : TopStep) (b : Bool) → filters_stay b (Pipe.Then (Step.TopBy t) (Pipe.Then (Step.TopBy u) (pipe ss))) ≡ true → filters_stay b (Pipe.Then (Step.TopBy v) (pipe ss)) ≡ true
-      go v true h = h
-      go v false h = h
+      go : (v : TopStep) (a b : Bool) → may_give a b (Pipe.Then (Step.TopBy t) (Pipe.Then (Step.TopBy u) (pipe ss))) ≡ true → may_give a b (Pipe.Then (Step.TopBy v) (pipe ss)) ≡ true
+      go v a true h = h
+      go v a false h = h
   count-stay S before s ss ss' e = none_or ss' e
 
   pub traverse-stay : KeepsStay m c pass_traverse
@@ -257,7 +267,7 @@ module _ (m : Model) (c : Customs) where
       let N = chained (λ N. if is_nodes (rollup_part (group_keys ks)) && grouping_quiet m c S ks T then node_taken m c S ks T ss N else None) (node_shape m c ks) ss' e in
       let q = if_else-parts (is_nodes (rollup_part (group_keys ks)) && grouping_quiet m c S ks T) (node_taken m c S ks T ss N.0) ss' N.2 in
       taking-stay m (after m c S x) (node_test m c S ks T N.0) x (λ b. Step.GroupBy (ended_keys (Step.Filter (on_node (N.0).1 b)) ks) T) ss ss' refl refl q.1
-      (λ b. refl) (λ b. refl) (λ b h. h) (λ b h. ap (λ z. z && inner_apart T) (apart-ended_keys ks (on_node (N.0).1 b)) ∙ h)
+      (λ b. refl) (λ b. refl) (λ a b h. h) (λ b h. ap (λ z. z && inner_apart T) (apart-ended_keys ks (on_node (N.0).1 b)) ∙ h)
   nodes-stay S before s ss ss' e = none_or ss' e
 
   pub idle-stay : KeepsStay m c drop_idle
@@ -268,7 +278,7 @@ module _ (m : Model) (c : Customs) where
       let whole : T ≡ pipe (all_but_last T ++ t.0 ∷ []) = sym (pipe-steps T) ∙ ap pipe (last-split (steps T) t.0 t.1) in
       subst (λ l. StaySteps (Pipe.Then (Step.Climb up h p T d keep) (pipe ss)) (pipe l)) v.1
       (soft-front (Step.Climb up h p T d keep) (pipe ss) (Pipe.Then made (pipe ss)) refl refl
-      (λ b. with-first (Step.Climb up h p T d keep) made (pipe ss) (pipe ss) b refl refl (λ h. h)
+      (λ a b. with-first (Step.Climb up h p T d keep) made (pipe ss) (pipe ss) a b refl refl (λ h. h)
       (λ z. apart-identity (all_but_last T) ∙ (and_parts (stays_apart (pipe (all_but_last T))) _ (sym (ap stays_apart whole ∙ apart-appended (all_but_last T) (t.0 ∷ [])) ∙ z)).0)
       (λ y h. h)))
   idle-stay S before s ss ss' e = none_or ss' e

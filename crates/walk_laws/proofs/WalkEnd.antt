@@ -180,7 +180,7 @@ module _ (m : Model) (c : Customs) where
       go (e ∷ es) x j k = ap (λ l. not (is_nonempty l) && step_lets m c h.start h.step && is_order (Some (settled_step All m c h.start h.step []))) j
       go [] (Step.OrderBy items) j k =
           let none : drop_order m c h.start h.before (Step.OrderBy items) (Step.Aggregate as' ∷ steps q) ≡ None =
-          (λ i. drop_order m c h.start h.before (sym k i) (map Step.Filter (sym j i) ++ Step.Aggregate as' ∷ steps q)) ∙ h.none drop_order (12, omega arith, refl) in
+          (λ i. drop_order m c h.start h.before (sym k i) (map Step.Filter (sym j i) ++ Step.Aggregate as' ∷ steps q)) ∙ h.none drop_order (11, omega arith, refl) in
           (λ i. not (is_nonempty (j i)) && step_lets m c h.start (k i) && is_order (Some (settled_step All m c h.start (k i) [])))
           ∙ ap (λ z. z && true) (then_some-none (order_sure m h.start items) (Step.Aggregate as' ∷ steps q) none)
       go [] x j k =
@@ -204,7 +204,7 @@ module _ (m : Model) (c : Customs) where
       go (e ∷ es) x j k = ap (λ l. if is_nonempty l then None else joined_count (Some (settled_step All m c h.start h.step [])) t) j
       go [] (Step.TopBy u) j k =
           let none : join_counts m c h.start h.before (Step.TopBy u) (Step.TopBy t ∷ steps q) ≡ None =
-          (λ i. join_counts m c h.start h.before (sym k i) (map Step.Filter (sym j i) ++ Step.TopBy t ∷ steps q)) ∙ h.none join_counts (13, omega arith, refl) in
+          (λ i. join_counts m c h.start h.before (sym k i) (map Step.Filter (sym j i) ++ Step.TopBy t ∷ steps q)) ∙ h.none join_counts (12, omega arith, refl) in
           (λ i. if is_nonempty (j i) then None else joined_count (Some (settled_step All m c h.start (k i) [])) t)
           ∙ no-chain (λ n l. Step.TopBy (record u { limit = Limit.Count (min n l) }) ∷ steps q) (λ n l. record u { limit = Limit.Count (min n l) }) (expr_same u.expr t.expr) (top_count u.bottom u.limit) (top_count t.bottom t.limit) none
       go [] x j k = λ i. if is_nonempty (j i) then None else joined_count (Some (settled_step All m c h.start (k i) [])) t

@@ -51,7 +51,7 @@ climb-settled All m c S R up h p (Pipe.Then Step.Identity Pipe.End) d keep e lon
 climb-settled All m c S R up h p (Pipe.Then Step.Identity (Pipe.Then s q)) d keep e long rest f here =
     none_or (s ∷ steps q) (sym ((nothing-parts drop_identity m c S false Step.Identity (Pipe.Then s q) (rest drop_identity (at-identity All))).0))
 climb-settled All m c S R up h p (Pipe.Then s q) d keep e long rest f here =
-    ap whole (climb-kept m c S R here.0 up h p s q d keep here.1 e (here.2 drop_idle (17, omega arith, refl)) (f refl))
+    ap whole (climb-kept m c S R here.0 up h p s q d keep here.1 e (here.2 drop_idle (16, omega arith, refl)) (f refl))
     ∙ whole-kept All m c S (Pipe.Then s q) long rest f
 
 module _ (w : Rules) (m : Model) (c : Customs) where

@@ -165,7 +165,7 @@ module _ (m : Model) (c : Customs) where
           → (may_pass m (after m c S (Step.GroupBy ks T)) es e && grouping_quiet m c S ks T && step_passed w (Step.GroupBy ks T) (judged m (after m c S (Step.GroupBy ks T)) e)) ≡ false
       go w RollupPart.NoRollup k none = by-kind w is_no_rollup (ap is_no_rollup k) (none pass_groups (at-groups w)) (ap (λ p. is_late w || not (is_nodes p)) k ∙ late-or (is_late w))
       go w (RollupPart.Levels all ps) k none = by-kind w is_levels (ap is_levels k) (none pass_rollup (at-rollup w)) (ap (λ p. is_late w || not (is_nodes p)) k ∙ late-or (is_late w))
-      go All (RollupPart.Nodes h p) k none = by-kind All is_nodes (ap is_nodes k) (none pass_nodes (15, omega arith, refl)) refl
+      go All (RollupPart.Nodes h p) k none = by-kind All is_nodes (ap is_nodes k) (none pass_nodes (14, omega arith, refl)) refl
       go Early (RollupPart.Nodes h p) k none =
           ap (λ part. may_pass m (after m c S (Step.GroupBy ks T)) es e && grouping_quiet m c S ks T && (not (is_nodes part) && over (row_keys ks) e && is_sure m (after m c S (Step.GroupBy ks T)) e)) k
           ∙ and-none (may_pass m (after m c S (Step.GroupBy ks T)) es e && grouping_quiet m c S ks T) false refl
@@ -175,18 +175,18 @@ module _ (m : Model) (c : Customs) where
   join-stays Early S before outer n a T es e ss none = and-none (may_pass m (after m c S (Step.Join outer n a T)) es e && join_quiet m c S n T) false refl
   join-stays All S before false n a T es e ss none =
       let U = after m c S (Step.Join false n a T) in
-      flag-stays (join_quiet m c S n T) U (λ b. not (list_any (begins a) (paths b)) && is_sure m U b) (Step.Join false n a T) es e ss (none pass_join (9, omega arith, refl))
+      flag-stays (join_quiet m c S n T) U (λ b. not (list_any (begins a) (paths b)) && is_sure m U b) (Step.Join false n a T) es e ss (none pass_join (8, omega arith, refl))
   join-stays All S before true n a T es e ss none =
       let U = after m c S (Step.Join true n a T) in
       ap (λ z. may_pass m U es e && join_quiet m c S n T && z) (and-true (not (list_any (begins a) (paths e))))
-      ∙ flag-stays (join_quiet m c S n T) U (λ b. not (list_any (begins a) (paths b))) (Step.Join true n a T) es e ss (none pass_outer_join (11, omega arith, refl))
+      ∙ flag-stays (join_quiet m c S n T) U (λ b. not (list_any (begins a) (paths b))) (Step.Join true n a T) es e ss (none pass_outer_join (10, omega arith, refl))
 
   walk-stays : (w : Rules) (S : Shape) (before : Bool) (v : TraverseStep) (es : List Expr) (e : Expr) (ss : List Step) → Nothing w S before (Step.Traverse v) (run es e ss)
       → (may_pass m (after m c S (Step.Traverse v)) es e && not (is_risky S v.path) && step_passed w (Step.Traverse v) (judged m (after m c S (Step.Traverse v)) e)) ≡ false
   walk-stays Early S before v es e ss none = and-none (may_pass m (after m c S (Step.Traverse v)) es e && not (is_risky S v.path)) false refl
   walk-stays All S before v es e ss none =
       (λ i. may_pass m (after-traverse m c S v i) es e && not (is_risky S v.path) && is_sure m (after-traverse m c S v i) e)
-      ∙ go (is_risky S v.path) (none pass_traverse (14, omega arith, refl))
+      ∙ go (is_risky S v.path) (none pass_traverse (13, omega arith, refl))
     where
       go : (z : Bool) → (if z then None else passing m S (is_sure m S) (Step.Traverse v) (run es e ss)) ≡ None → (may_pass m S es e && not z && is_sure m S e) ≡ false
       go true n = ap (λ z. z && is_sure m S e) (and-none (may_pass m S es e) false refl)
@@ -215,7 +215,7 @@ module _ (m : Model) (c : Customs) where
   nodes-out : (w : Rules) (S : Shape) (before : Bool) (ks : Keys) (T : OptPipe) (es : List Expr) (e : Expr) (ss : List Step) → Nothing w S before (Step.GroupBy ks T) (run es e ss)
       → (if may_pass m (after m c S (Step.GroupBy ks T)) es e then step_enters w m c S (Step.GroupBy ks T) (judged m (after m c S (Step.GroupBy ks T)) e) else None) ≡ None
   nodes-out Early S before ks T es e ss none = no-way_in (may_pass m (after m c S (Step.GroupBy ks T)) es e) None refl
-  nodes-out All S before ks T es e ss none = go (node_shape m c ks) (none filter_nodes (16, omega arith, refl))
+  nodes-out All S before ks T es e ss none = go (node_shape m c ks) (none filter_nodes (15, omega arith, refl))
     where
       given : (b z : Bool) (N : Shape × Name) → (b && (is_nonempty (paths e) && over (rollup_paths (rollup_part (group_keys ks))) e && z && has_kind is_boolean_kind m N.0 (on_node N.1 e) && is_sure m N.0 (on_node N.1 e))) ≡ false
           → (if b then (if z then then_some (chooses_nodes m ks N e) (on_node N.1 e) else None) else None) ≡ None
@@ -241,7 +241,7 @@ module _ (m : Model) (c : Customs) where
       let longer = list_all (λ p. nat_lt 1 (length p)) (paths e) in
       no-form (may_pass m U es e) (inside && longer) (with_paths (drop 1) e)
       (longer-test (may_pass m U es e) inside longer
-      (not-found m U (λ b. is_nonempty (paths b) && list_all (begins a) (paths b)) (λ r. behind (Step.Join false n a (ended_inner T (Step.Filter (with_paths (drop 1) r.last)))) r) es e ss (none filter_related (10, omega arith, refl))))
+      (not-found m U (λ b. is_nonempty (paths b) && list_all (begins a) (paths b)) (λ r. behind (Step.Join false n a (ended_inner T (Step.Filter (with_paths (drop 1) r.last)))) r) es e ss (none filter_related (9, omega arith, refl))))
 
   pub step-out : (w : Rules) (S : Shape) (before : Bool) (x : Step) (es : List Expr) (e : Expr) (ss : List Step) → Nothing w S before x (run es e ss)
       → (if may_pass m (after m c S x) es e then step_enters w m c S x (judged m (after m c S x) e) else None) ≡ None

@@ -1,4 +1,4 @@
--- Concatenations out of whose branches filters alone come, and before which these stay.
+-- Concatenations out of whose branches filters alone come, and those of them before which these stay.
 use Rattle.std.specs.Prelude.{Bool, true, false, not, ◌&&◌, ◌||◌, Option, Some, None, if◌then◌else◌}
 use Rattle.apply_ast.specs.Trees.{Pipe, Pipes, Step}
 use Rattle.walk_laws.specs.Apart.{branches_apart, is_firm, is_loose, leads_to, step_apart}
@@ -32,14 +32,31 @@ abbrev pub some_own : Pipes → Pipes → Bool
 some_own all Pipes.NoPipes = false
 some_own all (Pipes.MorePipes p ps) = has_own_front all (front_of p) || some_own all ps
 
--- nothing but filters comes out of the branches of a concatenation
-abbrev pub gives_filters : Step → Bool
-gives_filters (Step.Concat ps) = some_own ps ps && branches_apart ps
-gives_filters s = false
-
 -- filters stay behind a step; with whether they stay before it
 abbrev pub stays_behind : Bool → Step → Bool
 stays_behind b s = is_stop s || (b && is_loose s)
+
+abbrev mutual
+  -- each concatenation in steps begins apart for good, or gives filters where it may. The inner pipelines of other steps begin apart. With whether it may anywhere, in branches too, or else where filters stay before it, and with whether they stay where the steps begin
+  pub may_give : Bool → Bool → Pipe → Bool
+  may_give a b Pipe.End = true
+  may_give a b (Pipe.Then s p) = (step_apart s || ((a || b) && gives_alone a s)) && may_give a (stays_behind b s) p
+
+  -- nothing but filters comes out of the branches of a concatenation
+  pub gives_alone : Bool → Step → Bool
+  gives_alone a (Step.Concat ps) = some_own ps ps && branches_give a ps
+  gives_alone a s = false
+
+  -- concatenations in branches begin apart, or where they may anywhere give filters
+  pub branches_give : Bool → Pipes → Bool
+  branches_give false ps = branches_apart ps
+  branches_give true Pipes.NoPipes = true
+  branches_give true (Pipes.MorePipes p ps) = may_give true true p && branches_give true ps
+
+-- nothing but filters comes out of the branches of a concatenation, in which all stay apart
+abbrev pub gives_filters : Step → Bool
+gives_filters (Step.Concat ps) = some_own ps ps && branches_apart ps
+gives_filters s = false
 
 -- each concatenation in steps begins apart for good, or gives filters that stay before it: none but filters and `identity` stand between it and the front, or a step that stops them. The inner pipelines begin apart. With whether filters stay where the steps begin
 abbrev pub filters_stay : Bool → Pipe → Bool
@@ -49,3 +66,7 @@ filters_stay b (Pipe.Then s p) = (step_apart s || (b && gives_filters s)) && fil
 -- a pipeline of this kind
 abbrev pub gives_at_front : Pipe → Bool
 gives_at_front p = filters_stay true p
+
+-- each concatenation begins apart for good, or gives filters alone
+abbrev pub gives_anywhere : Pipe → Bool
+gives_anywhere p = may_give true true p

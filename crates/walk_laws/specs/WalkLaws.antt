@@ -10,7 +10,7 @@ use Rattle.rewrite_laws.specs.RewriteLaws.{IsTypedFrom, MayStandFor}
 use Rattle.rewrite_laws.specs.Rewrites.{IsPlanOf, first_rewrite, next, rewritten, rules}
 use Rattle.walk_laws.specs.Apart.{stays_apart}
 use Rattle.walk_laws.specs.Factored.{factored, pipe_rests}
-use Rattle.walk_laws.specs.FiltersOut.{gives_at_front}
+use Rattle.walk_laws.specs.FiltersOut.{gives_anywhere, gives_at_front}
 use Rattle.walk_laws.specs.Walks.{Rules, All, Early, is_unbranched, rules_of, walk}
 
 -- the result of the first of a walk's rules that applies
@@ -37,6 +37,24 @@ ApartWalkIsPlan = (m : Model) (c : Customs) (S S' : Shape) (p : Pipe) → IsType
 -- so is one whose other concatenations give filters that stay before them, once these have come out
 abbrev pub GivenWalkIsPlan : Type 0
 GivenWalkIsPlan = (m : Model) (c : Customs) (S S' : Shape) (p : Pipe) → IsTypedFrom m c S S' p → IsTrue (gives_at_front p) → IsPlanOf m c S p (factored (walk All m c S p))
+
+-- a pipeline in place of another, whose plan is the plan of that: it leads to the same shape, and each of its concatenations begins apart for good or gives filters alone
+pub record IsRound (m : Model) (c : Customs) (S S' : Shape) (p q : Pipe) : Type 0 where
+  pub typed : IsTypedFrom m c S S' q
+  pub gives : IsTrue (gives_anywhere q)
+  pub plan : (r : Pipe) → IsPlanOf m c S q r → IsPlanOf m c S p r
+
+-- where each concatenation of a typed pipeline begins apart for good or gives filters alone, the walk by all rules makes one with its plan
+abbrev pub WalkKeepsPlan : Type 0
+WalkKeepsPlan = (m : Model) (c : Customs) (S S' : Shape) (p : Pipe) → IsTypedFrom m c S S' p → IsTrue (gives_anywhere p) → IsRound m c S S' p (walk All m c S p)
+
+-- and so do the filters that come out of it then
+abbrev pub FactoringKeepsPlan : Type 0
+FactoringKeepsPlan = (m : Model) (c : Customs) (S S' : Shape) (p : Pipe) → IsTypedFrom m c S S' p → IsTrue (gives_anywhere p) → IsRound m c S S' p (factored (walk All m c S p))
+
+-- where nothing comes out of it then, no rule applies to it
+abbrev pub UnfactoredIsSettled : Type 0
+UnfactoredIsSettled = (m : Model) (c : Customs) (S S' : Shape) (p : Pipe) → IsTypedFrom m c S S' p → IsTrue (gives_anywhere p) → factored (walk All m c S p) ≡ walk All m c S p → next m c S (walk All m c S p) ≡ None
 
 -- a typed pipeline, settled in one walk by the first eight rules, is what it becomes by them
 abbrev pub EarlyWalkIsPlan : Type 0

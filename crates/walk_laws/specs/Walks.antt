@@ -14,7 +14,7 @@ use Rattle.context_typing.specs.Typing.{Customs, after, group_keys, has_kind, hi
 use Rattle.rewrite_laws.specs.Rewrites.{Rule, branches, grouping_quiet, is_among, join_quiet, node_shape, on_node, over, paths, pipe_or_identity, rollup_keys_in_every_row, rules, top_count, with_paths}
 use Rattle.rewrite_laws.specs.TreeEquality.{expr_same}
 
--- the rules that a walk has: the first eight, or all. It takes no steps out of branches, so that one by all rules is for pipelines without a concatenation
+-- the rules that a walk has: the first eight, or all but the ninth, since it takes no steps out of branches
 pub data Rules : Type 0 where
   Early : Rules
   All : Rules
@@ -27,7 +27,7 @@ is_late All = true
 -- the rules of a walk, in their order
 abbrev pub rules_of : Rules → List Rule
 rules_of Early = take 8 rules
-rules_of All = rules
+rules_of All = take 8 rules ++ drop 9 rules
 
 -- a filter, with whether it is sure where it was written
 pub record Test : Type 0 where

@@ -1,6 +1,6 @@
 //! The laws of walks.
 ghost use Rattle.apply_meaning.specs.MeaningLaws.{IsLoaded};
-ghost use Rattle.walk_laws.specs.WalkLaws.{ApartWalkIsPlan, EarlyWalkIsPlan, EarlyWalkKeepsMeaning, EarlyWalkKeepsPlan, FactoringIsRewriting, GivenWalkIsPlan, LaterRulesFollow, WalkIsPlan};
+ghost use Rattle.walk_laws.specs.WalkLaws.{ApartWalkIsPlan, EarlyWalkIsPlan, EarlyWalkKeepsMeaning, EarlyWalkKeepsPlan, FactoringIsRewriting, FactoringKeepsPlan, GivenWalkIsPlan, LaterRulesFollow, UnfactoredIsSettled, WalkIsPlan, WalkKeepsPlan};
 
 /// A typed pipeline without a concatenation, settled in one walk by all rules, is its plan.
 pub fn walk_is_plan()
@@ -15,6 +15,22 @@ pub fn apart_walk_is_plan()
 /// So is a typed pipeline whose other concatenations give filters that stay before them, once these have come out of all branches.
 pub fn given_walk_is_plan()
     ensures law { GivenWalkIsPlan }
+{}
+
+/// What the walk by all rules makes of a typed pipeline has its plan, where each concatenation begins apart for good or gives filters
+/// alone.
+pub fn walk_keeps_plan()
+    ensures law { WalkKeepsPlan }
+{}
+
+/// So has what is left of that once these filters have come out of all branches.
+pub fn factoring_keeps_plan()
+    ensures law { FactoringKeepsPlan }
+{}
+
+/// Where nothing comes out of it then, no rule applies to what the walk makes.
+pub fn unfactored_is_settled()
+    ensures law { UnfactoredIsSettled }
 {}
 
 /// A typed pipeline, settled in one walk by the first eight rules, is what these rules make of it.

@@ -22,8 +22,11 @@ returns-then-gives_at_front c =
     let gives = sym c.gives_at_front.ensures.value ∙ c.if-gives_at_front.true in
     IfOk-weaker c.given.result (IsGiven m cs t) (IsTypedPlan m cs t) (λ q w. given-plan m cs t q c.given_walk_is_plan.ensures.law c.requires.whole c.requires.typing gives w) c.given.ensures
 
+pub returns-then-done : goal.returns-then-done
+returns-then-done c = turned-plan c.args.m.now (readings c.args.c.now) c.args.t.now c.in_ok-current.current (c.in_ok-current.ensures).made ((c.in_ok-current.ensures).done c.if-done.true)
+
 pub loop-current-init : goal.loop-current-init
-loop-current-init c = turn-first c.args.m.now (readings c.args.c.now) c.args.t.now c.in_ok-current.current c.in_ok-current.ensures
+loop-current-init c = (c.in_ok-current.ensures).made
 
 pub loop-current-smaller : goal.loop-current-smaller
 loop-current-smaller c =
@@ -37,7 +40,7 @@ loop-current-preserved c =
     let m = c.args.m.now in
     let cs = readings c.args.c.now in
     let q = c.loop-current.current in
-    turn-turned m cs c.args.t.now q c.in-Some.after c.in_ok-next.next c.loop-current.invariant (subst (IsFirstOf later_rules m cs q) c.in-Some.is c.in_ok-after.ensures.value) c.in_ok-next.ensures
+    turn-turned m cs c.args.t.now q c.in-Some.after c.in_ok-next.next c.loop-current.invariant (subst (IsFirstOf later_rules m cs q) c.in-Some.is c.in_ok-after.ensures.value) (turn-first m cs c.in-Some.after c.in_ok-next.next c.in_ok-next.ensures)
 
 pub loop-current-smaller-in_ok-next : goal.loop-current-smaller-in_ok-next
 loop-current-smaller-in_ok-next c =
@@ -51,7 +54,7 @@ loop-current-preserved-in_ok-next c =
     let m = c.args.m.now in
     let cs = readings c.args.c.now in
     let q = c.loop-current.current in
-    turn-turned m cs c.args.t.now q c.in-Some.after c.in_ok-next.next c.loop-current.invariant (subst (IsFirstOf later_rules m cs q) c.in-Some.is c.in_ok-after.ensures.value) c.in_ok-next.ensures
+    turn-turned m cs c.args.t.now q c.in-Some.after c.in_ok-next.next c.loop-current.invariant (subst (IsFirstOf later_rules m cs q) c.in-Some.is c.in_ok-after.ensures.value) (turn-first m cs c.in-Some.after c.in_ok-next.next c.in_ok-next.ensures)
 
 pub returns : goal.returns
 returns c =

@@ -2,7 +2,7 @@ use Rattle.apply_ast.specs.Views.{pipe_of}
 use Rattle.context_typing.specs.Readings.{readings}
 use Rattle.context_typing.specs.Typing.{shape_of_set}
 use Rattle.rewrite_laws.proofs.PlanEnds.{rewrites_left}
-use Rattle.optimiser.proofs.PlanTurns.{IsTurned}
+use Rattle.optimiser.specs.Plans.{IsTurned}
 use Rattle.optimiser.proofs.plans.planned.Given as goal
 
 -- what the turns have reached

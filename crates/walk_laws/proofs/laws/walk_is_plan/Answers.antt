@@ -1,4 +1,4 @@
-use Rattle.walk_laws.proofs.WalkPlan.{walk_is_plan}
+use Rattle.walk_laws.proofs.ApartPlan.{walk_is_plan}
 use Rattle.walk_laws.proofs.laws.walk_is_plan.Goals as goal
 
 pub returns : goal.returns
