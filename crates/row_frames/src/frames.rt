@@ -31,12 +31,13 @@ use crate::joins::{alias_prefix, beside_tables, repeated_picks};
 use crate::kept::kept_picks;
 use crate::keys::{key_columns_of, key_lists_of};
 use crate::own::property_of;
-use crate::picks::{first_picks, later_picks, picked_rows, set_picks};
+use crate::picks::{first_picks, later_picks, picked_rows, place_picks, set_picks};
 use crate::placed::{
     placed_columns, placed_keys, placed_root, placed_row, placed_rows, placed_values,
 };
 use crate::related::{are_of_set, picked_places, related_picks};
 use crate::root_places::{RootPlaces, root_places_of};
+use crate::shown::{FrameRows, shown_rows};
 use crate::tables::{Pick, Table, one_table, set_table};
 use crate::values::{seen_of, values_of};
 use apply_ast::{Expr, Name, Named, Path};
@@ -77,6 +78,24 @@ impl Frame {
     {
         let tables = one_table(alloc, set_table(alloc, set))?;
         let picks = set_picks(alloc, store.count(set))?;
+        Ok(Frame { tables, picks })
+    }
+
+    /// The instances of the first `n` entities of a set, in data order. No row is made.
+    pub fn of_first(alloc: Global, set: SetId, n: u32) -> Result<Frame, AllocError>
+        ensures value { IfOk result (λ f. f ≡ map (placed set) (places n)) }
+    {
+        let tables = one_table(alloc, set_table(alloc, set))?;
+        let picks = set_picks(alloc, n)?;
+        Ok(Frame { tables, picks })
+    }
+
+    /// The instances of the entities of a set at these places, in the order of the places. No row is made.
+    pub fn of_entities(alloc: Global, set: SetId, at: &[u32]) -> Result<Frame, AllocError>
+        ensures value { IfOk result (λ f. f ≡ map (placed set) at.now) }
+    {
+        let tables = one_table(alloc, set_table(alloc, set))?;
+        let picks = place_picks(alloc, at)?;
         Ok(Frame { tables, picks })
     }
 
@@ -263,6 +282,13 @@ impl Frame {
     {
         let tables = self.tables.as_slice();
         placed_row(alloc, tables, self.picks.as_slice(), k, steps)
+    }
+
+    /// The instances, each of which is read where it stands. No row is made.
+    pub fn shown(&self) -> FrameRows<'_>
+        ensures value { result ≡ self.now }
+    {
+        shown_rows(self.tables.as_slice(), self.picks.as_slice())
     }
 
     /// The entity at the empty prefix of instance k, counted from 0.

@@ -1,9 +1,9 @@
 //! Frames: lists of instances that are kept by columns, so that no row is made of an instance that is only read.
 //!
 //! A `Frame` is tables of rows of one layout and the rows of these that are picked, in their order (`tables`, `picks`). `of_set`
-//! makes one of a set's entities, `filter` (`kept`), `skip`, `top` and `at` (`chosen`) keep some of its rows, `values` has the
-//! values of an expression (`values`), `key_lists` those of key paths (`keys`), `root` the entity of a row, `root_places` the places of these entities, of which none is kept (`root_places`), `own_property` the property of these entities that a path is (`own`), and `into_rows` makes
-//! the rows at last. `seen_values` and `key_columns` have values that borrow their texts, the latter a list for each path.
+//! makes one of a set's entities, `of_first` of the first of them, `of_entities` of those at some places, `filter` (`kept`), `skip`, `top` and `at` (`chosen`) keep some of its rows, `values` has the
+//! values of an expression (`values`), `key_lists` those of key paths (`keys`), `root` the entity of a row, `root_places` the places of these entities, of which none is kept (`root_places`), `own_property` the property of these entities that a path is, and `property_in_set` that of the entities of a set of which no frame is made (`own`), and `into_rows` makes
+//! the rows at last. `shown` has the instances as they stand, one at a time, of which no row is made (`shown`). `seen_values` and `key_columns` have values that borrow their texts, the latter a list for each path.
 //! `values_at`, `key_lists_at`, `key_columns_at` and `rows_at` have the same of the rows at some places (`placed`). `compute` puts
 //! new columns behind those of a table (`computed`), which first is made of the rows that are picked, where these are not all in
 //! their order (`gathered`). `of_columns` makes a frame of lists of values, and `extend` puts such lists behind the columns of one (`columned`). `of_related` makes a frame of what a navigation property relates an entity to, `places_in` has the places
@@ -59,6 +59,7 @@ mod references;
 mod related;
 mod root_places;
 mod seen;
+mod shown;
 mod tables;
 mod text_codes;
 mod told;
@@ -67,4 +68,6 @@ mod values;
 
 pub use frame_readers::FrameReader;
 pub use frames::Frame;
+pub use own::property_in_set;
 pub use root_places::RootPlaces;
+pub use shown::{FrameRow, FrameRows};

@@ -3,14 +3,16 @@ ghost use Rattle.std.specs.Prelude.{◌≡◌, ◌<◌, ℕ, IfSome, length, tru
 ghost use Rattle.edm_model.specs.LookUps.{IsSet};
 ghost use Rattle.row_frames.specs.Frames as spec;
 ghost use Rattle.row_frames.specs.Own.{IsOwn};
+ghost use Rattle.row_frames.specs.Related.{placed};
 ghost use Rattle.row_frames.specs.declared.tables.Pick.{Pick as Pick'};
 
 use crate::hops::{has_set, set_property};
 use crate::readers::column_place;
-use crate::tables::{Table, roots_set};
+use crate::tables::{Table, roots_set, set_table};
 use apply_ast::Path;
 use edm_data::Data;
 use edm_model::{PropId, SetId};
+use std::alloc::Global;
 
 /// The property that the path is in a table that has no column of this path and no other prefix, and the set of the entities.
 fn table_property(store: &Data, table: &Table, path: &Path) -> Option<(SetId, PropId)>
@@ -65,4 +67,21 @@ pub(crate) fn property_of(store: &Data, tables: &[Table], path: &Path) -> Option
         }
     }
     Some((set, p))
+}
+
+/// The property that the path is of the entities of a set, and the set.
+pub fn property_in_set(
+    alloc: Global,
+    store: &Data,
+    set: SetId,
+    path: &Path,
+) -> Option<(SetId, PropId)>
+    ensures set { IfSome result (λ o. IsSet store.now.model o.0) }
+    ensures value { IfSome result (λ o. (k : ℕ) → IsOwn store.now path.now o.0 o.1.at (placed set k)) }
+{
+    let table = set_table(alloc, set);
+    match table_property(store, &table, path) {
+        Some(found) => Some(found),
+        None => None,
+    }
 }

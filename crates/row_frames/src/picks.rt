@@ -22,6 +22,20 @@ pub(crate) fn set_picks(alloc: Global, n: u32) -> Result<Vec<Pick>, AllocError>
     Ok(picks)
 }
 
+/// The rows of the first table at these places.
+pub(crate) fn place_picks(alloc: Global, at: &[u32]) -> Result<Vec<Pick>, AllocError>
+    ensures { IfOk result (λ xs. xs.items ≡ map spec.first_pick at.now) }
+{
+    let mut picks = Vec::with_capacity(alloc, at.len())?;
+    for row in at {
+        picks.push(Pick {
+            table: 0,
+            row: *row,
+        })?;
+    }
+    Ok(picks)
+}
+
 /// The entity at the empty prefix of the row that is picked.
 pub(crate) fn picked_root(tables: &[Table], pick: Pick) -> Option<EntityRef>
     requires tables { All spec.IsTable tables.now }
