@@ -1,10 +1,9 @@
 -- Rows that fit a shape have entities of the world, and a lawful shape has columns of different paths.
-use Rattle.std.proofs.Common.{◌≡◌, ℕ, ◌<◌, true, ◌==◌, ◌&&◌, List, Option, Some, None, length, map, refl, ◌∙◌, ap, get_or}
+use Rattle.std.proofs.Common.{◌≡◌, ℕ, ◌<◌, true, ◌==◌, ◌&&◌, List, Option, Some, None, length, map, refl, ap}
 use Rattle.std.specs.Prelude.{IsTrue, nat_lt, slice_index_or, is_some}
 use Rattle.std.specs.List.{list_all}
 use Rattle.std.proofs.lemmas.Bool.{and_parts, false≢true}
 use Rattle.std.proofs.lemmas.Option.{slice_get-get_or}
-use Rattle.std.proofs.lemmas.List.{get_or_default}
 use Rattle.edm_values.specs.Lists.{are_distinct, is_some_and}
 use Rattle.edm_values.proofs.OptionFacts.{and_5, and_7, some_and-there}
 use Rattle.edm_values.specs.Names.{Path}
@@ -39,10 +38,3 @@ row-columns w S i h =
 
 pub row-fits : (w : World) (S : Shape) (rows : List Instance) (k : ℕ) → AllFit w S rows → k < length rows → fits w S (slice_index_or rows k no_instance) ≡ true
 row-fits w S rows k h l = all-at (fits w S) rows k (slice_index_or rows k no_instance) h (slice_get-get_or rows k no_instance l)
-
--- a row that was read
-pub read-row : (rows : List Instance) (k : ℕ) (i : Instance) → k < length rows → i ≡ get_or rows k i → i ≡ slice_index_or rows k no_instance
-read-row rows k i l h = h ∙ get_or_default rows k i no_instance l
-
-pub read-fits : (w : World) (S : Shape) (rows : List Instance) (k : ℕ) (i : Instance) → AllFit w S rows → k < length rows → i ≡ get_or rows k i → fits w S i ≡ true
-read-fits w S rows k i h l g = ap (fits w S) (read-row rows k i l g) ∙ row-fits w S rows k h l

@@ -1,14 +1,14 @@
 -- Rows that are rendered in parts: the texts of the parts are the text of all rows.
-use Rattle.std.proofs.Common.{◌≡◌, ◌∙◌, ℕ, zero, suc, ◌<◌, ◌||◌, Bool, true, false, List, [], ◌∷◌, ◌++◌, Ok, Err, length, map, ap, arith, append_assoc, drop, refl, subst, sym, take}
-use Rattle.std.specs.Prelude.{IsTrue}
+use Rattle.std.proofs.Common.{◌≡◌, ◌≤◌, ◌∙◌, ℕ, suc, ◌+◌, ◌-◌, ◌<◌, ◌||◌, Bool, true, false, List, [], ◌∷◌, ◌++◌, Ok, Err, length, map, ap, arith, append_assoc, drop, refl, subst, sym, take}
 use Rattle.std.specs.Global.{Vec}
-use Rattle.std.specs.List.{All, AllZip, flat_map, list_any}
+use Rattle.std.specs.List.{All, AllZip, flat_map, list_all, list_any}
 use Rattle.std.specs.declared.result.Result.{Result}
-use Rattle.std.proofs.lemmas.List.Folds.{list_any-append}
-use Rattle.std.proofs.lemmas.List.Sums.{AllPass-from_list_all, list_all-from_AllPass}
-use Rattle.std.proofs.lemmas.List.Elements.{All-cons, All-drop, All-nil, All-take}
-use Rattle.rayon.specs.Lists.{chunks_from, chunks_of}
-use Rattle.rayon.proofs.ToStd.{chunks_of-All, chunks_of-concat}
+use Rattle.std.proofs.Math.Seq.{take-add}
+use Rattle.std.proofs.lemmas.Bool.{and_parts}
+use Rattle.std.proofs.lemmas.Grind.{flat_map-append}
+use Rattle.std.proofs.lemmas.List.{append-nil, length-drop, length-take-le}
+use Rattle.std.proofs.lemmas.List.Folds.{list_all-append, list_any-append}
+use Rattle.std.proofs.lemmas.List.Elements.{All-cons, All-nil, All-push}
 use Rattle.serde_json.specs.Written.{comma_if}
 use Rattle.edm_values.specs.declared.refusals.Refused.{Refused}
 use Rattle.edm_values.specs.declared.refusals.Refused.TheVariants as refused
@@ -18,21 +18,17 @@ use Rattle.apply_meaning.specs.Instances.{Instance, fits}
 use Rattle.apply_meaning.specs.MeaningLaws.{AllFit}
 use Rattle.json_render.specs.Bodies.{has_beyond}
 use Rattle.json_render.specs.RowRuns.{row_text, rows_run}
-use Rattle.json_render.specs.PartTexts.{HasPast, IsPartText, texts_run}
+use Rattle.json_render.specs.PartTexts.{AreParts, HasPast, IsPartText, texts_run}
 
-from-all : {X : Type 0} (P : X → Type 0) (fuel n : ℕ) (xs : List X) → All P xs → All (All P) (chunks_from fuel n xs)
-from-all P zero n xs h = All-nil (All P)
-from-all P (suc fuel) n [] h = All-nil (All P)
-from-all P (suc fuel) n (x ∷ xs) h = All-cons (All P) (take n (x ∷ xs)) (chunks_from fuel n (drop n (x ∷ xs))) (All-take P n (x ∷ xs) h) (from-all P fuel n (drop n (x ∷ xs)) (All-drop P n (x ∷ xs) h))
-
--- what holds of all elements holds of those of each part
-each-part : {X : Type 0} (P : X → Type 0) (n : ℕ) (xs : List X) → All P xs → All (All P) (chunks_of n xs)
-each-part P n xs h = from-all P _ n xs h
+each-fits : (w : World) (s : Shape) (cs : List (List Instance)) → list_all (fits w s) (flat_map (λ c. c) cs) ≡ true → All (AllFit w s) cs
+each-fits w s [] h = All-nil (AllFit w s)
+each-fits w s (c ∷ cs) h =
+    let p = and_parts (list_all (fits w s) c) (list_all (fits w s) (flat_map (λ c. c) cs)) (sym (list_all-append (fits w s) c (flat_map (λ c. c) cs)) ∙ h) in
+    All-cons (AllFit w s) c cs p.0 (each-fits w s cs p.1)
 
 -- the rows of each part fit where all rows do
-pub parts-fit : (w : World) (s : Shape) (n : ℕ) (rows : List Instance) → AllFit w s rows → All (AllFit w s) (chunks_of n rows)
-parts-fit w s n rows h k d l =
-    list_all-from_AllPass (fits w s) _ (each-part (λ i. IsTrue (fits w s i)) n rows (AllPass-from_list_all (fits w s) rows h) k d l)
+pub parts-fit : (w : World) (s : Shape) (rows : List Instance) (cs : List (List Instance)) → AllFit w s rows → AreParts rows cs → All (AllFit w s) cs
+parts-fit w s rows cs h A = each-fits w s cs (ap (list_all (fits w s)) A.all ∙ h)
 
 -- rows behind rows
 run-append : (w : World) (s : Shape) (xs ys : List Instance) → rows_run w s true (xs ++ ys) ≡ rows_run w s true xs ++ rows_run w s true ys
@@ -79,21 +75,31 @@ one-past w s (c ∷ cs) [] rest z =
 one-past w s (c ∷ cs) (l ∷ ls) rest z =
     list_any-append has_beyond c (flat_map (λ c. c) cs) ∙ ap (λ b. list_any has_beyond c || b) (one-past w s cs ls rest z.1) ∙ or-true (list_any has_beyond c)
 
-module _ (w : World) (s : Shape) (n : ℕ) (rows : List Instance) (rs : List (Result (Vec ℕ) Refused)) (pos : 0 < n) (parts : AllZip (IsPartText w s) (chunks_of n rows) rs) where
-  have-rows : All HasRows (chunks_of n rows)
-  have-rows k d h = (chunks_of-All n rows pos k d h).0
+-- ---- the parts of rows
 
+-- the rows so far, and one part more
+pub more-parts : (rows : List Instance) (ps qs : List (List Instance)) (p : List Instance) (n to : ℕ) → n < to → to ≤ length rows → p ≡ take (to - n) (drop n rows) → qs ≡ ps ++ p ∷ [] → AreParts (take n rows) ps → AreParts (take to rows) qs
+more-parts rows ps qs p n to pos within is more A =
+    let d = length-drop n rows in
+    let e : n + (to - n) ≡ to = omega (arith, pos) in
+    let long : length p ≡ to - n = ap length is ∙ length-take-le (to - n) (drop n rows) (omega (arith, d, pos, within)) in
+    record {
+      some = subst (All HasRows) (sym more) (All-push HasRows ps p A.some (omega (arith, long, pos)));
+      all = ap (flat_map (λ (c : List Instance). c)) more ∙ flat_map-append (λ (c : List Instance). c) ps (p ∷ []) ∙ (λ i. A.all i ++ (append-nil p ∙ is) i) ∙ sym (take-add n (to - n) rows) ∙ ap (λ k. take k rows) e;
+    }
+
+module _ (w : World) (s : Shape) (rows : List Instance) (cs : List (List Instance)) (rs : List (Result (Vec ℕ) Refused)) (are : AreParts rows cs) (parts : AllZip (IsPartText w s) cs rs) where
   -- the texts of all parts are the text of the rows
   pub parts-written : (ls : List (Vec ℕ)) → map Ok ls ≡ rs → texts_run false ls ≡ rows_run w s false rows
   parts-written ls e =
-      texts-all w s false (chunks_of n rows) ls have-rows (subst (λ r. AllZip (IsPartText w s) (chunks_of n rows) r) (sym e) parts) ∙ ap (rows_run w s false) (chunks_of-concat n rows pos)
+      texts-all w s false cs ls are.some (subst (λ r. AllZip (IsPartText w s) cs r) (sym e) parts) ∙ ap (rows_run w s false) are.all
 
   -- no row is past its range where all parts are there
   pub parts-in-range : (ls : List (Vec ℕ)) → map Ok ls ≡ rs → list_any has_beyond rows ≡ false
   parts-in-range ls e =
-      sym (ap (list_any has_beyond) (chunks_of-concat n rows pos)) ∙ all-in-range w s (chunks_of n rows) ls (subst (λ r. AllZip (IsPartText w s) (chunks_of n rows) r) (sym e) parts)
+      sym (ap (list_any has_beyond) are.all) ∙ all-in-range w s cs ls (subst (λ r. AllZip (IsPartText w s) cs r) (sym e) parts)
 
   -- a row is past its range where a part is not there for it
   pub parts-past : HasPast rs → list_any has_beyond rows ≡ true
   parts-past h =
-      sym (ap (list_any has_beyond) (chunks_of-concat n rows pos)) ∙ one-past w s (chunks_of n rows) h.0 h.1 (subst (λ r. AllZip (IsPartText w s) (chunks_of n rows) r) h.2 parts)
+      sym (ap (list_any has_beyond) are.all) ∙ one-past w s cs h.0 h.1 (subst (λ r. AllZip (IsPartText w s) cs r) h.2 parts)

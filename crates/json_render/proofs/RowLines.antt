@@ -10,7 +10,7 @@ use Rattle.edm_data.specs.Worlds.{World}
 use Rattle.context_typing.specs.Shapes.{Shape}
 use Rattle.apply_meaning.specs.Instances.{Instance}
 use Rattle.json_render.specs.Bodies.{body, body_json, context, has_beyond, row_json}
-use Rattle.json_render.specs.RowRuns.{row_text, rows_run}
+use Rattle.json_render.specs.RowRuns.{head_text, row_text, rows_run}
 use Rattle.json_render.specs.RowTexts.{text_json}
 use Rattle.json_render.proofs.PlainQuotes.{plain_json}
 
@@ -67,3 +67,15 @@ pub body-made : (w : World) (n : List ℕ) (s : Shape) (rows : List Instance) (t
 body-made w n s rows text b1 b2 b3 b4 b5 e1 e2 t e3 e4 e5 h =
     not-beyond (list_any has_beyond rows) (compact_text (body_json w n s rows)) h
     ∙ ap Some (whole w n s rows ∙ sym (e5 ∙ ap (λ xs. xs ++ codes "]}") (e4 ∙ ap (λ xs. xs ++ rows_run w s false rows) (e3 ∙ ap (λ xs. xs ++ codes ",\"value\":[") (e2 ∙ (λ j. e1 j ++ text_json (t j)))))))
+
+-- the beginning of a body behind what was there
+pub head-written : (old a t b b1 b2 b3 : List ℕ) → b1 ≡ old ++ a → b2 ≡ b1 ++ t → b3 ≡ b2 ++ b → b3 ≡ old ++ (a ++ (t ++ b))
+head-written old a t b b1 b2 b3 e1 e2 e3 =
+    e3 ∙ ap (λ xs. xs ++ b) (e2 ∙ ap (λ xs. xs ++ t) e1) ∙ append_assoc (old ++ a) t b ∙ append_assoc old a (t ++ b)
+
+-- a body that has its beginning, its rows and its end
+pub body-ended : (w : World) (n : List ℕ) (s : Shape) (rows : List Instance) (b1 b2 b3 : List ℕ) → b1 ≡ head_text n s → b2 ≡ b1 ++ rows_run w s false rows → b3 ≡ b2 ++ codes "]}" → list_any has_beyond rows ≡ false → body w n s rows ≡ Some b3
+body-ended w n s rows b1 b2 b3 e1 e2 e3 h =
+    let a = codes "{\"@context\":" in
+    let t = text_json (context n s) in
+    body-made w n s rows (context n s) a (a ++ t) b1 b2 b3 refl refl refl (e1 ∙ sym (append_assoc a t (codes ",\"value\":["))) e2 e3 h

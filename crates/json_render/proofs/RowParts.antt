@@ -60,19 +60,27 @@ one-more parts path xs k x start old new e h i g p r =
     rw (add-one k) (ap named_parts p ∙ map-append seen old (e ∷ []) ∙ ap (λ zs. zs ++ seen e ∷ []) r ∙ append_assoc start (parts (map path (take k xs))) (seen e ∷ [])
     ∙ ap (λ zs. start ++ zs) (sym (g (map path (take k xs)) (length-taken path xs k h)) ∙ ap parts (sym (taken-more path xs k x h i))))
 
-pub more-prefix : (first : ℕ) (xs : List (Path × Option Entity)) (k : ℕ) (x : Path × Option Entity) (start : List NamedPart) (old new : List Entry) (e : Entry) → k < length xs → x ≡ get_or xs k x
-    → seen e ≡ record { name = []; rest = x.0; part = Part.Prefix (first + k) } → new ≡ old ++ e ∷ [] → named_parts old ≡ start ++ prefix_parts first (map prefix_path (take k xs))
-    → named_parts new ≡ start ++ prefix_parts first (map prefix_path (take (k + 1) xs))
-more-prefix first xs k x start old new e h i g p r =
-    one-more (prefix_parts first) prefix_path xs k x start old new e h i
-    (λ ps l. prefix-end first ps x.0 ∙ ap (λ n. prefix_parts first ps ++ record { name = []; rest = x.0; part = Part.Prefix (first + n) } ∷ []) l ∙ ap (λ y. prefix_parts first ps ++ y ∷ []) (sym g)) p r
+-- an element that has this path
+there : {X : Type 0} (path : X → Path) (xs : List X) (k : ℕ) (p : Path) → option_map path (slice_get xs k) ≡ Some p → (x : X) × (k < length xs) × (x ≡ get_or xs k x) × (path x ≡ p)
+there path xs k p h =
+    let q = mapped path (slice_get xs k) p h in
+    (q.0, slice_get_within xs k q.0 q.1, sym (get_or_from_slice_get xs k q.0 q.0 q.1), q.2)
 
-pub more-column : (s : Shape) (xs : List (Path × Value)) (k : ℕ) (x : Path × Value) (start : List NamedPart) (old new : List Entry) (e : Entry) → k < length xs → x ≡ get_or xs k x
-    → seen e ≡ record { name = []; rest = x.0; part = Part.Column k (shown_name s x.0) } → new ≡ old ++ e ∷ [] → named_parts old ≡ start ++ column_parts s 0 (map column_path (take k xs))
+pub more-prefix : (xs : List (Path × Option Entity)) (k : ℕ) (start : List NamedPart) (old new : List Entry) (e : Entry) (p : Path) → option_map prefix_path (slice_get xs k) ≡ Some p
+    → seen e ≡ prefix_part k p → new ≡ old ++ e ∷ [] → named_parts old ≡ start ++ prefix_parts 0 (map prefix_path (take k xs))
+    → named_parts new ≡ start ++ prefix_parts 0 (map prefix_path (take (k + 1) xs))
+more-prefix xs k start old new e p o g n r =
+    let t = there prefix_path xs k p o in
+    one-more (prefix_parts 0) prefix_path xs k t.0 start old new e t.1 t.2
+    (λ ps l. prefix-end 0 ps (prefix_path t.0) ∙ ap (λ n. prefix_parts 0 ps ++ prefix_part n (prefix_path t.0) ∷ []) (none-before (length ps) ∙ l) ∙ ap (λ q. prefix_parts 0 ps ++ prefix_part k q ∷ []) t.3 ∙ ap (λ y. prefix_parts 0 ps ++ y ∷ []) (sym g)) n r
+
+pub more-column : (s : Shape) (xs : List (Path × Value)) (k : ℕ) (start : List NamedPart) (old new : List Entry) (e : Entry) (p : Path) → option_map column_path (slice_get xs k) ≡ Some p
+    → seen e ≡ column_part k p (shown_name s p) → new ≡ old ++ e ∷ [] → named_parts old ≡ start ++ column_parts s 0 (map column_path (take k xs))
     → named_parts new ≡ start ++ column_parts s 0 (map column_path (take (k + 1) xs))
-more-column s xs k x start old new e h i g p r =
-    one-more (column_parts s 0) column_path xs k x start old new e h i
-    (λ ps l. column-end s 0 ps x.0 ∙ ap (λ n. column_parts s 0 ps ++ record { name = []; rest = x.0; part = Part.Column n (shown_name s x.0) } ∷ []) (none-before (length ps)) ∙ ap (λ n. column_parts s 0 ps ++ record { name = []; rest = x.0; part = Part.Column n (shown_name s x.0) } ∷ []) l ∙ ap (λ y. column_parts s 0 ps ++ y ∷ []) (sym g)) p r
+more-column s xs k start old new e p o g n r =
+    let t = there column_path xs k p o in
+    one-more (column_parts s 0) column_path xs k t.0 start old new e t.1 t.2
+    (λ ps l. column-end s 0 ps (column_path t.0) ∙ ap (λ n. column_parts s 0 ps ++ column_part n (column_path t.0) (shown_name s (column_path t.0)) ∷ []) (none-before (length ps) ∙ l) ∙ ap (λ q. column_parts s 0 ps ++ column_part k q (shown_name s q) ∷ []) t.3 ∙ ap (λ y. column_parts s 0 ps ++ y ∷ []) (sym g)) n r
 
 -- ---- properties
 

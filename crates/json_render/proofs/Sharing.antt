@@ -1,6 +1,7 @@
 -- Data, rows and shapes, which threads share: none of them has anything that one thread alone may read.
 use Rattle.std.proofs.Crossing.{crosses}
 use Rattle.std.proofs.MapsCrossing as maps
+use denote.Ref.{NamedLft}
 use denote.Param.Send.{IsSync, sendable}
 use Rattle.edm_values.specs.contracts.Text as text_type
 use Rattle.apply_ast.specs.contracts.names.Name as name_type
@@ -33,6 +34,9 @@ use Rattle.context_typing.specs.contracts.shapes.PrefixShape as prefix_type
 use Rattle.context_typing.specs.contracts.shapes.RootShape as root_type
 use Rattle.context_typing.specs.contracts.shapes.Shape as shape_type
 use Rattle.apply_meaning.specs.contracts.rows.Row as row_type
+use Rattle.row_frames.specs.contracts.tables.Table as frame_table_type
+use Rattle.row_frames.specs.contracts.shown.FrameRows as frame_rows_type
+use Rattle.json_render.specs.contracts.shown.ShownRows as rows_type
 
 text-sync : IsSync text_type.the_row
 text-sync = search (sendable, crosses, maps.crosses) depth 60 fits 20000
@@ -108,6 +112,15 @@ data-sync = search (sendable, crosses, maps.crosses, keyed-sync, relations-sync)
 
 pub row-sync : IsSync row_type.the_row
 row-sync = search (sendable, crosses, maps.crosses, text-sync, path-sync) depth 60 fits 20000
+
+frame_table-sync : IsSync frame_table_type.the_row
+frame_table-sync = search (sendable, crosses, maps.crosses, text-sync, path-sync) depth 60 fits 20000
+
+frame_rows-sync : (a : NamedLft) → IsSync (frame_rows_type.the_row a)
+frame_rows-sync a = search (sendable, crosses, maps.crosses, frame_table-sync) depth 60 fits 20000
+
+pub rows-sync : (a : NamedLft) → IsSync (rows_type.the_row a)
+rows-sync a = search (sendable, crosses, maps.crosses, row-sync, frame_rows-sync) depth 60 fits 20000
 
 root-sync : IsSync root_type.the_row
 root-sync = search (sendable, crosses, maps.crosses) depth 60 fits 20000

@@ -1,7 +1,7 @@
 -- What stands in the slots of rows: their prefixes with the root before them, and values in range.
-use Rattle.std.proofs.Common.{◌≡◌, ℕ, zero, suc, ◌<◌, ◌≤◌, true, false, List, [], ◌∷◌, Option, Some, None, length, refl, sym, ◌∙◌, ap, arith, get_or, inl, inr}
+use Rattle.std.proofs.lemmas.List.Folds.{list_any_more}
+use Rattle.std.proofs.Common.{◌≡◌, ℕ, zero, suc, ◌+◌, ◌||◌, Bool, take, ◌<◌, ◌≤◌, true, false, List, [], ◌∷◌, Option, Some, None, length, refl, sym, ◌∙◌, ap, arith, get_or, inl, inr}
 use Rattle.std.specs.Prelude.{◌⊎◌, slice_get, option_and_then, option_map, unwrap_or, is_some, IsTrue}
-use Rattle.std.specs.Bool.{IsFalse}
 use Rattle.std.specs.List.{list_any}
 use Rattle.std.proofs.lemmas.Bool.{and_parts, cases_lt, or_parts, false≢true}
 use Rattle.std.proofs.lemmas.List.{length-map}
@@ -24,9 +24,7 @@ use Rattle.edm_values.proofs.TopPlaces.{length-places}
 use Rattle.context_typing.specs.Paths.{is_none_or}
 use Rattle.apply_meaning.specs.Instances.{Instance}
 use Rattle.apply_meaning.specs.RowViews.{is_of, with_root}
-use Rattle.json_render.specs.Bodies.{has_beyond}
-use Rattle.json_render.specs.RowTexts.{bound_at, slot_value}
-use Rattle.json_render.specs.declared.templates.Slot.{Slot}
+use Rattle.json_render.specs.RowTexts.{bound_at}
 
 -- ---- prefixes
 
@@ -118,16 +116,26 @@ property-past w F e k h = go (slice_get (entities_of w e.set) e.at) refl
 
 -- ---- slots
 
-column-in_range : (cs : List (Path × Value)) (k : ℕ) → list_any (λ c. is_beyond c.1) cs ≡ false → is_beyond (unwrap_or (option_map (λ c. c.1) (slice_get cs k)) Value.Null) ≡ false
+-- the value of a column is in range, where none is past its range
+pub column-in_range : (cs : List (Path × Value)) (k : ℕ) → list_any (λ c. is_beyond c.1) cs ≡ false → is_beyond (unwrap_or (option_map (λ c. c.1) (slice_get cs k)) Value.Null) ≡ false
 column-in_range [] k h = refl
 column-in_range (c ∷ cs) zero h = (or_parts (is_beyond c.1) (list_any (λ c. is_beyond c.1) cs) h).0
 column-in_range (c ∷ cs) (suc k) h = column-in_range cs k (or_parts (is_beyond c.1) (list_any (λ c. is_beyond c.1) cs) h).1
 
--- the value in a slot is in range, where no column is past its range
-pub slot-in_range : (w : World) → FitsModel w → (i : Instance) (s : Slot) → IsFalse (has_beyond i) → is_beyond (slot_value w i s) ≡ false
-slot-in_range w F i (Slot.Column k) h = column-in_range i.columns k h
-slot-in_range w F i (Slot.Property k p) h = go (bound_at i k)
-  where
-    go : (o : Option Entity) → is_beyond (unwrap_or (option_map (λ e. property w e p) o) Value.Null) ≡ false
-    go None = refl
-    go (Some e) = property-in_range w F e p
+or-true : (b : Bool) → (b || true) ≡ true
+or-true true = refl
+or-true false = refl
+
+-- a column that is past its range is there
+pub beyond-there : (cs : List (Path × Value)) (k : ℕ) → is_beyond (unwrap_or (option_map (λ c. c.1) (slice_get cs k)) Value.Null) ≡ true → list_any (λ c. is_beyond c.1) cs ≡ true
+beyond-there [] k h = absurd (false≢true h)
+beyond-there (c ∷ cs) zero h = ap (λ b. b || list_any (λ (x : Path × Value). is_beyond x.1) cs) h
+beyond-there (c ∷ cs) (suc k) h = ap (λ b. is_beyond c.1 || b) (beyond-there cs k h) ∙ or-true (is_beyond c.1)
+
+-- one column more that is not
+pub beyond-more : (cs : List (Path × Value)) (k : ℕ) → k < length cs → is_beyond (unwrap_or (option_map (λ c. c.1) (slice_get cs k)) Value.Null) ≡ false → list_any (λ c. is_beyond c.1) (take k cs) ≡ false
+    → list_any (λ c. is_beyond c.1) (take (k + 1) cs) ≡ false
+beyond-more cs k l h t =
+    let d : Path × Value = ([], Value.Null) in
+    let here : is_beyond (get_or cs k d).1 ≡ false = sym (ap (λ o. is_beyond (unwrap_or (option_map (λ (x : Path × Value). x.1) o) Value.Null)) (slice_get-get_or cs k d l)) ∙ h in
+    list_any_more (λ (x : Path × Value). is_beyond x.1) cs k d l ∙ (λ j. t j || here j)

@@ -9,3 +9,4 @@ pub mod Places
 pub mod PlainTexts
 pub mod RowRuns
 pub mod RowTexts
+pub mod Sources

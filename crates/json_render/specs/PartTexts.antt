@@ -1,8 +1,8 @@
 -- The texts of parts of the rows, which threads share.
-use Rattle.std.specs.Prelude.{◌≡◌, ◌++◌, ◌∷◌, [], ℕ, Bool, false, true, Ok, Err, List, IfOk, map}
+use Rattle.std.specs.Prelude.{◌≡◌, ◌<◌, ◌++◌, ◌∷◌, [], ℕ, Bool, false, true, Ok, Err, List, IfOk, length, map}
 use Rattle.std.specs.declared.result.Result.{Result}
 use Rattle.std.specs.Global.{Vec}
-use Rattle.std.specs.List.{list_any}
+use Rattle.std.specs.List.{All, flat_map, list_any}
 use Rattle.serde_json.specs.Written.{comma_if}
 use Rattle.edm_values.specs.declared.refusals.Refused.{Refused}
 use Rattle.edm_values.specs.declared.refusals.Refused.TheVariants as refused
@@ -17,6 +17,11 @@ pub record IsPartText (w : World) (s : Shape) (rows : List Instance) (r : Result
   pub ok : IfOk r (λ b. b.items ≡ rows_run w s false rows)
   pub in_range : IfOk r (λ b. list_any has_beyond rows ≡ false)
   pub range : r ≡ Err refused.Range → list_any has_beyond rows ≡ true
+
+-- parts of the rows, each with a row, one behind the other
+pub record AreParts (rows : List Instance) (parts : List (List Instance)) : Type 0 where
+  pub some : All (λ part. 0 < length part) parts
+  pub all : flat_map (λ part. part) parts ≡ rows
 
 -- one of the results, and none before it, is not there, since a value is past its range
 abbrev pub HasPast : List (Result (Vec ℕ) Refused) → Type 0

@@ -1,16 +1,20 @@
 -- Rows one after another, and the templates that are known for them.
-use Rattle.std.specs.Prelude.{◌≡◌, ℕ, ◌<◌, Bool, true, List, [], ◌∷◌, ◌++◌, length, slice_get, slice_index_or, Some}
+use Rattle.std.specs.Prelude.{◌≡◌, ℕ, ◌<◌, Bool, true, List, [], ◌∷◌, ◌++◌, codes, length, slice_get, slice_index_or, Some}
 use Rattle.serde_json.specs.Written.{comma_if, compact_text}
 use Rattle.edm_data.specs.Worlds.{World}
 use Rattle.context_typing.specs.Shapes.{Shape}
 use Rattle.apply_meaning.specs.Instances.{Instance, no_instance}
-use Rattle.json_render.specs.Bodies.{row_json}
-use Rattle.json_render.specs.RowTexts.{SamePattern, template_text}
+use Rattle.json_render.specs.Bodies.{context, row_json}
+use Rattle.json_render.specs.RowTexts.{SamePattern, template_text, text_json}
 use Rattle.json_render.specs.declared.body.Known.{Known}
 
 -- a row as JSON
 abbrev pub row_text : World → Shape → Instance → List ℕ
 row_text w s i = compact_text (row_json w s i)
+
+-- a body up to its rows
+abbrev pub head_text : List ℕ → Shape → List ℕ
+head_text name s = codes "{\"@context\":" ++ (text_json (context name s) ++ codes ",\"value\":[")
 
 -- rows one after another, with a comma before each but a first one
 abbrev pub rows_run : World → Shape → Bool → List Instance → List ℕ

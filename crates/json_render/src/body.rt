@@ -8,7 +8,7 @@ ghost use Rattle.context_typing.specs.Shapes.{Shape};
 ghost use Rattle.apply_meaning.specs.Instances.{Instance, no_instance};
 ghost use Rattle.apply_meaning.specs.MeaningLaws.{AllFit};
 ghost use Rattle.json_render.specs.Bodies as spec;
-ghost use Rattle.json_render.specs.RowRuns.{IsKnown, Serves, row_text, rows_run};
+ghost use Rattle.json_render.specs.RowRuns.{IsKnown, Serves, head_text, row_text, rows_run};
 ghost use Rattle.json_render.specs.RowTexts.{template_text};
 ghost use Rattle.edm_values.specs.declared.refusals.Refused.TheVariants as RenderRefused;
 
@@ -16,15 +16,15 @@ use crate::RenderRefused;
 use crate::context::context;
 use crate::members::row_template;
 use crate::parts::push_in_parts;
-use crate::patterns::same_pattern;
+use crate::shown::{ShownRow, ShownRows};
 use crate::templates::Template;
 use crate::texts::push_text;
 use apply_meaning::Row;
 use context_typing::Shape;
 use edm_data::Data;
 use edm_model::SetId;
-use edm_values::Value;
 use par_stages::workers_for;
+use row_frames::Frame;
 use std::alloc::{AllocError, Global};
 use std::thread::Threads;
 
@@ -39,26 +39,31 @@ pub(crate) struct Known {
 }
 
 /// Whether a column of the row is past its range.
-fn has_beyond(row: &Row) -> bool
+fn has_beyond(row: &ShownRow<'_>) -> bool
     ensures { result ≡ spec.has_beyond row.now }
 {
-    row.columns()
-        .iter()
-        .any(|column| matches!(column.1, Value::Beyond))
+    for k in 0..row.column_count() {
+        if row.column(k).is_beyond() {
+            return true;
+        }
+    }
+    false
 }
 
-/// Whether the template is one of this row.
-fn serves(rows: &[Row], row: &Row, known: &Known) -> bool
-    requires { known.now.row < length rows.now }
-    ensures { (w : World) (s : Shape) → IsKnown w s rows.now known.now → result ≡ true → template_text w row.now known.now.template ≡ row_text w s row.now }
+/// Whether the template is one of the row at this place.
+fn serves(rows: &ShownRows<'_>, row: usize, known: &Known) -> bool
+    requires known { known.now.row < length rows.now }
+    requires there { row < length rows.now }
+    ensures { (w : World) (s : Shape) → IsKnown w s rows.now known.now → result ≡ true → template_text w (slice_index_or rows.now row no_instance) known.now.template ≡ row_text w s (slice_index_or rows.now row no_instance) }
 {
-    same_pattern(&rows[known.row], row)
+    rows.have_same_pattern(known.row, row)
 }
 
 /// The place of the template of this row among the known ones.
-fn known_at(rows: &[Row], row: &Row, known: &[Known]) -> Option<usize>
-    requires { All (λ k. k.row < length rows.now) known.now }
-    ensures { (w : World) (s : Shape) → All (IsKnown w s rows.now) known.now → IfSome result (Serves w s row.now known.now) }
+fn known_at(rows: &ShownRows<'_>, row: usize, known: &[Known]) -> Option<usize>
+    requires there { row < length rows.now }
+    requires known { All (λ k. k.row < length rows.now) known.now }
+    ensures { (w : World) (s : Shape) → All (IsKnown w s rows.now) known.now → IfSome result (Serves w s (slice_index_or rows.now row no_instance) known.now) }
 {
     for (k, other) in known.iter().enumerate() {
         if serves(rows, row, other) {
@@ -69,9 +74,10 @@ fn known_at(rows: &[Row], row: &Row, known: &[Known]) -> Option<usize>
 }
 
 /// The place of the template of this row among the known ones, tried first at the one that served last.
-fn known_near(rows: &[Row], row: &Row, known: &[Known], last: usize) -> Option<usize>
-    requires { All (λ k. k.row < length rows.now) known.now }
-    ensures { (w : World) (s : Shape) → All (IsKnown w s rows.now) known.now → IfSome result (Serves w s row.now known.now) }
+fn known_near(rows: &ShownRows<'_>, row: usize, known: &[Known], last: usize) -> Option<usize>
+    requires there { row < length rows.now }
+    requires known { All (λ k. k.row < length rows.now) known.now }
+    ensures { (w : World) (s : Shape) → All (IsKnown w s rows.now) known.now → IfSome result (Serves w s (slice_index_or rows.now row no_instance) known.now) }
 {
     if last < known.len() && serves(rows, row, &known[last]) {
         return Some(last);
@@ -96,7 +102,7 @@ fn template_at(
     alloc: Global,
     store: &Data,
     shape: &Shape,
-    rows: &[Row],
+    rows: &ShownRows<'_>,
     row: usize,
     known: &mut Vec<Known>,
     last: usize,
@@ -107,10 +113,10 @@ fn template_at(
     ensures serves { IfOk result (Serves store.now shape.now (slice_index_or rows.now row no_instance) known.new.items) }
     ensures known { OnOk result (All (IsKnown store.now shape.now rows.now) known.new.items) }
 {
-    match known_near(rows, &rows[row], known, last) {
+    match known_near(rows, row, known, last) {
         Some(place) => Ok(place),
         None => {
-            let template = row_template(alloc, store, shape, &rows[row])?;
+            let template = row_template(alloc, store, shape, &rows.at(row))?;
             let place = add_known(known, row, template)?;
             Ok(place)
         }
@@ -122,7 +128,7 @@ fn push_row(
     alloc: Global,
     store: &Data,
     shape: &Shape,
-    rows: &[Row],
+    rows: &ShownRows<'_>,
     k: usize,
     known: &mut Vec<Known>,
     last: usize,
@@ -136,8 +142,8 @@ fn push_row(
     ensures range { result ≡ Err RenderRefused.Range → spec.has_beyond (slice_index_or rows.now k no_instance) ≡ true }
     ensures known { OnOk result (All (IsKnown store.now shape.now rows.now) known.new.items) }
 {
-    let row = &rows[k];
-    if has_beyond(row) {
+    let row = rows.at(k);
+    if has_beyond(&row) {
         return Err(RenderRefused::Range);
     }
     if k > 0 {
@@ -145,7 +151,7 @@ fn push_row(
     }
     let place = template_at(alloc, store, shape, rows, k, known, last)?;
     let found = &known[place];
-    found.template.push_row(alloc, store, row, body)?;
+    found.template.push_row(alloc, store, &row, body)?;
     Ok(place)
 }
 
@@ -154,7 +160,7 @@ pub(crate) fn push_rows(
     alloc: Global,
     store: &Data,
     shape: &Shape,
-    rows: &[Row],
+    rows: &ShownRows<'_>,
     body: &mut Vec<u8>,
 ) -> Result<(), RenderRefused>
     requires { AllFit store.now shape.now rows.now }
@@ -168,6 +174,74 @@ pub(crate) fn push_rows(
         last = push_row(alloc, store, shape, rows, k, &mut known, last, body)?;
     }
     Ok(())
+}
+
+/// Appends the beginning of a body, up to its rows.
+fn push_head(
+    alloc: Global,
+    store: &Data,
+    set: SetId,
+    shape: &Shape,
+    body: &mut Vec<u8>,
+) -> Result<(), AllocError>
+    requires { IsSet store.now.model set }
+    ensures { OnOk result (body.new.items ≡ body.old.items ++ head_text (set_name store.now.model set) shape.now) }
+{
+    body.extend_from_slice(b"{\"@context\":")?;
+    let context = context(alloc, store.model().set_name(set), shape)?;
+    push_text(alloc, context.as_str(), body)?;
+    body.extend_from_slice(b",\"value\":[")?;
+    Ok(())
+}
+
+/// How many items a row counts as, where parts are made for threads: printing one takes about as long as going through these.
+const ITEMS: usize = 4;
+
+/// Appends the rows with a comma between, in parts where they are many, each made by a thread of its own.
+fn push_list<R: Threads + Sync>(
+    rt: &R,
+    alloc: Global,
+    store: &Data,
+    shape: &Shape,
+    rows: &ShownRows<'_>,
+    workers: u32,
+    body: &mut Vec<u8>,
+) -> Result<(), RenderRefused>
+    requires rows { AllFit store.now shape.now rows.now }
+    requires some { 0 < workers }
+    ensures ok { OnOk result (body.new.items ≡ body.old.items ++ rows_run store.now shape.now false rows.now) }
+    ensures in_range { OnOk result (list_any spec.has_beyond rows.now ≡ false) }
+    ensures range { result ≡ Err RenderRefused.Range → list_any spec.has_beyond rows.now ≡ true }
+{
+    let parts = workers_for(rows.len().saturating_mul(ITEMS), 1, workers);
+    if parts == 1 {
+        return push_rows(alloc, store, shape, rows, body);
+    }
+    let len = rows.len().div_ceil(parts as usize).max(1);
+    push_in_parts(rt, alloc, store, shape, rows, len, body)
+}
+
+/// The body of rows, which may be rendered in parts, each by a thread of its own, as many as there are workers.
+fn body_of<R: Threads + Sync>(
+    rt: &R,
+    alloc: Global,
+    store: &Data,
+    set: SetId,
+    shape: &Shape,
+    rows: &ShownRows<'_>,
+    workers: u32,
+) -> Result<Vec<u8>, RenderRefused>
+    requires set { IsSet store.now.model set }
+    requires rows { AllFit store.now shape.now rows.now }
+    requires some { 0 < workers }
+    ensures ok { IfOk result (λ b. spec.body store.now (set_name store.now.model set) shape.now rows.now ≡ Some b.items) }
+    ensures range { result ≡ Err RenderRefused.Range → spec.body store.now (set_name store.now.model set) shape.now rows.now ≡ None }
+{
+    let mut body = Vec::new(alloc);
+    push_head(alloc, store, set, shape, &mut body)?;
+    push_list(rt, alloc, store, shape, rows, workers, &mut body)?;
+    body.extend_from_slice(b"]}")?;
+    Ok(body)
 }
 
 /// The body of rows of a shape, over the entity set that the request addresses. It is made in time that grows with its
@@ -185,12 +259,10 @@ pub fn render(
     ensures ok { IfOk result (λ b. spec.body store.now (set_name store.now.model set) shape.now rows.now ≡ Some b.items) }
     ensures range { result ≡ Err RenderRefused.Range → spec.body store.now (set_name store.now.model set) shape.now rows.now ≡ None }
 {
+    let rows = ShownRows::of_rows(rows);
     let mut body = Vec::new(alloc);
-    body.extend_from_slice(b"{\"@context\":")?;
-    let context = context(alloc, store.model().set_name(set), shape)?;
-    push_text(alloc, context.as_str(), &mut body)?;
-    body.extend_from_slice(b",\"value\":[")?;
-    push_rows(alloc, store, shape, rows, &mut body)?;
+    push_head(alloc, store, set, shape, &mut body)?;
+    push_rows(alloc, store, shape, &rows, &mut body)?;
     body.extend_from_slice(b"]}")?;
     Ok(body)
 }
@@ -212,17 +284,26 @@ pub fn render_in_parts<R: Threads + Sync>(
     ensures ok { IfOk result (λ b. spec.body store.now (set_name store.now.model set) shape.now rows.now ≡ Some b.items) }
     ensures range { result ≡ Err RenderRefused.Range → spec.body store.now (set_name store.now.model set) shape.now rows.now ≡ None }
 {
-    let parts = workers_for(rows.len(), 1, workers);
-    if parts == 1 {
-        return render(alloc, store, set, shape, rows);
-    }
-    let len = rows.len().div_ceil(parts as usize).max(1);
-    let mut body = Vec::new(alloc);
-    body.extend_from_slice(b"{\"@context\":")?;
-    let context = context(alloc, store.model().set_name(set), shape)?;
-    push_text(alloc, context.as_str(), &mut body)?;
-    body.extend_from_slice(b",\"value\":[")?;
-    push_in_parts(rt, alloc, store, shape, rows, len, &mut body)?;
-    body.extend_from_slice(b"]}")?;
-    Ok(body)
+    let rows = ShownRows::of_rows(rows);
+    body_of(rt, alloc, store, set, shape, &rows, workers)
+}
+
+/// The same body of the instances of a frame, of which no row is made.
+pub fn render_frame<R: Threads + Sync>(
+    rt: &R,
+    alloc: Global,
+    store: &Data,
+    set: SetId,
+    shape: &Shape,
+    frame: &Frame,
+    workers: u32,
+) -> Result<Vec<u8>, RenderRefused>
+    requires set { IsSet store.now.model set }
+    requires rows { AllFit store.now shape.now frame.now }
+    requires some { 0 < workers }
+    ensures ok { IfOk result (λ b. spec.body store.now (set_name store.now.model set) shape.now frame.now ≡ Some b.items) }
+    ensures range { result ≡ Err RenderRefused.Range → spec.body store.now (set_name store.now.model set) shape.now frame.now ≡ None }
+{
+    let rows = ShownRows::of_frame(frame);
+    body_of(rt, alloc, store, set, shape, &rows, workers)
 }

@@ -19,13 +19,13 @@ use crate::entries::{
     Entry, Part, TypeName, group_length, inside, is_column, is_ended, next_entries, sort_by_name,
     whole,
 };
-use crate::templates::{Slot, Template, bound_at};
-use apply_ast::{Name, Path};
-use apply_meaning::Row;
+use crate::shown::ShownRow;
+use crate::templates::{Slot, Template};
+use apply_ast::Name;
 use context_typing::{ColumnShape, Shape, same_path};
-use edm_data::{Data, EntityRef};
+use edm_data::Data;
 use edm_model::{Model, SetId};
-use edm_values::{EdmType, Value};
+use edm_values::EdmType;
 use std::alloc::{AllocError, Global};
 
 /// A value as it is shown: where it stands, and the name of its type, if that is shown.
@@ -98,52 +98,27 @@ fn shown_name(shape: &Shape, place: usize, path: &[Name]) -> Option<TypeName>
     }
 }
 
-/// Appends prefixes, the first of which has this place.
-fn push_prefixes<'a>(
-    first: usize,
-    prefixes: &'a [(Path, Option<EntityRef>)],
-    entries: &mut Vec<Entry<'a>>,
-) -> Result<(), AllocError>
-    requires { first ≤ 1 }
-    ensures { OnOk result (named_parts entries.new.items ≡ named_parts entries.old.items ++ prefix_parts first (map prefix_path prefixes.now)) }
+/// Appends the prefixes of a row, the empty one first.
+fn push_prefixes<'a>(row: &ShownRow<'a>, entries: &mut Vec<Entry<'a>>) -> Result<(), AllocError>
+    ensures { OnOk result (named_parts entries.new.items ≡ named_parts entries.old.items ++ prefix_parts 0 (map prefix_path row.now.prefixes)) }
 {
-    for (k, prefix) in prefixes.iter().enumerate() {
-        entries.push(whole(prefix.0.names(), Part::Prefix(first + k)))?;
+    for k in 0..row.prefix_count() {
+        entries.push(whole(row.prefix_path(k), Part::Prefix(k)))?;
     }
     Ok(())
 }
 
-/// The prefixes of a row, the empty one first.
-fn prefix_entries<'a>(alloc: Global, row: &'a Row) -> Result<Vec<Entry<'a>>, AllocError>
-    ensures { IfOk result (λ v. named_parts v.items ≡ prefix_parts 0 (map prefix_path row.now.prefixes)) }
-{
-    let prefixes = row.prefixes();
-    let mut entries = Vec::new(alloc);
-    match row.root() {
-        Some(_) => {
-            let none: &'a [Name] = &[];
-            entries.push(whole(none, Part::Prefix(0)))?;
-            push_prefixes(1, prefixes, &mut entries)?;
-            Ok(entries)
-        }
-        None => {
-            push_prefixes(0, prefixes, &mut entries)?;
-            Ok(entries)
-        }
-    }
-}
-
-/// Appends columns.
+/// Appends the columns of a row.
 fn push_columns<'a>(
     shape: &Shape,
-    columns: &'a [(Path, Value)],
+    row: &ShownRow<'a>,
     entries: &mut Vec<Entry<'a>>,
 ) -> Result<(), AllocError>
     requires { IsTrue (columns_differ shape.now.columns) }
-    ensures { OnOk result (named_parts entries.new.items ≡ named_parts entries.old.items ++ column_parts shape.now 0 (map column_path columns.now)) }
+    ensures { OnOk result (named_parts entries.new.items ≡ named_parts entries.old.items ++ column_parts shape.now 0 (map column_path row.now.columns)) }
 {
-    for (k, column) in columns.iter().enumerate() {
-        let path = column.0.names();
+    for k in 0..row.column_count() {
+        let path = row.column_path(k);
         let part = Part::Column(k, shown_name(shape, k, path));
         entries.push(whole(path, part))?;
     }
@@ -151,12 +126,17 @@ fn push_columns<'a>(
 }
 
 /// The prefixes and columns of a row.
-fn row_entries<'a>(alloc: Global, shape: &Shape, row: &'a Row) -> Result<Vec<Entry<'a>>, AllocError>
+fn row_entries<'a>(
+    alloc: Global,
+    shape: &Shape,
+    row: &ShownRow<'a>,
+) -> Result<Vec<Entry<'a>>, AllocError>
     requires { IsTrue (columns_differ shape.now.columns) }
     ensures { IfOk result (λ v. named_parts v.items ≡ row_parts shape.now row.now) }
 {
-    let mut entries = prefix_entries(alloc, row)?;
-    push_columns(shape, row.columns(), &mut entries)?;
+    let mut entries = Vec::new(alloc);
+    push_prefixes(row, &mut entries)?;
+    push_columns(shape, row, &mut entries)?;
     Ok(entries)
 }
 
@@ -187,17 +167,17 @@ fn has_column(place: &[Entry<'_>]) -> bool
 }
 
 /// Whether the prefix that ends at a place is there and bound to none.
-fn is_unbound(row: &Row, place: &[Entry<'_>]) -> bool
+fn is_unbound(row: &ShownRow<'_>, place: &[Entry<'_>]) -> bool
     ensures { (i : Instance) → SamePattern row.now i → is_bound_to_none (prefixes_seen i (named_parts place.now)) ≡ result }
 {
     match prefix_here(place) {
-        Some(k) => bound_at(row, k).is_none(),
+        Some(k) => row.bound(k).is_none(),
         None => false,
     }
 }
 
 /// Whether what stands at a place is shown as null: its prefix is bound to none, and no column stands there.
-fn is_null(row: &Row, place: &[Entry<'_>]) -> bool
+fn is_null(row: &ShownRow<'_>, place: &[Entry<'_>]) -> bool
     ensures { (i : Instance) → SamePattern row.now i → (is_bound_to_none (prefixes_seen i (named_parts place.now)) && is_empty (columns_seen i (named_parts place.now))) ≡ result }
 {
     is_unbound(row, place) && !has_column(place)
@@ -225,14 +205,14 @@ fn push_properties<'a>(
 /// Appends the properties of the entity at the prefix at this place, if it has one.
 fn push_entity<'a>(
     store: &'a Data,
-    row: &Row,
+    row: &ShownRow<'_>,
     k: usize,
     entries: &mut Vec<Entry<'a>>,
 ) -> Result<(), AllocError>
     requires { IsTrue (is_of store.now row.now) }
     ensures { OnOk result (named_parts entries.new.items ≡ named_parts entries.old.items ++ property_parts store.now row.now k) }
 {
-    match bound_at(row, k) {
+    match row.bound(k) {
         Some(entity) => push_properties(store.model(), k, entity.set, entries),
         None => Ok(()),
     }
@@ -241,7 +221,7 @@ fn push_entity<'a>(
 /// Appends the properties of the entity at a place, if there is one.
 fn push_here<'a>(
     store: &'a Data,
-    row: &Row,
+    row: &ShownRow<'_>,
     place: &[Entry<'a>],
     entries: &mut Vec<Entry<'a>>,
 ) -> Result<(), AllocError>
@@ -259,7 +239,7 @@ fn push_here<'a>(
 fn entries_at<'a>(
     alloc: Global,
     store: &'a Data,
-    row: &Row,
+    row: &ShownRow<'_>,
     place: &[Entry<'a>],
 ) -> Result<Vec<Entry<'a>>, AllocError>
     requires { IsTrue (is_of store.now row.now) }
@@ -321,7 +301,7 @@ fn push_leaf<'a>(
 
 /// Appends the member of a segment, if something stands inside.
 fn push_segment<'a>(
-    row: &Row,
+    row: &ShownRow<'_>,
     name: &'a str,
     inside: Vec<Entry<'a>>,
     members: &mut Vec<Unwritten<'a>>,
@@ -344,7 +324,7 @@ fn push_segment<'a>(
 /// Appends the members of one name: the value, and then the segment.
 fn push_group<'a>(
     alloc: Global,
-    row: &Row,
+    row: &ShownRow<'_>,
     group: &[Entry<'a>],
     members: &mut Vec<Unwritten<'a>>,
 ) -> Result<(), AllocError>
@@ -363,7 +343,7 @@ fn push_group<'a>(
 fn members_of<'a>(
     alloc: Global,
     store: &'a Data,
-    row: &Row,
+    row: &ShownRow<'_>,
     place: &[Entry<'a>],
 ) -> Result<Vec<Unwritten<'a>>, AllocError>
     requires { IsTrue (is_of store.now row.now) }
@@ -400,7 +380,7 @@ fn put_before<'a>(
 fn begin<'a>(
     alloc: Global,
     store: &'a Data,
-    row: &Row,
+    row: &ShownRow<'_>,
     place: &[Entry<'a>],
     template: &mut Template,
     left: &mut Vec<Unwritten<'a>>,
@@ -420,7 +400,7 @@ fn begin<'a>(
 fn write_next<'a>(
     alloc: Global,
     store: &'a Data,
-    row: &Row,
+    row: &ShownRow<'_>,
     member: Unwritten<'a>,
     template: &mut Template,
     left: &mut Vec<Unwritten<'a>>,
@@ -455,7 +435,7 @@ pub(crate) fn row_template(
     alloc: Global,
     store: &Data,
     shape: &Shape,
-    row: &Row,
+    row: &ShownRow<'_>,
 ) -> Result<Template, AllocError>
     requires entities { IsTrue (is_of store.now row.now) }
     requires columns { IsTrue (columns_differ shape.now.columns) }

@@ -1,16 +1,15 @@
 //! Rows that are rendered in parts, each by a thread of its own.
-ghost use Rattle.std.specs.Prelude.{◌≡◌, ◌++◌, ◌<◌, true, false, Ok, Err, IfOk, OnOk, map};
-ghost use Rattle.std.specs.List.{AllZip, list_any};
-ghost use Rattle.rayon.specs.Lists.{chunks_of};
+ghost use Rattle.std.specs.Prelude.{◌≡◌, ◌++◌, ◌<◌, ◌≤◌, true, false, Ok, Err, IfOk, OnOk, map};
+ghost use Rattle.std.specs.List.{All, AllZip, list_any};
 ghost use Rattle.apply_meaning.specs.MeaningLaws.{AllFit};
 ghost use Rattle.json_render.specs.Bodies as spec;
-ghost use Rattle.json_render.specs.PartTexts.{HasPast, IsPartText, texts_run};
+ghost use Rattle.json_render.specs.PartTexts.{AreParts, HasPast, IsPartText, texts_run};
 ghost use Rattle.json_render.specs.RowRuns.{rows_run};
 ghost use Rattle.edm_values.specs.declared.refusals.Refused.TheVariants as RenderRefused;
 
 use crate::RenderRefused;
 use crate::body::push_rows;
-use apply_meaning::Row;
+use crate::shown::ShownRows;
 use context_typing::Shape;
 use edm_data::Data;
 use rayon::prelude::*;
@@ -22,7 +21,7 @@ fn text_of(
     alloc: Global,
     store: &Data,
     shape: &Shape,
-    rows: &[Row],
+    rows: &ShownRows<'_>,
 ) -> Result<Vec<u8>, RenderRefused>
     requires fit { AllFit store.now shape.now rows.now }
     ensures { IsPartText store.now shape.now rows.now result }
@@ -32,22 +31,55 @@ fn text_of(
     Ok(text)
 }
 
-/// The text of each part of the rows, or what was wanting for it.
+/// Where the part ends that begins at this place.
+fn part_end(from: usize, len: usize, count: usize) -> usize
+    requires some { 0 < len }
+    requires there { from < count }
+    ensures more { from < result }
+    ensures within { result ≤ count }
+{
+    if count - from > len {
+        from + len
+    } else {
+        count
+    }
+}
+
+/// The rows in parts of so many, of which the last may have fewer.
+fn parts_of<'a>(
+    alloc: Global,
+    rows: &ShownRows<'a>,
+    len: usize,
+) -> Result<Vec<ShownRows<'a>>, AllocError>
+    requires some { 0 < len }
+    ensures { IfOk result (λ parts. AreParts rows.now parts.items) }
+{
+    let count = rows.len();
+    let mut parts = Vec::new(alloc);
+    let mut from = 0;
+    while from < count {
+        let to = part_end(from, len, count);
+        parts.push(rows.part(from, to))?;
+        from = to;
+    }
+    Ok(parts)
+}
+
+/// The text of each part, or what was wanting for it.
 fn part_texts<R: Threads + Sync>(
     rt: &R,
     alloc: Global,
     store: &Data,
     shape: &Shape,
-    rows: &[Row],
-    len: usize,
+    parts: &[ShownRows<'_>],
 ) -> Result<Vec<Result<Vec<u8>, RenderRefused>>, AllocError>
-    requires some { 0 < len }
-    requires fit { AllFit store.now shape.now rows.now }
-    ensures { IfOk result (λ rs. AllZip (IsPartText store.now shape.now) (chunks_of len rows.now) rs.items) }
+    requires fit { All (AllFit store.now shape.now) parts.now }
+    ensures { IfOk result (λ rs. AllZip (IsPartText store.now shape.now) parts.now rs.items) }
 {
-    rows.par_chunks(len)
+    parts
+        .par_iter()
         .map(
-            |part: &[Row]| -> Result<Vec<u8>, RenderRefused>
+            |part: &ShownRows<'_>| -> Result<Vec<u8>, RenderRefused>
                 requires { AllFit store.now shape.now part.now }
                 ensures { IsPartText store.entry.now shape.entry.now part.now result }
             { text_of(alloc, store, shape, part) },
@@ -91,7 +123,7 @@ pub(crate) fn push_in_parts<R: Threads + Sync>(
     alloc: Global,
     store: &Data,
     shape: &Shape,
-    rows: &[Row],
+    rows: &ShownRows<'_>,
     len: usize,
     body: &mut Vec<u8>,
 ) -> Result<(), RenderRefused>
@@ -101,7 +133,8 @@ pub(crate) fn push_in_parts<R: Threads + Sync>(
     ensures in_range { OnOk result (list_any spec.has_beyond rows.now ≡ false) }
     ensures range { result ≡ Err RenderRefused.Range → list_any spec.has_beyond rows.now ≡ true }
 {
-    let results = part_texts(rt, alloc, store, shape, rows, len)?;
+    let parts = parts_of(alloc, rows, len)?;
+    let results = part_texts(rt, alloc, store, shape, parts.as_slice())?;
     let texts = all_texts(alloc, results)?;
     push_texts(texts, body)?;
     Ok(())

@@ -50,7 +50,7 @@ fn same_columns(a: &[(Path, Value)], b: &[(Path, Value)]) -> bool
 }
 
 /// Whether the rows have the same columns and prefixes in the same order, with entities of the same sets.
-pub(crate) fn same_pattern(a: &Row, b: &Row) -> bool
+pub(crate) fn same_rows(a: &Row, b: &Row) -> bool
     ensures { result ≡ true → SamePattern a.now b.now }
 {
     same_set(a.root(), b.root())

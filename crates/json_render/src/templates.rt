@@ -1,10 +1,9 @@
 //! Templates of rows: the text of a row with a gap for each value.
-ghost use Rattle.std.specs.Prelude.{◌≡◌, ◌++◌, ◌∷◌, [], codes, false, true, IsTrue, OnOk, ◌||◌, is_some, option_and_then, option_map, slice_get, unwrap_or};
+ghost use Rattle.std.specs.Prelude.{◌≡◌, ◌++◌, ◌∷◌, [], codes, false, true, IsTrue, OnOk, ◌||◌, is_some, option_map, slice_get};
 ghost use Rattle.std.specs.Bool.{IsFalse};
 ghost use Rattle.serde_json.specs.Data.{null, string};
 ghost use Rattle.serde_json.specs.Written.{comma_if};
 ghost use Rattle.edm_values.specs.Values.{seen_value};
-ghost use Rattle.edm_values.specs.declared.Value.TheVariants as spec_value;
 ghost use Rattle.edm_model.specs.LookUps.{IsSet};
 ghost use Rattle.edm_data.specs.References.{property};
 ghost use Rattle.edm_data.specs.Worlds.{World};
@@ -15,12 +14,11 @@ ghost use Rattle.json_render.specs.RowTexts.{members_run, slot_value, template_t
 ghost use Rattle.json_render.specs.RowTexts as row_texts;
 
 use crate::entries::TypeName;
+use crate::shown::ShownRow;
 use crate::texts::{push_text, push_value};
-use apply_ast::Path;
-use apply_meaning::Row;
 use edm_data::{Data, EntityRef};
 use edm_model::PropId;
-use edm_values::{Seen, Value};
+use edm_values::Seen;
 use std::alloc::{AllocError, Global};
 
 /// Where a value of a row stands.
@@ -177,41 +175,18 @@ impl Template {
         &self,
         alloc: Global,
         store: &Data,
-        row: &Row,
+        row: &ShownRow<'_>,
         out: &mut Vec<u8>,
     ) -> Result<(), AllocError>
         requires entities { IsTrue (is_of store.now row.now) }
         requires range { IsFalse (has_beyond row.now) }
         ensures { OnOk result (out.new.items ≡ out.old.items ++ template_text store.now row.now self.now) }
     {
-        let _model = store.model();
         for piece in &self.pieces {
             out.extend_from_slice(piece.text.as_slice())?;
-            push_value(alloc, value_at(store, row, piece.slot), out)?;
+            push_at(alloc, store, row, piece.slot, out)?;
         }
         out.extend_from_slice(self.tail.as_slice())
-    }
-}
-
-/// What stands at the prefix at this place; none where there is no such prefix.
-fn bound_in(prefixes: &[(Path, Option<EntityRef>)], k: usize) -> Option<EntityRef>
-    ensures { result ≡ option_and_then (λ x. x.1) (slice_get prefixes.now k) }
-{
-    match prefixes.get(k) {
-        Some(prefix) => prefix.1,
-        None => None,
-    }
-}
-
-/// What stands at the prefix of a row at this place, the empty one being the first.
-pub(crate) fn bound_at(row: &Row, k: usize) -> Option<EntityRef>
-    ensures { result ≡ row_texts.bound_at row.now k }
-{
-    let prefixes = row.prefixes();
-    match row.root() {
-        Some(root) if k == 0 => Some(root),
-        Some(_) => bound_in(prefixes, k - 1),
-        None => bound_in(prefixes, k),
     }
 }
 
@@ -222,16 +197,6 @@ fn property_in(properties: &[PropId], at: usize) -> Option<PropId>
     match properties.get(at) {
         Some(property) => Some(*property),
         None => None,
-    }
-}
-
-/// The value of the column at this place; null where there is none.
-fn column_in(columns: &[(Path, Value)], k: usize) -> Seen<'_>
-    ensures { seen_value result ≡ unwrap_or (option_map (λ c. c.1) (slice_get columns.now k)) spec_value.Null }
-{
-    match columns.get(k) {
-        Some(column) => column.1.seen(),
-        None => Seen::Null,
     }
 }
 
@@ -247,16 +212,51 @@ fn property_at(store: &Data, entity: EntityRef, at: usize) -> Seen<'_>
     }
 }
 
-/// The value of a row that stands in this place; null where it has none there.
-fn value_at<'a>(store: &'a Data, row: &'a Row, slot: Slot) -> Seen<'a>
-    requires { IsTrue (is_of store.now row.now) }
-    ensures { seen_value result ≡ slot_value store.now row.now slot }
+/// Appends the value of the column of a row at this place.
+fn push_column(
+    alloc: Global,
+    row: &ShownRow<'_>,
+    k: usize,
+    out: &mut Vec<u8>,
+) -> Result<(), AllocError>
+    requires { IsFalse (has_beyond row.now) }
+    ensures { OnOk result (out.new.items ≡ out.old.items ++ value_text (row_texts.column_in row.now k)) }
+{
+    push_value(alloc, row.column(k), out)
+}
+
+/// Appends the value of the property of an entity at this place.
+fn push_property(
+    alloc: Global,
+    store: &Data,
+    entity: EntityRef,
+    at: usize,
+    out: &mut Vec<u8>,
+) -> Result<(), AllocError>
+    requires { IsSet store.now.model entity.set }
+    ensures { OnOk result (out.new.items ≡ out.old.items ++ value_text (property store.now entity at)) }
+{
+    let _model = store.model();
+    push_value(alloc, property_at(store, entity, at), out)
+}
+
+/// Appends the value of a row that stands in this place; null where it has none there.
+fn push_at(
+    alloc: Global,
+    store: &Data,
+    row: &ShownRow<'_>,
+    slot: Slot,
+    out: &mut Vec<u8>,
+) -> Result<(), AllocError>
+    requires entities { IsTrue (is_of store.now row.now) }
+    requires range { IsFalse (has_beyond row.now) }
+    ensures { OnOk result (out.new.items ≡ out.old.items ++ value_text (slot_value store.now row.now slot)) }
 {
     match slot {
-        Slot::Column(k) => column_in(row.columns(), k),
-        Slot::Property(k, property) => match bound_at(row, k) {
-            Some(entity) => property_at(store, entity, property),
-            None => Seen::Null,
+        Slot::Column(k) => push_column(alloc, row, k, out),
+        Slot::Property(k, property) => match row.bound(k) {
+            Some(entity) => push_property(alloc, store, entity, property, out),
+            None => out.extend_from_slice(b"null"),
         },
     }
 }

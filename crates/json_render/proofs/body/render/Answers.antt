@@ -1,12 +1,14 @@
-use Rattle.std.proofs.Common.{◌++◌, ◌∙◌, ap, codes}
+use Rattle.std.proofs.Common.{◌++◌, ◌∙◌, ap, sym}
 use Rattle.edm_model.specs.LookUps.{set_name}
-use Rattle.json_render.specs.Bodies.{context}
-use Rattle.json_render.proofs.RowLines.{body-made}
+use Rattle.json_render.specs.Bodies.{body}
+use Rattle.json_render.specs.RowRuns.{head_text}
+use Rattle.json_render.proofs.RowLines.{body-ended}
 use Rattle.json_render.proofs.body.render.Goals as goal
 
 pub returns-clause-ok : goal.returns-clause-ok
 returns-clause-ok c =
     let w = c.args.store.now in
     let s = c.args.shape.now in
-    body-made w (set_name w.model c.args.set) s c.args.rows.now c.as_str.result.now c.extend_from_slice.new.self.items c.push_text.new.out.items c.extend_from_slice-2.new.self.items c.push_rows.new.body.items c.extend_from_slice-3.new.self.items
-    (c.in_ok-extend_from_slice.ensures.items ∙ ap (λ xs. xs ++ codes "{\"@context\":") c.new-body.ensures.items) c.in_ok-push_text.ensures (c.as_str.ensures.value ∙ c.in_ok-context.ensures ∙ ap (λ n. context n s) (c.set_name.ensures.value ∙ ap (λ m. set_name m c.args.set) c.model.ensures.value)) c.in_ok-extend_from_slice-2.ensures.items c.in_ok-push_rows.ensures.ok c.in_ok-extend_from_slice-3.ensures.items c.in_ok-push_rows.ensures.in_range
+    ap (λ l. body w (set_name w.model c.args.set) s l) (sym c.of_rows-rows.ensures)
+    ∙ body-ended w (set_name w.model c.args.set) s c.of_rows-rows.result c.push_head.new.body.items c.push_rows.new.body.items c.extend_from_slice.new.self.items
+    (c.in_ok-push_head.ensures ∙ ap (λ xs. xs ++ head_text (set_name w.model c.args.set) s) c.new-body.ensures.items) c.in_ok-push_rows.ensures.ok c.in_ok-extend_from_slice.ensures.items c.in_ok-push_rows.ensures.in_range

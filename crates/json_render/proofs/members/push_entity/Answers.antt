@@ -6,4 +6,4 @@ use Rattle.json_render.proofs.members.push_entity.Goals as goal
 pub push_properties-requires : goal.push_properties-requires
 push_properties-requires c =
     subst (λ m. IsSet m c.entity.inside.set) (sym c.model.ensures.value)
-    (subst (IsSet c.args.store.now.model) (sym (ap (λ e. e.set) c.entity.view_is)) (set-of_bound c.args.store.now c.args.row.now c.args.k c.in-Some.entity c.requires (sym c.bound_at.ensures ∙ c.in-Some.is)))
+    (subst (IsSet c.args.store.now.model) (sym (ap (λ e. e.set) c.entity.view_is)) (set-of_bound c.args.store.now c.args.row.now c.args.k c.in-Some.entity c.requires (sym c.bound.ensures ∙ c.in-Some.is)))

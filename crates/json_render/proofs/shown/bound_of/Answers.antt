@@ -2,7 +2,7 @@ use Rattle.std.proofs.Common.{◌∙◌, ap, sym}
 use Rattle.apply_meaning.specs.Instances.{root_of}
 use Rattle.json_render.specs.RowTexts.{bound_at}
 use Rattle.json_render.proofs.SlotLemmas.{bound-root}
-use Rattle.json_render.proofs.templates.bound_at.Goals as goal
+use Rattle.json_render.proofs.shown.bound_of.Goals as goal
 
 pub returns-in-Some : goal.returns-in-Some
 returns-in-Some c =
