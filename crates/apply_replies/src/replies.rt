@@ -4,7 +4,7 @@ ghost use Rattle.apply_ast.specs.Printing as printing;
 ghost use Rattle.apply_ast.specs.Trees as tree;
 ghost use Rattle.apply_ast.specs.Views.{pipe_of};
 ghost use Rattle.apply_grammar.specs.Requests.{asked_of};
-ghost use Rattle.edm_model.specs.LookUps.{IsSet};
+ghost use Rattle.edm_model.specs.LookUps.{IsSet, set_name};
 ghost use Rattle.edm_values.specs.Literals.{plain_text};
 ghost use Rattle.edm_data.specs.References.{key};
 ghost use Rattle.context_typing.specs.Answers.{IsTyping};
@@ -17,6 +17,8 @@ ghost use Rattle.apply_meaning.specs.Meaning.{mean};
 ghost use Rattle.apply_meaning.specs.MeaningLaws.{AllFit};
 ghost use Rattle.optimiser.specs.Plans.{AreOneTyping, IsPlan, own_of, written_of};
 ghost use Rattle.step_run.specs.Costs.{total_cost};
+ghost use Rattle.frame_run.specs.HeldRows.{rows_of};
+ghost use Rattle.json_render.specs.Bodies.{body};
 ghost use Rattle.rewrite_laws.specs.Rewrites.{IsPlanOf};
 ghost use Rattle.apply_replies.specs.Costs.{BoundsLine, BoundsRequest, IsRunFor};
 ghost use Rattle.apply_replies.specs.Replies.{IsReply, IsResponse, IsTyped};
@@ -31,16 +33,18 @@ use crate::responses::{
 };
 use apply_ast::{Request, print};
 use apply_grammar::{GrammarRefused, read_request};
-use apply_meaning::{Row, RunRefused, Steps, data_is_loaded};
+use apply_meaning::{RunRefused, Steps, data_is_loaded};
 use apply_store::{Store, identifier};
 use context_typing::{TypeRefused, Typed, type_pipe};
-use edm_data::EntityRef;
+use edm_data::{Data, EntityRef};
+use frame_run::Held;
 use hier_states::first_cycle;
-use json_render::render_in_parts;
+use json_render::{render_frame, render_in_parts};
 use line_stream::Output;
 use optimiser::{Plan, optimise};
 use par_stages::Gate;
-use plan_run::run;
+use plan_run::run_unmade;
+use row_frames::Frame;
 use std::alloc::{AllocError, Global};
 use std::sync::ledger::Ledger;
 use std::thread::Threads;
@@ -77,20 +81,57 @@ fn plan_for(
     Ok(Plan::written(typed))
 }
 
-/// The rows that a plan gives fit the shape of what it runs.
-fn rows_fit(store: &Store, plan: &Plan, rows: &Vec<Row>)
+/// The instances that a plan gives fit the shape of what it runs.
+fn rows_fit(store: &Store, plan: &Plan, held: &Held)
     requires set { IsSet store.now.world.model (written_of plan.now).set }
     requires plan { IsPlan store.now.world.model (readings store.now.customs) plan.now }
     requires mean { let t = written_of plan.now in
-        mean store.now.world (readings store.now.customs) (shape_of_set store.now.world.model t.set) (pipe_of t.pipe) (instances.rows store.now.world t.set) ≡ Some rows.now.items }
+        mean store.now.world (readings store.now.customs) (shape_of_set store.now.world.model t.set) (pipe_of t.pipe) (instances.rows store.now.world t.set) ≡ Some (rows_of held.now) }
     ensures set { IsSet store.now.world.model (own_of plan.now).set }
-    ensures fit { AllFit store.now.world (own_of plan.now).shape rows.now.items }
+    ensures fit { AllFit store.now.world (own_of plan.now).shape (rows_of held.now) }
 {
     data_is_loaded(store.data());
     let _customs = store.customs();
 }
 
-/// The body of the rows that a plan gives.
+/// The body of rows, or of instances of which no row is made.
+fn held_body<R: Threads + Sync>(
+    rt: &R,
+    alloc: Global,
+    store: &Data,
+    typed: &Typed,
+    held: &Held,
+    workers: u32,
+) -> Result<Vec<u8>, RunRefused>
+    requires set { IsSet store.now.model typed.now.set }
+    requires rows { AllFit store.now typed.now.shape (rows_of held.now) }
+    requires some { 0 < workers }
+    ensures ok { IfOk result (λ b. body store.now (set_name store.now.model typed.now.set) typed.now.shape (rows_of held.now) ≡ Some b.items) }
+    ensures range { result ≡ Err RunRefused.Range → body store.now (set_name store.now.model typed.now.set) typed.now.shape (rows_of held.now) ≡ None }
+{
+    match held {
+        Held::Set(set, n) => {
+            let frame = Frame::of_first(alloc, *set, *n)?;
+            render_frame(rt, alloc, store, typed.set, &typed.shape, &frame, workers)
+        }
+        Held::Frame(frame) => {
+            render_frame(rt, alloc, store, typed.set, &typed.shape, frame, workers)
+        }
+        Held::Rows(rows) => {
+            render_in_parts(
+                rt,
+                alloc,
+                store,
+                typed.set,
+                &typed.shape,
+                rows.as_slice(),
+                workers,
+            )
+        }
+    }
+}
+
+/// The body of what a plan gives. No row is made of instances that stand in a frame.
 fn body_of<R: Threads + Sync, G: Gate, L: Ledger>(
     rt: &R,
     alloc: Global,
@@ -112,7 +153,7 @@ fn body_of<R: Threads + Sync, G: Gate, L: Ledger>(
     ensures grown { steps.old ≤ steps.new }
 {
     let workers = workers.min(MOST).max(1);
-    let rows = run(
+    let held = run_unmade(
         rt,
         alloc,
         store.data(),
@@ -123,17 +164,9 @@ fn body_of<R: Threads + Sync, G: Gate, L: Ledger>(
         gate,
         steps,
     )?;
-    rows_fit(store, plan, &rows);
+    rows_fit(store, plan, &held);
     let typed = plan.typed();
-    render_in_parts(
-        rt,
-        alloc,
-        store.data(),
-        typed.set,
-        &typed.shape,
-        rows.as_slice(),
-        workers,
-    )
+    held_body(rt, alloc, store.data(), typed, &held, workers)
 }
 
 /// The response to a request whose run came to this body, or to none.

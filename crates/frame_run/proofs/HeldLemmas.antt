@@ -1,10 +1,14 @@
 -- Rows that a plan has come to, made or not.
-use Rattle.std.proofs.Common.{◌≡◌, ◌+◌, ◌≤◌, ◌∙◌, ap, refl, List, length, Some, None, arith}
+use Rattle.std.proofs.Common.{◌≡◌, ℕ, ◌+◌, ◌≤◌, ◌∙◌, ap, refl, List, length, Some, None, arith}
 use Rattle.std.specs.declared.result.Result as result
 use Rattle.std.specs.declared.result.Result.TheVariants.{Ok, Err}
 use Rattle.edm_values.specs.declared.refusals.Refused.{Refused}
 use Rattle.edm_values.specs.declared.refusals.Refused.TheVariants.{Range, Memory}
+use Rattle.std.proofs.lemmas.List.{length-map}
+use Rattle.edm_values.specs.Lists.{places}
+use Rattle.edm_values.proofs.TopPlaces.{length-places}
 use Rattle.edm_data.specs.Worlds.{World}
+use Rattle.row_frames.specs.Related.{placed}
 use Rattle.apply_ast.proofs.ViewEquations.{climb_of-is}
 use Rattle.apply_ast.specs.Trees.{Step}
 use Rattle.apply_ast.specs.Views.{climb_of, hier_of, pipe_of}
@@ -17,7 +21,7 @@ use Rattle.apply_meaning.specs.Running.{Gives}
 use Rattle.step_run.proofs.CostEquations.{inner_costs-Climb}
 use Rattle.step_run.specs.Costs.{cost, inner_costs, result_length, step_cost}
 use Rattle.step_run.specs.GroupTotals.{GivesFound}
-use Rattle.frame_run.specs.HeldRows.{GivesHeld, owed_by}
+use Rattle.frame_run.specs.HeldRows.{GivesHeld, first_of, owed_by}
 use Rattle.frame_run.specs.declared.held.Held.{Held}
 use Rattle.frame_run.specs.declared.held.Held.TheVariants as held
 
@@ -36,6 +40,10 @@ pub found-refused : (e : Refused) (m m' : Outcome) → GivesFound (Err e) m → 
 found-refused Range m m' h k = k h
 found-refused Memory m m' h k = tt
 
+-- the first entities of a set are so many
+pub first-long : (s n : ℕ) → length (first_of s n) ≡ n
+first-long s n = length-map (places n) (placed s) ∙ length-places n
+
 -- a transformation costs no less than the rows that it gives
 pub made-least : (w : World) (c : Customs) (S : Shape) (s : Step) (l r : List Instance) → step_mean w c S s l ≡ Some r → length r ≤ step_cost w c S s l
 made-least w c S s l r m =
@@ -44,12 +52,14 @@ made-least w c S s l r m =
 
 -- and no less than the rows that are still to be made of what it gives
 pub owed-least : (w : World) (c : Customs) (S : Shape) (s : Step) (l : List Instance) (r : result.Result Held Refused) → GivesHeld r (step_mean w c S s l) → owed_by r ≤ step_cost w c S s l
+owed-least w c S s l (Ok (held.Set k n)) g = let least = made-least w c S s l (first_of k n) g in let long = first-long k n in omega (arith, least, long)
 owed-least w c S s l (Ok (held.Frame f)) g = made-least w c S s l f g
 owed-least w c S s l (Ok (held.Rows v)) g = omega arith
 owed-least w c S s l (Err e) g = omega arith
 
 -- what is still to be made is no more than what there is
 pub owed-length : (r : result.Result Held Refused) (m : Outcome) → GivesHeld r m → owed_by r ≤ result_length m
+owed-length (Ok (held.Set k n)) m g = let size : result_length m ≡ length (first_of k n) = ap result_length g in let long = first-long k n in omega (arith, size, long)
 owed-length (Ok (held.Frame f)) m g = let n : result_length m ≡ length f = ap result_length g in omega (arith, n)
 owed-length (Ok (held.Rows v)) m g = omega arith
 owed-length (Err e) m g = omega arith

@@ -1,3 +1,4 @@
 pub mod FrameSteps
+pub mod FrontLemmas
 pub mod HeldLemmas
 pub mod JoinLemmas

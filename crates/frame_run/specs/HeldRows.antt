@@ -1,23 +1,35 @@
 -- The rows that a plan has come to, made or not.
-use Rattle.std.specs.Prelude.{◌≡◌, ℕ, List, Some, None, length, map, sum}
+use Rattle.std.specs.Prelude.{◌≡◌, ℕ, List, [], ◌∷◌, Option, Some, None, length, map, sum}
 use Rattle.std.specs.declared.result.Result as result
 use Rattle.std.specs.declared.result.Result.TheVariants.{Ok, Err}
 use Rattle.edm_values.specs.declared.refusals.Refused.{Refused}
 use Rattle.std.specs.Global.{Vec}
-use Rattle.edm_values.specs.Lists.{all_some}
+use Rattle.edm_values.specs.Lists.{all_some, places}
 use Rattle.edm_values.specs.Refusals.{Returns}
 use Rattle.apply_meaning.specs.Instances.{Instance}
 use Rattle.apply_meaning.specs.Meaning.{Outcome}
+use Rattle.row_frames.specs.Related.{placed}
 use Rattle.frame_run.specs.declared.held.Held.{Held}
 use Rattle.frame_run.specs.declared.held.Held.TheVariants as held
 
+-- the instances of the first entities of a set, so many, in data order
+abbrev pub first_of : ℕ → ℕ → List Instance
+first_of s n = map (placed s) (places n)
+
+-- the instance of the entity of a set at this place, if there is one
+abbrev pub entity_list : ℕ → Option ℕ → List Instance
+entity_list s None = []
+entity_list s (Some k) = placed s k ∷ []
+
 -- the instances of the rows
 abbrev pub rows_of : Held → List Instance
+rows_of (held.Set s n) = first_of s n
 rows_of (held.Frame f) = f
 rows_of (held.Rows v) = v.items
 
 -- how many rows are still to be made
 abbrev pub owed : Held → ℕ
+owed (held.Set s n) = n
 owed (held.Frame f) = length f
 owed (held.Rows v) = 0
 

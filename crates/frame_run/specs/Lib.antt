@@ -7,4 +7,5 @@ pub use Rattle.apply_meaning.specs.Running
 pub use Rattle.hier_states.specs.NamedHierarchies
 pub use Rattle.step_run.specs.Conditions
 pub use Rattle.step_run.specs.Costs
+pub mod Front
 pub mod HeldRows

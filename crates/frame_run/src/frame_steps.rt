@@ -180,6 +180,10 @@ fn climbed_at<R: Threads + Sync, G: Gate>(
 {
     let list = RowList::of_frame(frame);
     match starts {
+        Held::Set(set, n) => {
+            let starts = Frame::of_first(alloc, *set, *n)?;
+            climbed_places(alloc, context, climb, &list, &RowList::of_frame(&starts))
+        }
         Held::Frame(starts) => {
             climbed_places(alloc, context, climb, &list, &RowList::of_frame(starts))
         }

@@ -1,4 +1,4 @@
-//! What a pipeline has come to: a frame, as long as no transformation wants rows, and then rows.
+//! What a pipeline has come to: a whole set, a frame, as long as no transformation wants rows, and then rows.
 ghost use Rattle.std.specs.Prelude.{◌≡◌, ℕ, ◌+◌, ◌≤◌, ◌<◌, ◌++◌, Some, IfOk, IsTrue, drop, filter, get_or, length, map, option_map, slice_get, sum, true};
 ghost use Rattle.std.specs.List.{list_all};
 ghost use Rattle.edm_values.specs.Values.{is_value};
@@ -9,7 +9,8 @@ ghost use Rattle.context_typing.specs.Readings.{readings};
 ghost use Rattle.edm_model.specs.LookUps.{IsNavigation, navigation_on};
 ghost use Rattle.edm_model.specs.Models.{Navigation};
 ghost use Rattle.context_typing.specs.Shapes.{Shape, set_shape};
-ghost use Rattle.apply_meaning.specs.Instances.{val};
+ghost use Rattle.edm_data.specs.References.{count};
+ghost use Rattle.apply_meaning.specs.Instances.{rows, val};
 ghost use Rattle.apply_meaning.specs.Meaning.{Outcome, inner_mean, joined, mean, refused_at_beyond, related_rows, step_mean, values};
 ghost use Rattle.apply_meaning.specs.Running.{Gives, all_of};
 ghost use Rattle.row_frames.specs.Frames.{GivesFrame};
@@ -23,13 +24,15 @@ ghost use Rattle.frame_run.specs.HeldRows as spec;
 use crate::frame_steps::{
     frame_aggregated, frame_climbed, frame_computed, frame_ordered, frame_selected, frame_traversed,
 };
+use crate::front::{set_climbed, set_filtered};
 use crate::joins::{
     alias_ready, inner_ready, join_navigation, joined_lists, related_frame, related_ready,
     target_set, target_type,
 };
 use apply_ast::{ClimbStep, Expr, JoinStep, Name, Pipe, PipeList, Step};
 use apply_meaning::{Row, RunRefused, Steps, data_is_loaded};
-use edm_model::{NavId, TypeId};
+use edm_data::Data;
+use edm_model::{NavId, SetId, TypeId};
 use par_stages::Gate;
 use pipe_run::{run_grouping, run_step};
 use row_frames::Frame;
@@ -42,13 +45,36 @@ use step_run::{Context, grouped_frame, kept_frame, root_after};
 /// The rows that a pipeline has come to.
 #[derive(Debug, Drop)]
 pub enum Held {
+    /// The first entities of a set, so many, of which no list is made yet.
+    Set(SetId, u32),
     /// Rows that are not made yet.
     Frame(Frame),
     Rows(Vec<Row>),
 }
 
+impl Held {
+    /// The instances of a set's entities in data order, of which no list is made yet.
+    pub fn of_set(store: &Data, set: SetId) -> Held
+        ensures rows { spec.rows_of result ≡ rows store.now set }
+        ensures owed { spec.owed result ≡ count store.now set }
+    {
+        Held::Set(set, store.count(set))
+    }
+
+    /// The same instances, with a list of them where none was made yet. No row is made.
+    pub fn listed(self, alloc: Global) -> Result<Held, AllocError>
+        ensures rows { IfOk result (λ h. spec.rows_of h ≡ spec.rows_of self) }
+        ensures owed { IfOk result (λ h. spec.owed h ≡ spec.owed self) }
+    {
+        match self {
+            Held::Set(set, n) => Ok(Held::Frame(Frame::of_first(alloc, set, n)?)),
+            held => Ok(held),
+        }
+    }
+}
+
 /// The rows themselves: one step each, where they are not made yet.
-pub(crate) fn made_rows<L: Ledger>(
+pub fn made_rows<L: Ledger>(
     alloc: Global,
     held: Held,
     steps: &mut Steps<L>,
@@ -58,6 +84,7 @@ pub(crate) fn made_rows<L: Ledger>(
     ensures grown { steps.old ≤ steps.new }
 {
     match held {
+        Held::Set(set, n) => Frame::of_first(alloc, set, n)?.into_rows(alloc, steps),
         Held::Frame(frame) => frame.into_rows(alloc, steps),
         Held::Rows(rows) => Ok(rows),
     }
@@ -269,6 +296,30 @@ fn run_climb<R: Threads + Sync, G: Gate, L: Ledger>(
     let copy = Held::Frame(frame.copy(alloc)?);
     let starts = held_after(alloc, context, root, &climb.inner, copy, steps)?;
     as_frame(frame_climbed(alloc, context, climb, frame, &starts))
+}
+
+/// The instances of a set that a climb keeps. The inner pipeline is run on the set too, of which no list is made for either.
+#[cycle(held)]
+fn run_set_climb<R: Threads + Sync, G: Gate, L: Ledger>(
+    alloc: Global,
+    context: &Context<'_, R, G>,
+    root: &Option<TypeId>,
+    climb: &ClimbStep,
+    set: SetId,
+    n: u32,
+    steps: &mut Steps<L>,
+) -> Result<Held, RunRefused>
+    requires ready { StepReadyFrom context.now root.now (climb_of climb.now) (spec.first_of set n) }
+    requires named { AreReady context.now (step_hierarchies (climb_of climb.now)) }
+    ensures mean { (S S' : Shape) → StepRunsFrom context.now root.now S S' (climb_of climb.now) (spec.first_of set n)
+        → spec.GivesHeld result (step_mean context.now.world (readings context.now.customs) S (climb_of climb.now) (spec.first_of set n)) }
+    ensures steps { (S S' : Shape) → StepRunsFrom context.now root.now S S' (climb_of climb.now) (spec.first_of set n)
+        → steps.new + spec.owed_by result ≤ steps.old + n + step_cost context.now.world (readings context.now.customs) S (climb_of climb.now) (spec.first_of set n) }
+    ensures grown { steps.old ≤ steps.new }
+{
+    data_is_loaded(context.store());
+    let starts = held_after(alloc, context, root, &climb.inner, Held::Set(set, n), steps)?;
+    as_frame(set_climbed(alloc, context, climb, set, n, &starts))
 }
 
 /// Each branch of a concatenation may be run on the instances.
@@ -534,6 +585,35 @@ fn run_frame<R: Threads + Sync, G: Gate, L: Ledger>(
     }
 }
 
+/// What one transformation gives on a set of which no list is made yet: it is made where neither the set nor a key is enough.
+#[cycle(held)]
+fn run_set<R: Threads + Sync, G: Gate, L: Ledger>(
+    alloc: Global,
+    context: &Context<'_, R, G>,
+    root: &Option<TypeId>,
+    step: &Step,
+    set: SetId,
+    n: u32,
+    steps: &mut Steps<L>,
+) -> Result<Held, RunRefused>
+    requires ready { StepReadyFrom context.now root.now (step_of step.now) (spec.first_of set n) }
+    requires named { AreReady context.now (step_hierarchies (step_of step.now)) }
+    ensures mean { (S S' : Shape) → StepRunsFrom context.now root.now S S' (step_of step.now) (spec.first_of set n)
+        → spec.GivesHeld result (step_mean context.now.world (readings context.now.customs) S (step_of step.now) (spec.first_of set n)) }
+    ensures steps { (S S' : Shape) → StepRunsFrom context.now root.now S S' (step_of step.now) (spec.first_of set n)
+        → steps.new + spec.owed_by result ≤ steps.old + n + step_cost context.now.world (readings context.now.customs) S (step_of step.now) (spec.first_of set n) }
+    ensures grown { steps.old ≤ steps.new }
+{
+    match step {
+        Step::Filter(e) => as_frame(set_filtered(alloc, context, e, set, n)),
+        Step::Climb(climb) => run_set_climb(alloc, context, root, climb, set, n, steps),
+        _ => {
+            let frame = Frame::of_first(alloc, set, n)?;
+            run_frame(alloc, context, root, step, frame, steps)
+        }
+    }
+}
+
 /// What one transformation gives.
 #[cycle(held)]
 fn run_on_held<R: Threads + Sync, G: Gate, L: Ledger>(
@@ -553,6 +633,7 @@ fn run_on_held<R: Threads + Sync, G: Gate, L: Ledger>(
     ensures grown { steps.old ≤ steps.new }
 {
     match held {
+        Held::Set(set, n) => run_set(alloc, context, root, step, set, n, steps),
         Held::Frame(frame) => run_frame(alloc, context, root, step, frame, steps),
         Held::Rows(rows) => as_held(run_step(alloc, context, root, step, rows, steps)),
     }
@@ -560,7 +641,7 @@ fn run_on_held<R: Threads + Sync, G: Gate, L: Ledger>(
 
 /// What the pipeline comes to. Rows are made where a transformation wants them.
 #[cycle(held)]
-fn held_after<R: Threads + Sync, G: Gate, L: Ledger>(
+pub fn held_after<R: Threads + Sync, G: Gate, L: Ledger>(
     alloc: Global,
     context: &Context<'_, R, G>,
     root: &Option<TypeId>,
@@ -586,25 +667,4 @@ fn held_after<R: Threads + Sync, G: Gate, L: Ledger>(
         root = root_after(step, root);
     }
     Ok(held)
-}
-
-/// The rows that the pipeline gives. Rows are made where a transformation wants them, or at the end.
-pub fn run_held<R: Threads + Sync, G: Gate, L: Ledger>(
-    alloc: Global,
-    context: &Context<'_, R, G>,
-    root: &Option<TypeId>,
-    pipe: &Pipe,
-    held: Held,
-    steps: &mut Steps<L>,
-) -> Result<Vec<Row>, RunRefused>
-    requires ready { ReadyFrom context.now root.now (pipe_of pipe.now) (spec.rows_of held) }
-    requires named { AreReady context.now (hierarchies (pipe_of pipe.now)) }
-    ensures mean { (S S' : Shape) → RunsFrom context.now root.now S S' (pipe_of pipe.now) (spec.rows_of held)
-        → Gives result (mean context.now.world (readings context.now.customs) S (pipe_of pipe.now) (spec.rows_of held)) }
-    ensures steps { (S S' : Shape) → RunsFrom context.now root.now S S' (pipe_of pipe.now) (spec.rows_of held)
-        → steps.new ≤ steps.old + spec.owed held + cost context.now.world (readings context.now.customs) S (pipe_of pipe.now) (spec.rows_of held) }
-    ensures grown { steps.old ≤ steps.new }
-{
-    let made = held_after(alloc, context, root, pipe, held, steps)?;
-    Ok(made_rows(alloc, made, steps)?)
 }

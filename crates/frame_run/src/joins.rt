@@ -148,7 +148,7 @@ fn held_places(alloc: Global, set: SetId, held: &Held) -> Result<Option<Vec<u32>
 {
     match held {
         Held::Frame(frame) => frame.places_in(alloc, set),
-        Held::Rows(_) => Ok(None),
+        Held::Set(..) | Held::Rows(_) => Ok(None),
     }
 }
 

@@ -48,7 +48,7 @@ quiet-row [] (v ∷ vs) k h = absurd (false≢true h)
 quiet-row (p ∷ ps) (v ∷ vs) zero h = quiet-value p v (and_parts (is_value_of p v) (are_values_of ps vs) h).0
 quiet-row (p ∷ ps) (v ∷ vs) (suc k) h = quiet-row ps vs k (and_parts (is_value_of p v) (are_values_of ps vs) h).1
 
-property-quiet : (w : World) (e : Entity) (q : ℕ) → FitsModel w → is_beyond (property w e q) ≡ false
+pub property-quiet : (w : World) (e : Entity) (q : ℕ) → FitsModel w → is_beyond (property w e q) ≡ false
 property-quiet w e q F = go (slice_get (entities_of w e.set) e.at) refl
   where
     go : (o : Option (List Value)) → slice_get (entities_of w e.set) e.at ≡ o → is_beyond (property w e q) ≡ false
@@ -159,7 +159,7 @@ source-linked w of s q n links L there kept to k =
 
 -- ---- the nodes of instances
 
-node-kept : (w : World) (p : Path) (of q s : ℕ) (x : Source) (i : Instance) → ((k : ℕ) → node_at x k ≡ node_by w s (property w (entity_at of k) q)) → IsOwn w p of q i → option_and_then (λ e. node_at x e.at) (root_of i) ≡ node_in w s p i
+pub node-kept : (w : World) (p : Path) (of q s : ℕ) (x : Source) (i : Instance) → ((k : ℕ) → node_at x k ≡ node_by w s (property w (entity_at of k) q)) → IsOwn w p of q i → option_and_then (λ e. node_at x e.at) (root_of i) ≡ node_in w s p i
 node-kept w p of q s x i kept own =
     ap (option_and_then (λ (e : Entity). node_at x e.at)) own.root ∙ kept own.at ∙ ap (node_by w s) (sym own.value)
 

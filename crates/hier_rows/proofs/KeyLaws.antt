@@ -40,7 +40,7 @@ no-fault None w h = refl
 no-fault (Some e) w h = absurd cc
 
 -- the key of an entity at a place of the list of keys
-key-here : {X : Type 0} (xs : List X) (f : X → Value) (e d : X) (k : ℕ) → k < length xs → get_or (map f xs) k (f d) ≡ f (unwrap_or (slice_get xs k) e)
+pub key-here : {X : Type 0} (xs : List X) (f : X → Value) (e d : X) (k : ℕ) → k < length xs → get_or (map f xs) k (f d) ≡ f (unwrap_or (slice_get xs k) e)
 key-here [] f e d k less = absurd (omega arith)
 key-here (x ∷ xs) f e d zero less = refl
 key-here (x ∷ xs) f e d (suc k) less = key-here xs f e d k (omega arith)

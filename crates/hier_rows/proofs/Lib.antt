@@ -4,5 +4,6 @@ pub mod KeyLaws
 pub mod KeyNodes
 pub mod NodeLaws
 pub mod PlacedLaws
+pub mod SetLaws
 pub mod ShownLaws
 pub mod TraversalLaws

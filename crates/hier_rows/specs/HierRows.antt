@@ -1,6 +1,7 @@
 -- Rows by their nodes in a hierarchy (Data Aggregation 4.0, section 6), and what calls over them return.
-use Rattle.std.specs.Prelude.{ℕ, ◌≡◌, ◌<◌, ◌++◌, true, false, Bool, List, map, filter_map, Option, Some, IfSome, option_map, if◌then◌else◌}
+use Rattle.std.specs.Prelude.{ℕ, ◌≡◌, ◌<◌, ◌++◌, true, false, Bool, List, map, filter_map, Option, Some, None, IfSome, option_map, if◌then◌else◌}
 use Rattle.std.specs.declared.result.Result as result
+use Rattle.std.specs.Global.{Vec}
 use Rattle.std.specs.List.{All, list_any}
 use Rattle.edm_values.specs.declared.Value.{Value}
 use Rattle.edm_values.specs.declared.refusals.Refused.{Refused}
@@ -64,6 +65,10 @@ GivesFor IsRight vs r = Returns (λ v. IsRight v × (list_any is_beyond vs ≡ f
 -- of one key: the node that has it, or a refusal where it is Beyond
 abbrev pub GivesNodeBy : World → ℕ → Value → result.Result (Option ℕ) Refused → Type 0
 GivesNodeBy w s v r = Returns (λ (n : Option ℕ). (n ≡ node_by w s v) × (is_beyond v ≡ false)) (is_beyond v ≡ true) r
+
+-- entities that were found, if they were, where the places are known
+abbrev pub GivesPlaces : result.Result (Option (Vec ℕ)) Refused → Option (List ℕ) → Type 0
+GivesPlaces r m = Returns (λ (o : Option (Vec ℕ)). IfSome o (λ v. m ≡ Some v.items)) (m ≡ None) r
 
 -- ---- places of rows
 

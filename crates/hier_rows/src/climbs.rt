@@ -23,7 +23,7 @@ use std::alloc::{AllocError, Global};
 use std::thread::Threads;
 
 /// The nodes that there are.
-fn present(alloc: Global, nodes: &[Option<u32>]) -> Result<Vec<u32>, AllocError>
+pub(crate) fn present(alloc: Global, nodes: &[Option<u32>]) -> Result<Vec<u32>, AllocError>
     ensures { IfOk result (λ v. v.items ≡ filter_map (λ n. n) nodes.now) }
 {
     let mut found = Vec::new(alloc);

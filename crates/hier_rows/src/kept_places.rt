@@ -65,7 +65,7 @@ pub(crate) fn nodes_at(
 
 /// Whether there is a node, and it is marked.
 #[inline(always)]
-fn is_marked(node: Option<u32>, marks: &[bool]) -> bool
+pub(crate) fn is_marked(node: Option<u32>, marks: &[bool]) -> bool
     ensures { result ≡ unwrap_or (option_map (λ x. slice_index_or marks.now x false) node) false }
 {
     match node {

@@ -1,5 +1,5 @@
 //! Instances by their nodes in a hierarchy: climbs and traversals.
-ghost use Rattle.std.specs.Prelude.{◌≡◌, ℕ, ◌+◌, ◌≤◌, Bool, IfOk, IsTrue, filter, is_some, length, nat_lt};
+ghost use Rattle.std.specs.Prelude.{◌≡◌, ℕ, ◌+◌, ◌≤◌, Bool, IfOk, IsTrue, filter, is_some, length, map, nat_lt};
 ghost use Rattle.std.specs.List.{list_all};
 ghost use Rattle.edm_values.specs.Lists.{places as all_places};
 ghost use Rattle.apply_ast.specs.Views.{hier_of, traverse_of};
@@ -7,14 +7,16 @@ ghost use Rattle.context_typing.specs.Typing.{hierarchy_at};
 ghost use Rattle.apply_meaning.specs.Running.{Gives, all_of};
 ghost use Rattle.hier_states.specs.States.{IsReadyAt};
 ghost use Rattle.step_run.specs.Costs.{result_length, walk_cost};
-ghost use Rattle.step_run.specs.Hierarchies.{climb_from, traversal};
+ghost use Rattle.step_run.specs.Hierarchies.{GivesEntities, climb_from, traversal};
+ghost use Rattle.row_frames.specs.Related.{placed};
 ghost use Rattle.row_orders.specs.Places.{GivesOrder};
 
 use crate::contexts::Context;
 use crate::selections::rows_at;
 use apply_ast::{ClimbStep, TraverseStep};
 use apply_meaning::{Row, RunRefused, Steps};
-use hier_rows::{climb_places, traverse_places};
+use edm_model::SetId;
+use hier_rows::{climb_places, climb_set, traverse_places};
 use par_stages::Gate;
 use row_values::RowList;
 use std::alloc::Global;
@@ -47,6 +49,37 @@ pub fn climbed_places<R: Threads + Sync, G: Gate>(
         climb.distance,
         climb.keep,
         rows,
+        starts,
+        context.workers(),
+    )
+}
+
+/// The places of the entities, of the first `count` of a set, whose instances a climb keeps, from the nodes of other instances on,
+/// in ascending order; none where the data does not keep the nodes of the set's entities. No list of these is made.
+pub fn climbed_in_set<R: Threads + Sync, G: Gate>(
+    alloc: Global,
+    context: &Context<'_, R, G>,
+    climb: &ClimbStep,
+    set: SetId,
+    count: u32,
+    starts: &RowList<'_>,
+) -> Result<Option<Vec<u32>>, RunRefused>
+    requires starts { IsTrue (all_of context.now.world starts.now) }
+    requires there { IsTrue (is_some (hierarchy_at context.now.world.model (hier_of climb.now.hier))) }
+    requires ready { IsReadyAt context.now.world context.now.hiers (hier_of climb.now.hier) }
+    ensures value { GivesEntities result set (climb_from context.now.world climb.now.up (hier_of climb.now.hier) climb.now.path climb.now.distance climb.now.keep (map (placed set) (all_places count)) starts.now) }
+{
+    climb_set(
+        context.rt(),
+        alloc,
+        context.store(),
+        context.nodes(&climb.hier),
+        climb.up,
+        &climb.path,
+        climb.distance,
+        climb.keep,
+        set,
+        count,
         starts,
         context.workers(),
     )

@@ -9,7 +9,8 @@
 //! frame of columns, of which no row is made. `kept_groups` runs keys whose inner pipeline only keeps some of the instances of each
 //! group, or puts them in order, on lists of places of a frame: `kept_frame` has what comes of these as a frame of the same instances.
 //! `selections` takes rows from the top and the bottom, and `selected_places` has the places of the values that one takes;
-//! `hierarchies` has climbs and traversals, and the places of the instances of a list that they take. `roots` follows the type at the
+//! `hierarchies` has climbs and traversals, and the places of the instances of a list that they take, or of the entities of a set of
+//! which no list is made. `roots` follows the type at the
 //! empty prefix from one transformation to the next, which custom aggregates are looked up by.
 //! `specs/Conditions` says when a pipeline may be run, and `specs/Costs` what it costs.
 //!
@@ -41,7 +42,9 @@ pub use aggregations::aggregated;
 pub use contexts::Context;
 pub use group_totals::{GroupTotals, as_group_totals, grouped_frame, run_group_totals};
 pub use groups::{key_rows, with_keys};
-pub use hierarchies::{climb_rows, climbed_places, traverse_rows, traversed_places};
+pub use hierarchies::{
+    climb_rows, climbed_in_set, climbed_places, traverse_rows, traversed_places,
+};
 pub use item_lists::{ItemList, aggregated_at, first_lists};
 pub use kept_groups::kept_frame;
 pub use levels::{Level, all_paths, levels_of};

@@ -9,6 +9,7 @@ use Rattle.apply_meaning.specs.Instances as instances
 use Rattle.apply_meaning.specs.MeaningLaws.{AllFit, IsLoaded}
 use Rattle.apply_meaning.proofs.MeaningProved.{loaded-mean_fits, loaded-rows}
 use Rattle.optimiser.specs.Plans.{written_of}
+use Rattle.frame_run.specs.HeldRows.{rows_of}
 use Rattle.apply_replies.proofs.replies.rows_fit.Goals as goal
 
 pub returns-clause-set : goal.returns-clause-set
@@ -20,6 +21,6 @@ returns-clause-fit c =
     let cs = readings c.args.store.now.customs in
     let t = written_of c.args.plan.now in
     let L : IsLoaded w = subst IsLoaded c.«data».ensures.value c.data_is_loaded.ensures.value in
-    subst (λ (S : Shape). AllFit w S c.args.rows.now.items) (sym c.requires.plan.shape)
-    (loaded-mean_fits w cs (shape_of_set w.model t.set) t.shape (pipe_of t.pipe) (instances.rows w t.set) c.args.rows.now.items L (rw (sym c.customs-customs.ensures.value) c.customs-customs.ensures.whole)
+    subst (λ (S : Shape). AllFit w S (rows_of c.args.held.now)) (sym c.requires.plan.shape)
+    (loaded-mean_fits w cs (shape_of_set w.model t.set) t.shape (pipe_of t.pipe) (instances.rows w t.set) (rows_of c.args.held.now) L (rw (sym c.customs-customs.ensures.value) c.customs-customs.ensures.whole)
     (own_is_lawful w.model (set_type w.model t.set)) c.requires.plan.typing (loaded-rows w t.set L c.requires.set) c.requires.mean)

@@ -5,20 +5,20 @@ use Rattle.std.proofs.lemmas.Result.{err_from_is_err_and}
 use Rattle.std.proofs.Math.ListN.{drop_of_length-le}
 use Rattle.apply_ast.specs.Trees as tree
 use Rattle.apply_ast.specs.Trees.{Pipe}
-use Rattle.apply_ast.specs.Views.{climb_of, hier_of, inner_of, pipe_of, pipes_in, step_of}
-use Rattle.apply_ast.proofs.ViewEquations.{climb_of-is, join_of-is, pipes_of-is, step_of-Climb, step_of-Concat, step_of-Join}
+use Rattle.apply_ast.specs.Views.{climb_of, expr_of, hier_of, inner_of, pipe_of, pipes_in, step_of}
+use Rattle.apply_ast.proofs.ViewEquations.{climb_of-is, join_of-is, pipes_of-is, step_of-Climb, step_of-Concat, step_of-Filter, step_of-Join}
 use Rattle.context_typing.specs.Readings.{readings}
 use Rattle.apply_meaning.specs.Meaning.{Outcome, inner_mean, joined, mean, step_mean}
 use Rattle.apply_meaning.specs.Instances.{no_instance}
 use Rattle.apply_meaning.specs.MeaningLaws.{IsLoaded}
-use Rattle.apply_meaning.proofs.MeaningEquations.{inner_mean-NoPipe, inner_mean-SomePipe, mean-End}
+use Rattle.apply_meaning.proofs.MeaningEquations.{inner_mean-NoPipe, inner_mean-SomePipe, mean-End, step_mean-Filter}
 use Rattle.apply_meaning.proofs.RunLemmas.{all-fit-of, turn, next-step}
 use Rattle.row_frames.specs.Frames.{GivesFrame}
 use Rattle.hier_states.specs.NamedHierarchies.{branch_hierarchies, hierarchies, inner_hierarchies, step_hierarchies}
 use Rattle.pipe_run.specs.SeveralRuns.{BranchesReady}
 use Rattle.step_run.specs.Conditions.{AreReady, InnerRuns, ReadyFrom, RunsFrom, StepReadyFrom, StepRunsFrom}
 use Rattle.step_run.specs.Costs.{cost, inner_cost, result_length, step_cost}
-use Rattle.frame_run.specs.HeldRows.{GivesHeld, owed, rows_of}
+use Rattle.frame_run.specs.HeldRows.{GivesHeld, first_of, owed, rows_of}
 use Rattle.frame_run.specs.declared.held.Held.{Held}
 use Rattle.edm_model.specs.Models.{Navigation}
 use Rattle.edm_values.specs.Lists.{all_some}
@@ -28,7 +28,7 @@ use Rattle.join_concat.specs.Joins.{bound_rows}
 use Rattle.pipe_run.proofs.ListsInTurn.{last-list, next-list, next-list_refused}
 use Rattle.pipe_run.proofs.RelatedLemmas.{join-run, related-least, related-turn, related_mean}
 use Rattle.frame_run.proofs.JoinLemmas.{join-refused, lists-refused, more-owed, more-rows, results-long}
-use Rattle.frame_run.proofs.HeldLemmas.{climb-inner, held-refused, owed-beside}
+use Rattle.frame_run.proofs.HeldLemmas.{climb-inner, first-long, held-refused, owed-beside, owed-least}
 use Rattle.pipe_run.proofs.ClimbLemmas.{climb-costs, climb-means, climb-of}
 use Rattle.pipe_run.proofs.ConcatLemmas.{branch-at, branch-turn, concat-run}
 use Rattle.step_run.proofs.GroupLemmas.{begun}
@@ -165,6 +165,178 @@ run_on_held-returns-in-Rows-clause-steps g t c = λ S S' R.
     let spent = c.run_step.ensures.steps S S' (subst (λ (h : Held). StepRunsFrom x c.args.root.now S S' s (rows_of h)) e R) in
     let same = ap (λ (h : Held). step_cost x.world (readings x.customs) S s (rows_of h)) e in
     omega (arith, spent, same, c.as_held.ensures.owed)
+
+-- ---- a set of which no list is made
+
+pub run_on_held-run_set-requires-clause-ready : goal.run_on_held-run_set-requires-clause-ready
+run_on_held-run_set-requires-clause-ready g t c κs within =
+    subst (λ (h : Held). StepReadyFrom c.args.context.now c.args.root.now (step_of c.args.step.now) (rows_of h)) c.in-Set.is c.requires.ready
+
+pub run_on_held-returns-in-Set-clause-mean : goal.run_on_held-returns-in-Set-clause-mean
+run_on_held-returns-in-Set-clause-mean g t c = λ S S' R.
+    let x = c.args.context.now in
+    let s = step_of c.args.step.now in
+    let e = c.in-Set.is in
+    subst (λ (h : Held). GivesHeld c.run_set.result (step_mean x.world (readings x.customs) S s (rows_of h))) (sym e)
+    (c.run_set.ensures.mean S S' (subst (λ (h : Held). StepRunsFrom x c.args.root.now S S' s (rows_of h)) e R))
+
+pub run_on_held-returns-in-Set-clause-steps : goal.run_on_held-returns-in-Set-clause-steps
+run_on_held-returns-in-Set-clause-steps g t c = λ S S' R.
+    let x = c.args.context.now in
+    let s = step_of c.args.step.now in
+    let e = c.in-Set.is in
+    let spent = c.run_set.ensures.steps S S' (subst (λ (h : Held). StepRunsFrom x c.args.root.now S S' s (rows_of h)) e R) in
+    let same = ap (λ (h : Held). step_cost x.world (readings x.customs) S s (rows_of h)) e in
+    let owes = ap owed e in
+    omega (arith, spent, same, owes)
+
+pub run_set-set_filtered-requires-after_bounds : goal.run_set-set_filtered-requires-after_bounds
+run_set-set_filtered-requires-after_bounds g t c κs within =
+    let r = c.requires.ready in all-fit-of c.args.context.now.world r.0 (first_of c.args.set c.args.n) (r.2).runs.fit
+
+pub run_set-returns-in-Filter-clause-mean : goal.run_set-returns-in-Filter-clause-mean
+run_set-returns-in-Filter-clause-mean g t c = λ S S' R.
+    let x = c.args.context.now in
+    let l = first_of c.args.set c.args.n in
+    let e = expr_of c.in-Filter.e in
+    let m = ap (λ s. step_mean x.world (readings x.customs) S s l) (ap step_of c.in-Filter.is ∙ step_of-Filter c.in-Filter.e) ∙ step_mean-Filter x.world (readings x.customs) S e l in
+    c.as_frame.ensures (step_mean x.world (readings x.customs) S (step_of c.args.step.now) l) (subst (GivesFrame c.set_filtered.result) (sym m) c.set_filtered.ensures)
+
+pub run_set-returns-in-Filter-clause-steps : goal.run_set-returns-in-Filter-clause-steps
+run_set-returns-in-Filter-clause-steps g t c = λ S S' R.
+    let x = c.args.context.now in
+    let l = first_of c.args.set c.args.n in
+    let e = expr_of c.in-Filter.e in
+    let m = ap (λ s. step_mean x.world (readings x.customs) S s l) (ap step_of c.in-Filter.is ∙ step_of-Filter c.in-Filter.e) ∙ step_mean-Filter x.world (readings x.customs) S e l in
+    let given = c.as_frame.ensures (step_mean x.world (readings x.customs) S (step_of c.args.step.now) l) (subst (GivesFrame c.set_filtered.result) (sym m) c.set_filtered.ensures) in
+    let least = owed-least x.world (readings x.customs) S (step_of c.args.step.now) l c.as_frame.result given in
+    omega (arith, least)
+
+pub run_set-run_set_climb-requires-clause-ready : goal.run_set-run_set_climb-requires-clause-ready
+run_set-run_set_climb-requires-clause-ready g t c κs within =
+    let x = c.args.context.now in
+    subst (λ s. StepReadyFrom x c.args.root.now s (first_of c.args.set c.args.n)) (ap step_of c.in-Climb.is ∙ step_of-Climb c.in-Climb.climb) c.requires.ready
+
+pub run_set-run_set_climb-requires-clause-named : goal.run_set-run_set_climb-requires-clause-named
+run_set-run_set_climb-requires-clause-named g t c κs within =
+    let x = c.args.context.now in
+    subst (λ s. AreReady x (step_hierarchies s)) (ap step_of c.in-Climb.is ∙ step_of-Climb c.in-Climb.climb) c.requires.named
+
+pub run_set-returns-in-Climb-clause-mean : goal.run_set-returns-in-Climb-clause-mean
+run_set-returns-in-Climb-clause-mean g t c = λ S S' R.
+    let x = c.args.context.now in
+    let l = first_of c.args.set c.args.n in
+    let e = ap step_of c.in-Climb.is ∙ step_of-Climb c.in-Climb.climb in
+    subst (GivesHeld c.run_set_climb.result) (sym (ap (λ s. step_mean x.world (readings x.customs) S s l) e)) (c.run_set_climb.ensures.mean S S' (subst (λ s. StepRunsFrom x c.args.root.now S S' s l) e R))
+
+pub run_set-returns-in-Climb-clause-steps : goal.run_set-returns-in-Climb-clause-steps
+run_set-returns-in-Climb-clause-steps g t c = λ S S' R.
+    let x = c.args.context.now in
+    let l = first_of c.args.set c.args.n in
+    let e = ap step_of c.in-Climb.is ∙ step_of-Climb c.in-Climb.climb in
+    let spent = c.run_set_climb.ensures.steps S S' (subst (λ s. StepRunsFrom x c.args.root.now S S' s l) e R) in
+    let whole = ap (λ s. step_cost x.world (readings x.customs) S s l) e in
+    omega (arith, spent, whole)
+
+pub run_set-run_frame-requires-clause-ready : goal.run_set-run_frame-requires-clause-ready
+run_set-run_frame-requires-clause-ready g t c κs within =
+    subst (StepReadyFrom c.args.context.now c.args.root.now (step_of c.args.step.now)) (sym c.in_ok-frame-in_default.ensures.value) c.requires.ready
+
+pub run_set-returns-in_ok-frame-in_default-clause-mean : goal.run_set-returns-in_ok-frame-in_default-clause-mean
+run_set-returns-in_ok-frame-in_default-clause-mean g t c = λ S S' R.
+    let x = c.args.context.now in
+    let s = step_of c.args.step.now in
+    let e = c.in_ok-frame-in_default.ensures.value in
+    subst (λ l. GivesHeld c.run_frame.result (step_mean x.world (readings x.customs) S s l)) e
+    (c.run_frame.ensures.mean S S' (subst (StepRunsFrom x c.args.root.now S S' s) (sym e) R))
+
+pub run_set-returns-in_ok-frame-in_default-clause-steps : goal.run_set-returns-in_ok-frame-in_default-clause-steps
+run_set-returns-in_ok-frame-in_default-clause-steps g t c = λ S S' R.
+    let x = c.args.context.now in
+    let s = step_of c.args.step.now in
+    let e = c.in_ok-frame-in_default.ensures.value in
+    let spent = c.run_frame.ensures.steps S S' (subst (StepRunsFrom x c.args.root.now S S' s) (sym e) R) in
+    let same = ap (step_cost x.world (readings x.customs) S s) e in
+    let long = ap length e ∙ first-long c.args.set c.args.n in
+    omega (arith, spent, same, long)
+
+pub run_set_climb-held_after-requires-clause-ready : goal.run_set_climb-held_after-requires-clause-ready
+run_set_climb-held_after-requires-clause-ready g t c κs within =
+    let r = c.requires.ready in
+    let u = climb-of c.args.climb.now r.2 in
+    (r.0, u.shape, u.runs)
+
+pub run_set_climb-held_after-requires-clause-named : goal.run_set_climb-held_after-requires-clause-named
+run_set_climb-held_after-requires-clause-named g t c κs within =
+    let x = c.args.context.now in
+    let k = c.args.climb.now in
+    ready-others x (hier_of k.hier) (hierarchies (pipe_of k.inner)) (subst (λ s. AreReady x (step_hierarchies s)) (climb_of-is k) c.requires.named)
+
+pub run_set_climb-set_climbed-requires-clause-of : goal.run_set_climb-set_climbed-requires-clause-of
+run_set_climb-set_climbed-requires-clause-of g t c κs within =
+    let r = c.requires.ready in all-fit-of c.args.context.now.world r.0 (first_of c.args.set c.args.n) (r.2).runs.fit
+
+pub run_set_climb-set_climbed-requires-clause-starts : goal.run_set_climb-set_climbed-requires-clause-starts
+run_set_climb-set_climbed-requires-clause-starts g t c κs within =
+    let k = c.args.climb.now in
+    let r = c.requires.ready in
+    let u = climb-of k r.2 in
+    u.starts (rows_of c.in_ok-starts.starts) (subst IsLoaded c.store.ensures.value c.data_is_loaded.ensures.value) (c.in_ok-starts.ensures.mean r.0 u.shape u.runs)
+
+pub run_set_climb-set_climbed-requires-clause-there : goal.run_set_climb-set_climbed-requires-clause-there
+run_set_climb-set_climbed-requires-clause-there g t c κs within = (climb-of c.args.climb.now c.requires.ready.2).hierarchy
+
+pub run_set_climb-set_climbed-requires-clause-ready : goal.run_set_climb-set_climbed-requires-clause-ready
+run_set_climb-set_climbed-requires-clause-ready g t c κs within =
+    let x = c.args.context.now in
+    let k = c.args.climb.now in
+    ready-first x (hier_of k.hier) (hierarchies (pipe_of k.inner)) (subst (λ s. AreReady x (step_hierarchies s)) (climb_of-is k) c.requires.named)
+
+pub run_set_climb-returns-in_err-starts-clause-mean : goal.run_set_climb-returns-in_err-starts-clause-mean
+run_set_climb-returns-in_err-starts-clause-mean g t c = λ S S' R.
+    let x = c.args.context.now in
+    let k = c.args.climb.now in
+    let l = first_of c.args.set c.args.n in
+    let u = climb-of k R in
+    let p = err_from_is_err_and c.from_residual.result c.from_residual.ensures.1 in
+    rw (p.1, p.2) (held-refused c.in_err-starts.field-0.0 (mean x.world (readings x.customs) S (pipe_of k.inner) l) (step_mean x.world (readings x.customs) S (climb_of k) l) (c.in_err-starts.ensures.mean S u.shape u.runs)
+    (λ n. climb-means x S k l ∙ u.refused n))
+
+pub run_set_climb-returns-in_err-starts-clause-steps : goal.run_set_climb-returns-in_err-starts-clause-steps
+run_set_climb-returns-in_err-starts-clause-steps g t c = λ S S' R.
+    let x = c.args.context.now in
+    let k = c.args.climb.now in
+    let l = first_of c.args.set c.args.n in
+    let u = climb-of k R in
+    let ran = c.held_after.ensures.steps S u.shape u.runs in
+    let least = u.costs in
+    let long = first-long c.args.set c.args.n in
+    let whole = climb-costs x S k l in
+    let p = err_from_is_err_and c.from_residual.result c.from_residual.ensures.1 in
+    rw p.1 (omega (arith, long, ran, least, whole))
+
+pub run_set_climb-returns-clause-mean : goal.run_set_climb-returns-clause-mean
+run_set_climb-returns-clause-mean g t c = λ S S' R.
+    let x = c.args.context.now in
+    let k = c.args.climb.now in
+    let l = first_of c.args.set c.args.n in
+    let u = climb-of k R in
+    let m = climb-means x S k l ∙ u.means (rows_of c.in_ok-starts.starts) (c.in_ok-starts.ensures.mean S u.shape u.runs) in
+    c.as_frame.ensures (step_mean x.world (readings x.customs) S (climb_of k) l) (subst (GivesFrame c.set_climbed.result) (sym m) c.set_climbed.ensures)
+
+pub run_set_climb-returns-clause-steps : goal.run_set_climb-returns-clause-steps
+run_set_climb-returns-clause-steps g t c = λ S S' R.
+    let x = c.args.context.now in
+    let k = c.args.climb.now in
+    let l = first_of c.args.set c.args.n in
+    let u = climb-of k R in
+    let m = climb-means x S k l ∙ u.means (rows_of c.in_ok-starts.starts) (c.in_ok-starts.ensures.mean S u.shape u.runs) in
+    let given = c.as_frame.ensures (step_mean x.world (readings x.customs) S (climb_of k) l) (subst (GivesFrame c.set_climbed.result) (sym m) c.set_climbed.ensures) in
+    let owes = owed-beside x.world (readings x.customs) S (climb_of k) l c.as_frame.result given in
+    let ran = c.held_after.ensures.steps S u.shape u.runs in
+    let least = climb-inner x.world (readings x.customs) S k l in
+    let long = first-long c.args.set c.args.n in
+    omega (arith, long, ran, least, owes)
 
 -- ---- a frame
 

@@ -1,68 +1,21 @@
-use Rattle.std.proofs.Common.{◌≡◌, ◌+◌, length, ◌∙◌, arith, ap, sym, subst, refl}
-use Rattle.edm_data.specs.References.{count}
-use Rattle.apply_ast.specs.Views.{pipe_of}
-use Rattle.context_typing.specs.Readings.{readings}
-use Rattle.context_typing.specs.Typing.{shape_of_set}
-use Rattle.context_typing.specs.declared.typed.Typed.{Typed}
-use Rattle.apply_meaning.specs.Instances as instances
-use Rattle.apply_meaning.specs.Meaning.{mean}
-use Rattle.apply_meaning.specs.Running.{Gives}
-use Rattle.apply_meaning.proofs.SetLemmas.{rows-length}
-use Rattle.optimiser.specs.Plans.{own_of, written_of}
-use Rattle.hier_states.specs.NamedHierarchies.{hierarchies}
-use Rattle.step_run.specs.Conditions.{AreReady}
-use Rattle.step_run.specs.Contexts.{Context}
-use Rattle.step_run.specs.Costs.{cost, total_cost}
-use Rattle.plan_run.proofs.PlanLemmas.{runs-as}
+use Rattle.std.proofs.Common.{◌∙◌, ap, sym, Some, arith}
+use Rattle.std.proofs.lemmas.Result.{err_from_is_err_and}
+use Rattle.frame_run.proofs.HeldLemmas.{held-err}
 use Rattle.plan_run.proofs.runs.run.Goals as goal
 
-pub plan_ready-requires-clause-named : goal.plan_ready-requires-clause-named
-plan_ready-requires-clause-named g c κs within =
-    subst (λ (x : Context). AreReady x (hierarchies (pipe_of (written_of c.args.plan.now).pipe))) (sym c.new-context.ensures.value) c.requires.ready
-
-pub run_held-requires-clause-named : goal.run_held-requires-clause-named
-run_held-requires-clause-named g c κs within =
-    subst (λ (t : Typed). AreReady c.new-context.result (hierarchies (pipe_of t.pipe))) (sym c.typed-typed.ensures.value) c.plan_ready.ensures.named
+pub returns-in_err-held-clause-mean : goal.returns-in_err-held-clause-mean
+returns-in_err-held-clause-mean g c =
+    let p = err_from_is_err_and c.from_residual.result c.from_residual.ensures.1 in
+    rw (p.1, p.2) (held-err c.in_err-held.field-0.0 _ _ c.in_err-held.ensures.mean (λ n. n))
 
 pub returns-clause-mean : goal.returns-clause-mean
-returns-clause-mean g c =
-    let w = c.args.store.now in
-    let cs = readings c.args.c.now in
-    let own = own_of c.args.plan.now in
-    let written = written_of c.args.plan.now in
-    let e = c.typed-typed.ensures.value in
-    let S = shape_of_set w.model own.set in
-    let l = c.in_ok-frame.frame in
-    let x = c.new-context.result in
-    let p = pipe_of c.typed-typed.result.now.pipe in
-    let runs = runs-as x (shape_of_set x.world.model own.set) own.shape own c.typed-typed.result.now l e c.plan_ready.ensures.runs in
-    let given = c.run_held.ensures.mean (shape_of_set x.world.model own.set) own.shape runs in
-    let means = subst (λ (x : Context). mean x.world (readings x.customs) (shape_of_set x.world.model own.set) (pipe_of own.pipe) (instances.rows x.world own.set)
-    ≡ mean x.world (readings x.customs) (shape_of_set x.world.model written.set) (pipe_of written.pipe) (instances.rows x.world written.set)) c.new-context.ensures.value c.plan_ready.ensures.means in
-    let same = ap (λ (t : Typed). mean w cs S (pipe_of t.pipe) l) e
-    ∙ ap (mean w cs S (pipe_of own.pipe)) (c.in_ok-frame.ensures.value ∙ ap (λ (t : Typed). instances.rows w t.set) e)
-    ∙ means in
-    subst (Gives c.run_held.result) same (subst (λ (x : Context). Gives c.run_held.result (mean x.world (readings x.customs) (shape_of_set x.world.model own.set) p l)) c.new-context.ensures.value given)
+returns-clause-mean g c = c.in_ok-held.ensures.mean ∙ ap Some (sym c.in_ok-made_rows.ensures.rows)
+
+pub returns-in_err-held-clause-steps : goal.returns-in_err-held-clause-steps
+returns-in_err-held-clause-steps g c = let ran = c.run_unmade.ensures.steps in omega (arith, ran)
+
+pub returns-in_err-made_rows-clause-steps : goal.returns-in_err-made_rows-clause-steps
+returns-in_err-made_rows-clause-steps g c = let ran = c.in_ok-held.ensures.steps in omega (arith, ran, c.made_rows.ensures.steps)
 
 pub returns-clause-steps : goal.returns-clause-steps
-returns-clause-steps g c =
-    let w = c.args.store.now in
-    let cs = readings c.args.c.now in
-    let own = own_of c.args.plan.now in
-    let e = c.typed-typed.ensures.value in
-    let S = shape_of_set w.model own.set in
-    let l = c.in_ok-frame.frame in
-    let x = c.new-context.result in
-    let p = pipe_of c.typed-typed.result.now.pipe in
-    let runs = runs-as x (shape_of_set x.world.model own.set) own.shape own c.typed-typed.result.now l e c.plan_ready.ensures.runs in
-    let spent = c.run_held.ensures.steps (shape_of_set x.world.model own.set) own.shape runs in
-    let made = ap length c.in_ok-frame.ensures.value ∙ rows-length w c.typed-typed.result.now.set in
-    let same = ap (λ (x : Context). cost x.world (readings x.customs) (shape_of_set x.world.model own.set) p l) c.new-context.ensures.value in
-    let costs = ap (λ (t : Typed). cost w cs S (pipe_of t.pipe) l) e
-    ∙ ap (cost w cs S (pipe_of own.pipe)) (c.in_ok-frame.ensures.value ∙ ap (λ (t : Typed). instances.rows w t.set) e) in
-    let counts = ap (λ (t : Typed). count w t.set) e in
-    let whole : total_cost w cs own.set (pipe_of own.pipe) ≡ count w own.set + cost w cs S (pipe_of own.pipe) (instances.rows w own.set) = refl in
-    omega (arith, spent, made, same, costs, counts, whole)
-
-pub returns-clause-grown : goal.returns-clause-grown
-returns-clause-grown g c = omega (arith, c.run_held.ensures.grown)
+returns-clause-steps g c = let ran = c.in_ok-held.ensures.steps in omega (arith, ran, c.made_rows.ensures.steps)
