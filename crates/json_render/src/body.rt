@@ -155,6 +155,22 @@ fn push_row(
     Ok(place)
 }
 
+/// The most bytes for which room is made before they are known.
+const ROOM: usize = 64 * 1024 * 1024;
+
+/// Makes room for the rows behind the first, once this is written: for as many bytes as they take where each takes as many as the
+/// first, and a quarter more. Where memory is wanting for so many, room is made as they come.
+fn make_room(body: &mut Vec<u8>, k: usize, before: usize, rows: usize)
+    ensures { body.new.items ≡ body.old.items }
+{
+    if k == 0 {
+        let first = body.len().saturating_sub(before).saturating_add(1);
+        let more = first.saturating_mul(rows.saturating_sub(1));
+        let more = more.saturating_add(more / 4).min(ROOM);
+        let _made = body.reserve(more);
+    }
+}
+
 /// Appends the rows with a comma between.
 pub(crate) fn push_rows(
     alloc: Global,
@@ -171,7 +187,9 @@ pub(crate) fn push_rows(
     let mut known = Vec::new(alloc);
     let mut last = 0;
     for k in 0..rows.len() {
+        let before = body.len();
         last = push_row(alloc, store, shape, rows, k, &mut known, last, body)?;
+        make_room(body, k, before, rows.len());
     }
     Ok(())
 }

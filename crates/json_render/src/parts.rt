@@ -65,7 +65,7 @@ fn parts_of<'a>(
     Ok(parts)
 }
 
-/// The text of each part, or what was wanting for it.
+/// The text of each part, each made by a thread of its own, or what was wanting for it.
 fn part_texts<R: Threads + Sync>(
     rt: &R,
     alloc: Global,
@@ -78,6 +78,7 @@ fn part_texts<R: Threads + Sync>(
 {
     parts
         .par_iter()
+        .with_min_len(1)
         .map(
             |part: &ShownRows<'_>| -> Result<Vec<u8>, RenderRefused>
                 requires { AllFit store.now shape.now part.now }
@@ -102,10 +103,20 @@ fn all_texts(
     Ok(found)
 }
 
+/// How many bytes the texts have, with a comma for each.
+fn bytes_of(texts: &[Vec<u8>]) -> usize {
+    let mut count = texts.len();
+    for text in texts {
+        count = count.saturating_add(text.len());
+    }
+    count
+}
+
 /// Appends texts with a comma between.
 fn push_texts(texts: Vec<Vec<u8>>, body: &mut Vec<u8>) -> Result<(), AllocError>
     ensures { OnOk result (body.new.items ≡ body.old.items ++ texts_run false texts.items) }
 {
+    body.reserve(bytes_of(texts.as_slice()))?;
     let mut later = false;
     for text in texts {
         if later {

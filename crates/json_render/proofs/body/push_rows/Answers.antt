@@ -11,7 +11,7 @@ loop-k-preserved c =
     let end = c.len-k-end.ensures in
     let within : l.k < length c.args.rows.now = omega (arith, c.loop-k-test.true, end) in
     record {
-      text = row-written c.args.store.now c.args.shape.now c.args.rows.now l.k no_instance c.args.body.now.items l.body.items c.push_row.new.body.items within c.in_ok-last.ensures.ok l.invariant.text;
+      text = c.make_room.ensures ∙ row-written c.args.store.now c.args.shape.now c.args.rows.now l.k no_instance c.args.body.now.items l.body.items c.push_row.new.body.items within c.in_ok-last.ensures.ok l.invariant.text;
       range = list_any_more has_beyond c.args.rows.now l.k no_instance within ∙ (λ j. l.invariant.range j || c.in_ok-last.ensures.in_range j);
       known = c.in_ok-last.ensures.known;
     }
