@@ -12,21 +12,21 @@ loop-row-preserved c =
     let vs = map seen_value values in
     let codes = c.args.codes.now in
     let nulls = c.loop-row.nulls.items in
-    let row = c.loop-row.row in
-    let within : row < length values = c.loop-row-test.true in
+    let at = c.loop-row.row in
+    let within : at < length values = c.loop-row-test.true in
     let item = c.index-values-row.result in
-    let read : value_in vs row ≡ seen_value item = unwrap_or-slice_get vs row Null ∙ get_or-map seen_value values row item Null within ∙ ap seen_value (sym c.index-values-row.is) in
-    let null-is : c.is_null.result ≡ is_null (value_in vs row) = c.is_null.ensures.value ∙ ap is_null (sym read) in
-    let k : ℕ = get_or c.as_slice-numbers.result.now row 0 in
-    let k-is : k ≡ get_or codes.codes row 0 = ap (λ ks. get_or ks row 0) c.as_slice-numbers.ensures.value in
+    let read : value_in vs at ≡ seen_value item = unwrap_or-slice_get vs at Null ∙ get_or-map seen_value values at item Null within ∙ ap seen_value (sym c.index-values-row.is) in
+    let null-is : c.is_null.result ≡ is_null (value_in vs at) = c.is_null.ensures.value ∙ ap is_null (sym read) in
+    let k : ℕ = get_or c.as_slice-numbers.result.now at 0 in
+    let k-is : k ≡ get_or codes.codes at 0 = ap (λ ks. get_or ks at 0) c.as_slice-numbers.ensures.value in
     let long = length-map values seen_value in
     let size = c.requires.size in
     let same = ap length c.as_slice-numbers.ensures.value in
-    let low = c.as_slice-numbers.ensures.below row 0 (omega (arith, within, long, size, same)) in
+    let low = c.as_slice-numbers.ensures.below at 0 (omega (arith, within, long, size, same)) in
     let bound = c.loop-row.invariant.size in
     record {
       size = length-set nulls k c.is_null.result ∙ bound;
       told = λ i less.
           (λ j. get_or (set nulls (k-is j) (null-is j)) (get_or codes.codes i 0) false)
-          ∙ nulls-more vs codes c.requires nulls row Null (omega (arith, within, long)) (omega (arith, low, k-is, bound)) c.loop-row.invariant.told i less;
+          ∙ nulls-more vs codes c.requires nulls at Null (omega (arith, within, long)) (omega (arith, low, k-is, bound)) c.loop-row.invariant.told i less;
     }
