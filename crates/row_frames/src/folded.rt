@@ -146,7 +146,7 @@ impl<'r, P: SeenPartial> Partial for DecsOf<'r, P> {
 }
 
 /// The integers of which each row of the only table has the one at its place.
-fn row_ints<'a>(readers: &[TableReader<'a>]) -> Option<&'a [i64]>
+pub(crate) fn row_ints<'a>(readers: &[TableReader<'a>]) -> Option<&'a [i64]>
     ensures { IfSome result (λ list. (x : Pick') → x.table < length readers.now → spec.read_at readers.now x ≡ int_of list.now x) }
 {
     let [reader] = readers else {
@@ -162,7 +162,7 @@ fn row_ints<'a>(readers: &[TableReader<'a>]) -> Option<&'a [i64]>
 }
 
 /// The decimals of which each row of the only table has the one at its place.
-fn row_decs<'a>(readers: &[TableReader<'a>]) -> Option<&'a [Dec]>
+pub(crate) fn row_decs<'a>(readers: &[TableReader<'a>]) -> Option<&'a [Dec]>
     ensures { IfSome result (λ list. (x : Pick') → x.table < length readers.now → spec.read_at readers.now x ≡ dec_of list.now x) }
 {
     let [reader] = readers else {

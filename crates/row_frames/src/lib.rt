@@ -13,7 +13,7 @@
 //! once a row, also those of navigation properties (`hops`); `lookups` finds a path's value name by name where that cannot be. A
 //! property of a set's entities, of what these refer to by one navigation property, or of the entities at a prefix, is bound to its
 //! values, so that set and column are not looked up once a row either; where each value of a property of these entities is an integer,
-//! or each a decimal, to the slice of these, which a fold goes through. What is bound is read in the rows that are picked by the thread that calls, or in
+//! or each a decimal, to the slice of these, which a fold or a list of values goes through. What is bound is read in the rows that are picked by the thread that calls, or in
 //! parts of them by threads (`seen`, `parts`), which `rayon` starts: threads read the data, the tables and what is bound, and write
 //! nothing that is shared. Where all rows are of one table, an expression with operators is worked out block by block (`blocks`):
 //! the operands in some rows first, and then the operator on these. Values of a block that are all integers, decimals or Booleans are

@@ -7,14 +7,16 @@ ghost use Rattle.edm_values.specs.Values.{seen_value};
 ghost use Rattle.rayon.specs.Lists.{chunks_of};
 ghost use Rattle.row_frames.specs.Answers.{answer_of};
 ghost use Rattle.row_frames.specs.Blocks.{block_values};
+ghost use Rattle.row_frames.specs.Folded.{dec_of, int_of};
 ghost use Rattle.row_frames.specs.Frames as spec;
 
 use crate::blocks::{has_operator, read_block, seen_of_block};
+use crate::folded::{row_decs, row_ints};
 use crate::parts::{is_one_part, part_len, whole};
-use crate::readers::{TableReader, value_of};
+use crate::readers::{TableReader, dec_at, int_at, value_of};
 use crate::tables::Pick;
 use crate::typed_blocks::Block;
-use edm_values::{Seen, Value};
+use edm_values::{Dec, Seen, Value};
 use rayon::prelude::*;
 use std::alloc::{AllocError, Global};
 use std::thread::Threads;
@@ -86,6 +88,36 @@ fn seen_in_blocks<'a>(
     Ok(found)
 }
 
+/// The integer at the place of each row that is picked.
+fn seen_ints<'a>(
+    alloc: Global,
+    list: &'a [i64],
+    picks: &[Pick],
+) -> Result<Vec<Seen<'a>>, AllocError>
+    ensures { IfOk result (λ vs. map (λ v. seen_value v) vs.items ≡ map (int_of list.now) picks.now) }
+{
+    let mut found = Vec::with_capacity(alloc, picks.len())?;
+    for pick in picks {
+        found.push(int_at(list, pick.row))?;
+    }
+    Ok(found)
+}
+
+/// The decimal at the place of each row that is picked.
+fn seen_decs<'a>(
+    alloc: Global,
+    list: &'a [Dec],
+    picks: &[Pick],
+) -> Result<Vec<Seen<'a>>, AllocError>
+    ensures { IfOk result (λ vs. map (λ v. seen_value v) vs.items ≡ map (dec_of list.now) picks.now) }
+{
+    let mut found = Vec::with_capacity(alloc, picks.len())?;
+    for pick in picks {
+        found.push(dec_at(list, pick.row))?;
+    }
+    Ok(found)
+}
+
 /// The value in each row that is picked, one after the other.
 pub(crate) fn seen_in_turn<'a>(
     alloc: Global,
@@ -97,6 +129,12 @@ pub(crate) fn seen_in_turn<'a>(
 {
     if in_blocks(readers) {
         return seen_in_blocks(alloc, readers, picks);
+    }
+    if let Some(list) = row_ints(readers) {
+        return seen_ints(alloc, list, picks);
+    }
+    if let Some(list) = row_decs(readers) {
+        return seen_decs(alloc, list, picks);
     }
     let mut found = Vec::with_capacity(alloc, picks.len())?;
     for pick in picks {
