@@ -1,6 +1,7 @@
 pub mod ClimbLemmas
 pub mod ConcatLemmas
 pub mod JoinParts
+pub mod KeyedRun
 pub mod ListsInTurn
 pub mod ReadyParts
 pub mod RelatedLemmas

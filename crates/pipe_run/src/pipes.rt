@@ -24,12 +24,19 @@ ghost use Rattle.hier_states.specs.States.{IsReadyAt};
 ghost use Rattle.pipe_run.specs.SeveralRuns.{BranchesReady, BranchesRun, GivesAll, RelatedReady, RelatedRun};
 ghost use Rattle.step_run.specs.Conditions.{AreReady, GroupReady, GroupRuns, InnerReady, InnerRuns, KeysReady, LevelsReady, LevelsRun, LimitReady, ReadyFrom, RunsFrom, ShownReady, ShownRuns, StepReadyFrom, StepRunsFrom, charge_of, is_grouping};
 ghost use Rattle.step_run.specs.Costs.{application, applications, cost, given_applications, inner_cost, keys_cost, step_cost};
+ghost use Rattle.step_run.specs.GroupTotals.{grouped_step};
 ghost use Rattle.step_run.specs.ItemLists.{AreFirstLists};
+ghost use Rattle.step_run.specs.KeyedTotals.{IsKeyedBy};
 ghost use Rattle.step_run.specs.Levels.{GivesLevels, group_made, level_lists, level_made};
+ghost use Rattle.step_run.specs.RecursiveKeys.{HasKey};
 ghost use Rattle.step_run.specs.Totals.{totals_step};
 
 use crate::copies::copy_rows;
 use crate::joins::{alias_ready, join_navigation};
+use crate::ready::{
+    branch_ready, branches_ready, group_ready, inner_ready, level_ready, related_ready,
+    selection_ready, step_ready,
+};
 use apply_ast::{
     ClimbStep, HierName, JoinStep, KeyItem, KeyList, Name, Path, Pipe, PipeList, Step, TopStep,
 };
@@ -44,131 +51,11 @@ use std::alloc::Global;
 use std::sync::ledger::Ledger;
 use std::thread::Threads;
 use step_run::{
-    Context, ItemList, Level, NodeTotals, aggregated, aggregated_at, all_paths, as_group_totals,
-    climb_rows, first_lists, key_rows, levels_of, node_levels, node_totals, root_after,
-    run_group_totals, select_rows, total_rows, traverse_rows, with_keys,
+    Context, ItemList, KeyedGroups, Level, NodeTotals, aggregated, aggregated_at, all_paths,
+    as_group_totals, climb_rows, first_lists, key_rows, keyed_fits, keyed_groups, keyed_rows,
+    levels_of, node_levels, node_totals, root_after, run_group_totals, select_rows, total_rows,
+    traverse_rows, with_keys,
 };
-
-/// The next transformation of a pipeline may be run.
-fn step_ready<R: Threads + Sync, G: Gate>(
-    context: &Context<'_, R, G>,
-    root: &Option<TypeId>,
-    steps: &[Step],
-    i: usize,
-    step: &Step,
-    rows: &Vec<Row>,
-)
-    requires within { i < length steps.now }
-    requires step { step.now ≡ get_or steps.now i step.now }
-    requires ready { ReadyFrom context.now root.now (pipe (map step_of (drop i steps.now))) rows.now.items }
-    ensures { StepReadyFrom context.now root.now (step_of step.now) rows.now.items }
-{}
-
-/// The inner pipeline of a grouping may be run on the groups of one level.
-fn level_ready<R: Threads + Sync, G: Gate>(
-    context: &Context<'_, R, G>,
-    root: &Option<TypeId>,
-    pipe: &Pipe,
-    levels: &[Level<'_>],
-    i: usize,
-    level: &Level<'_>,
-    rows: &RowList<'_>,
-)
-    requires within { i < length levels.now }
-    requires level { level.now ≡ get_or levels.now i level.now }
-    requires ready { LevelsReady context.now root.now levels.now (pipe_of pipe.now) rows.now }
-    ensures { GroupReady context.now root.now level.now (pipe_of pipe.now) rows.now }
-{}
-
-/// The inner pipeline of a grouping may be run on some of the instances.
-fn group_ready<R: Threads + Sync, G: Gate>(
-    context: &Context<'_, R, G>,
-    root: &Option<TypeId>,
-    pipe: &Pipe,
-    level: &Level<'_>,
-    rows: &RowList<'_>,
-    places: &[usize],
-)
-    requires ready { GroupReady context.now root.now level.now (pipe_of pipe.now) rows.now }
-    ensures { ReadyFrom context.now root.now (pipe_of pipe.now) (at_places rows.now places.now) }
-{}
-
-/// The rows have values that a selection can be made by.
-fn selection_ready<R: Threads + Sync, G: Gate>(
-    context: &Context<'_, R, G>,
-    root: &Option<TypeId>,
-    top: &TopStep,
-    rows: &Vec<Row>,
-)
-    requires { StepReadyFrom context.now root.now (tree.Step.TopBy (top_of top.now)) rows.now.items }
-    ensures of { IsTrue (all_of context.now.world rows.now.items) }
-    ensures limit { let t = top_of top.now in LimitReady t.limit (values context.now.world t.expr rows.now.items) }
-{
-    data_is_loaded(context.store());
-}
-
-/// Each branch of a concatenation may be run on the rows.
-fn branches_ready<R: Threads + Sync, G: Gate>(
-    context: &Context<'_, R, G>,
-    root: &Option<TypeId>,
-    branches: &PipeList,
-    rows: &[Row],
-)
-    requires { StepReadyFrom context.now root.now (tree.Step.Concat (pipes_of branches.now)) rows.now }
-    ensures { BranchesReady context.now root.now (map pipe_of (pipes_in branches.now)) rows.now }
-{}
-
-/// The next branch may be run on the rows.
-fn branch_ready<R: Threads + Sync, G: Gate>(
-    context: &Context<'_, R, G>,
-    root: &Option<TypeId>,
-    branches: &[Pipe],
-    k: usize,
-    branch: &Pipe,
-    rows: &[Row],
-)
-    requires within { k < length branches.now }
-    requires branch { branch.now ≡ get_or branches.now k branch.now }
-    requires ready { BranchesReady context.now root.now (map pipe_of branches.now) rows.now }
-    ensures { ReadyFrom context.now root.now (pipe_of branch.now) rows.now }
-{}
-
-/// The inner pipeline of a join may be run on the rows related to each row.
-fn related_ready<R: Threads + Sync, G: Gate>(
-    context: &Context<'_, R, G>,
-    root: &Option<TypeId>,
-    outer: bool,
-    nav: &Name,
-    alias: &Name,
-    inner: &Option<Pipe>,
-    rows: &[Row],
-    found: NavId,
-)
-    requires ready { StepReadyFrom context.now root.now (tree.Step.Join outer nav.now alias.now (inner_of (option_map pipe_of inner.now))) rows.now }
-    requires value { (S : Shape) → root_type S ≡ root.now → typing.join_navigation context.now.world.model S nav.now ≡ navigation_on context.now.world.model found }
-    ensures { RelatedReady context.now found (inner_of (option_map pipe_of inner.now)) rows.now }
-{
-    data_is_loaded(context.store());
-}
-
-/// The inner pipeline of a join may be run on the rows related to the next row.
-fn inner_ready<R: Threads + Sync, G: Gate>(
-    context: &Context<'_, R, G>,
-    nav: NavId,
-    target: TypeId,
-    inner: &Option<Pipe>,
-    rows: &[Row],
-    i: usize,
-    row: &Row,
-    related: &Vec<Row>,
-)
-    requires within { i < length rows.now }
-    requires row { row.now ≡ get_or rows.now i row.now }
-    requires ready { RelatedReady context.now nav (inner_of (option_map pipe_of inner.now)) rows.now }
-    requires target { option_map (λ v. v.target) (navigation_on context.now.world.model nav) ≡ Some target }
-    requires related { (v : Navigation) → navigation_on context.now.world.model nav ≡ Some v → related.now.items ≡ meaning.related_rows context.now.world v row.now }
-    ensures { InnerReady context.now (Some target) (inner_of (option_map pipe_of inner.now)) related.now.items }
-{}
 
 /// The rows that the pipeline gives, where the type at the empty prefix of these rows is `root`.
 #[cycle(run)]
@@ -354,6 +241,9 @@ pub fn run_grouping<R: Threads + Sync, G: Gate, L: Ledger>(
         if let Some(groups) = as_group_totals(step) {
             return run_group_totals(alloc, context, root, step, &groups, rows, steps);
         }
+        if let Some(keyed) = keyed_groups(alloc, context, step, rows)? {
+            return run_keyed(alloc, context, root, step, &keyed, rows, steps);
+        }
         return run_by_levels(alloc, context, root, step, rows, steps);
     };
     match step {
@@ -395,6 +285,89 @@ fn run_totals<R: Threads + Sync, G: Gate, L: Ledger>(
     data_is_loaded(context.store());
     let shown = run_shown(alloc, context, totals.hier, shown, steps)?;
     total_rows(alloc, context, root, totals, shown.as_slice(), rows, steps)
+}
+
+/// What a recursive rollup with plain keys gives on a list, where an aggregation alone is made of each group. The groups of the list by
+/// the plain keys are known.
+#[cycle(run)]
+fn run_keyed_totals<R: Threads + Sync, G: Gate, L: Ledger>(
+    alloc: Global,
+    context: &Context<'_, R, G>,
+    root: &Option<TypeId>,
+    keyed: &KeyedGroups<'_>,
+    hier: &HierName,
+    path: &Path,
+    shown: &Option<Pipe>,
+    rows: &RowList<'_>,
+    steps: &mut Steps<L>,
+) -> Result<Vec<Row>, RunRefused>
+    requires key { HasKey (tree.Key.Recursive (hier_of hier.now) path.now (inner_of (option_map pipe_of shown.now))) (keys_of keyed.now.keys.now) }
+    requires ready { StepReadyFrom context.now root.now (grouped_step (keys_of keyed.now.keys.now) (map agg_of keyed.now.items.now)) rows.now }
+    requires named { AreReady context.now (step_hierarchies (grouped_step (keys_of keyed.now.keys.now) (map agg_of keyed.now.items.now))) }
+    requires keyed { IsKeyedBy context.now.world (grouped_step (keys_of keyed.now.keys.now) (map agg_of keyed.now.items.now)) (keys_of keyed.now.keys.now) (map agg_of keyed.now.items.now) rows.now keyed.now.groups }
+    ensures mean { let s = grouped_step (keys_of keyed.now.keys.now) (map agg_of keyed.now.items.now) in
+        (S S' : Shape) → StepRunsFrom context.now root.now S S' s rows.now → Gives result (step_mean context.now.world (readings context.now.customs) S s rows.now) }
+    ensures steps { let s = grouped_step (keys_of keyed.now.keys.now) (map agg_of keyed.now.items.now) in
+        (S S' : Shape) → StepRunsFrom context.now root.now S S' s rows.now → steps.new ≤ steps.old + step_cost context.now.world (readings context.now.customs) S s rows.now }
+    ensures grown { steps.old ≤ steps.new }
+{
+    data_is_loaded(context.store());
+    let shown = run_shown(alloc, context, hier, shown, steps)?;
+    keyed_rows(
+        alloc,
+        context,
+        root,
+        keyed,
+        hier,
+        path,
+        shown.as_slice(),
+        rows,
+        steps,
+    )
+}
+
+/// What a grouping gives on a list by plain keys and a recursive rollup, where an aggregation alone is made of each group. The groups
+/// of the list by the plain keys are known. Where there are many nodes for as many keys, it is run level by level.
+#[cycle(run)]
+fn run_keyed<R: Threads + Sync, G: Gate, L: Ledger>(
+    alloc: Global,
+    context: &Context<'_, R, G>,
+    root: &Option<TypeId>,
+    step: &Step,
+    keyed: &KeyedGroups<'_>,
+    rows: &RowList<'_>,
+    steps: &mut Steps<L>,
+) -> Result<Vec<Row>, RunRefused>
+    requires grouping { IsTrue (is_grouping (step_of step.now)) }
+    requires ready { StepReadyFrom context.now root.now (step_of step.now) rows.now }
+    requires named { AreReady context.now (step_hierarchies (step_of step.now)) }
+    requires keyed { IsKeyedBy context.now.world (step_of step.now) (keys_of keyed.now.keys.now) (map agg_of keyed.now.items.now) rows.now keyed.now.groups }
+    ensures mean { (S S' : Shape) → StepRunsFrom context.now root.now S S' (step_of step.now) rows.now
+        → Gives result (step_mean context.now.world (readings context.now.customs) S (step_of step.now) rows.now) }
+    ensures steps { (S S' : Shape) → StepRunsFrom context.now root.now S S' (step_of step.now) rows.now
+        → steps.new ≤ steps.old + step_cost context.now.world (readings context.now.customs) S (step_of step.now) rows.now }
+    ensures grown { steps.old ≤ steps.new }
+{
+    match step {
+        Step::GroupBy(keys, _) => {
+            let items = keys.as_slice();
+            for key in items {
+                match key {
+                    KeyItem::Plain(_) => {}
+                    KeyItem::Rollup(..) => {}
+                    KeyItem::Recursive(hier, path, shown) => {
+                        if keyed_fits(context, hier, keyed, rows) {
+                            return run_keyed_totals(
+                                alloc, context, root, keyed, hier, path, shown, rows, steps,
+                            );
+                        }
+                    }
+                }
+            }
+            run_by_levels(alloc, context, root, step, rows, steps)
+        }
+        _ => run_by_levels(alloc, context, root, step, rows, steps),
+    }
 }
 
 /// The same, level by level.

@@ -65,7 +65,7 @@ module _ (x : Context) (h : HierName) (p : Path) (T : OptPipe) (ks : Keys) (has 
   part-is : rollup_part (group_keys ks) ≡ RollupPart.Nodes h p
   part-is = recursive-part h p T ks has ready.few
 
-  levels-are : (shown : List ℕ) (l : List Instance) → levels_on x.world ks shown l ≡ node_levels x.world f (plain_paths ks) p shown l
+  pub levels-are : (shown : List ℕ) (l : List Instance) → levels_on x.world ks shown l ≡ node_levels x.world f (plain_paths ks) p shown l
   levels-are shown l =
       ap (λ part. levels_by x.world part (plain_paths ks) shown l) part-is
       ∙ ap (λ o. elim o [ None ↦ [] | Some f ↦ node_levels x.world f (plain_paths ks) p shown l ]) at

@@ -16,6 +16,9 @@ pub mod KeptPlaces
 pub mod KeptRows
 pub mod KeptRuns
 pub mod KeptSteps
+pub mod KeyedLaws
+pub mod KeyedParts
+pub mod KeyedRows
 pub mod KeysApart
 pub mod LevelLemmas
 pub mod LevelPlaces

@@ -99,7 +99,7 @@ joined-each h o (x ∷ xs) =
 
 -- ---- the groups at or below a node
 
-keyed-last : (ks : List Path) (k : List Value) (p : Path) (v : Value) → length k ≡ length ks → keyed (ks ++ p ∷ []) (k ++ v ∷ []) ≡ keyed ks k ++ (p, v) ∷ []
+pub keyed-last : (ks : List Path) (k : List Value) (p : Path) (v : Value) → length k ≡ length ks → keyed (ks ++ p ∷ []) (k ++ v ∷ []) ≡ keyed ks k ++ (p, v) ∷ []
 keyed-last [] [] p v e = refl
 keyed-last [] (u ∷ k) p v e = cc
 keyed-last (q ∷ ks) [] p v e = cc
@@ -136,7 +136,7 @@ module _ (w : World) (f : HierarchyPlace) (ks : List Path) (p : Path) (l : List 
       go (Some y) = refl
 
   -- the groups by their keys
-  found-is : (x : ℕ) → found x ≡ map (λ k. (k, passing (is_of x k) 0 l)) (keys w ks (below x))
+  pub found-is : (x : ℕ) → found x ≡ map (λ k. (k, passing (is_of x k) 0 l)) (keys w ks (below x))
   found-is x =
       let image : Instance × ℕ → List Value × ℕ = λ y. (key_list w ks y.0, y.1) in
       let rows = filter (λ (y : Instance × ℕ). at_or_below w f p x y.0) (placed 0 l) in

@@ -69,7 +69,7 @@ all-before p (suc n) (k ∷ ks) h = let t = and_parts (p k) _ h in ap (λ b. b &
 pub part-within : (m a n : ℕ) (ks : List ℕ) → IsTrue (list_all (λ k. nat_lt k m) ks) → IsTrue (list_all (λ k. nat_lt k m) (take n (drop a ks)))
 part-within m a n ks h = all-before (λ k. nat_lt k m) n (drop a ks) (all-after (λ k. nat_lt k m) a ks h)
 
-placed-part : {X : Type 0} (l : List X) (a n : ℕ) (ks : List ℕ) → IsTrue (list_all (λ k. nat_lt k (length l)) ks) → at_places l (take n (drop a ks)) ≡ take n (drop a (at_places l ks))
+pub placed-part : {X : Type 0} (l : List X) (a n : ℕ) (ks : List ℕ) → IsTrue (list_all (λ k. nat_lt k (length l)) ks) → at_places l (take n (drop a ks)) ≡ take n (drop a (at_places l ks))
 placed-part l a n ks h = placed-take l n (drop a ks) (all-after (λ k. nat_lt k (length l)) a ks h) ∙ ap (take n) (placed-drop l a ks h)
 
 pub length-placed : {X : Type 0} (l : List X) (ks : List ℕ) → list_all (λ k. nat_lt k (length l)) ks ≡ true → length (at_places l ks) ≡ length ks

@@ -20,6 +20,7 @@ pub mod GroupTotals
 pub mod Hierarchies
 pub mod ItemLists
 pub mod KeptGroups
+pub mod KeyedTotals
 pub mod Levels
 pub mod RecursiveKeys
 pub mod Roots

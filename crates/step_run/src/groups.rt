@@ -14,7 +14,7 @@ use std::alloc::{AllocError, Global};
 use std::sync::ledger::Ledger;
 
 /// The columns of a key list.
-fn key_columns(
+pub(crate) fn key_columns(
     alloc: Global,
     paths: &[Path],
     key: &[Value],

@@ -187,7 +187,7 @@ fn all_read<'s, R: Threads + Sync, G: Gate>(
 }
 
 /// The values at these places.
-fn values_at<'s>(
+pub(crate) fn values_at<'s>(
     alloc: Global,
     values: &[Seen<'s>],
     places: &[usize],
@@ -219,7 +219,11 @@ fn own_values_at(
 }
 
 /// Of these places those at places of their list.
-fn places_at(alloc: Global, places: &[usize], chosen: &[usize]) -> Result<Vec<usize>, AllocError>
+pub(crate) fn places_at(
+    alloc: Global,
+    places: &[usize],
+    chosen: &[usize],
+) -> Result<Vec<usize>, AllocError>
     requires { IsTrue (list_all (λ k. nat_lt k (length places.now)) chosen.now) }
     ensures { IfOk result (λ found. found.items ≡ at_places places.now chosen.now) }
 {
@@ -504,7 +508,10 @@ fn empty_lists(alloc: Global, counts: &[usize]) -> Result<Vec<Vec<usize>>, Alloc
 }
 
 /// The places of each group's instances, in their order.
-fn members_of(alloc: Global, groups: &NumberedGroups) -> Result<Vec<Vec<usize>>, AllocError>
+pub(crate) fn members_of(
+    alloc: Global,
+    groups: &NumberedGroups,
+) -> Result<Vec<Vec<usize>>, AllocError>
     ensures lists { IfOk result (λ lists. map (λ v. v.items) lists.items ≡ map (places_with groups.now.numbers) (all_places (length groups.now.firsts))) }
     ensures size { IfOk result (λ lists. length lists.items ≡ length groups.now.firsts) }
 {

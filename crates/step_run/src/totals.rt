@@ -98,7 +98,7 @@ pub fn node_totals(step: &Step) -> Option<NodeTotals<'_>>
 }
 
 /// For each node the value of an item on the instances at it or below it, where these are worked out for all nodes at once.
-type NodeList<'a> = Option<NodeValues<'a>>;
+pub(crate) type NodeList<'a> = Option<NodeValues<'a>>;
 
 /// For each node the value of an item on the instances at it or below it, where it is an aggregate by a method; none where distinct
 /// values are counted of which one is past its range.
@@ -304,7 +304,7 @@ fn values_between(lists: &[ItemList], k: usize, first: usize, end: usize) -> Opt
 
 /// The columns of the items on those of the instances at these places that stand from the first on before the end. The values of
 /// the items on all of these instances are known.
-fn columns_between<R: Threads + Sync, G: Gate>(
+pub(crate) fn columns_between<R: Threads + Sync, G: Gate>(
     alloc: Global,
     context: &Context<'_, R, G>,
     root: &Option<TypeId>,

@@ -48,7 +48,7 @@ use Rattle.context_typing.specs.Typing.{hierarchy_at, plain_paths, rollup_paths}
 use Rattle.apply_meaning.specs.Instances as instances
 use Rattle.hier_rows.specs.HierRows.{AreNodesBelow, AreRootsBelow}
 use Rattle.step_run.specs.Hierarchies.{climb_from, traversal}
-use Rattle.step_run.specs.RecursiveKeys.{is_flat_key}
+use Rattle.step_run.specs.RecursiveKeys.{HasKey, is_flat_key}
 use Rattle.pipe_run.proofs.ClimbLemmas.{climb-costs, climb-means, climb-of, traverse-run}
 use Rattle.step_run.proofs.ClimbOutcomes.{found}
 use Rattle.edm_values.proofs.OptionFacts.{some_value}
@@ -58,6 +58,7 @@ use Rattle.pipe_run.proofs.ShownRun.{shown-below, shown-err, shown-rows, shown-r
 use Rattle.step_run.proofs.TotalLaws.{totals-ready}
 use Rattle.step_run.specs.Totals.{totals_step}
 use Rattle.pipe_run.proofs.TotalsRun.{found-key, hier-ready, key-named, shown-same, totals-err, totals-gives, totals-least, totals-spent}
+use Rattle.pipe_run.proofs.KeyedRun.{groups-refused, keyed-err, keyed-found, keyed-gives, keyed-hier, keyed-least, keyed-named, keyed-paths, keyed-readied, keyed-spent, same-keys}
 use Rattle.pipe_run.proofs.pipes.+run.Goals as goal
 use Rattle.pipe_run.proofs.pipes.+run.Goals.{grouping_levels-in-Plain, grouping_levels-in-Rollup}
 
@@ -1832,7 +1833,264 @@ run_totals-returns-clause-steps g t c = λ S S' R.
 pub run_totals-returns-clause-grown : goal.run_totals-returns-clause-grown
 run_totals-returns-clause-grown g t c = omega (arith, c.run_shown.ensures.grown, c.total_rows.ensures.grown)
 
+-- ---- a recursive rollup with plain keys and an aggregation alone
+
+pub run_keyed_totals-run_shown-requires-clause-there : goal.run_keyed_totals-run_shown-requires-clause-there
+run_keyed_totals-run_shown-requires-clause-there g t c κs within =
+    let x = c.args.context.now in
+    let h = hier_of c.args.hier.now in
+    let p = c.args.path.now in
+    let T = inner_of (option_map pipe_of c.args.shown.now) in
+    let ks = keys_of c.args.keyed.now.keys.now in
+    let items = map agg_of c.args.keyed.now.items.now in
+    let r = c.requires.ready in
+    let u = keyed-found x h p T ks items c.requires.key c.args.root.now r.0 r.1 c.args.rows.now r.2 in
+    ap is_some u.at
+
+pub run_keyed_totals-run_shown-requires-clause-index : goal.run_keyed_totals-run_shown-requires-clause-index
+run_keyed_totals-run_shown-requires-clause-index g t c κs within =
+    let x = c.args.context.now in
+    let h = hier_of c.args.hier.now in
+    let p = c.args.path.now in
+    let T = inner_of (option_map pipe_of c.args.shown.now) in
+    let ks = keys_of c.args.keyed.now.keys.now in
+    let items = map agg_of c.args.keyed.now.items.now in
+    keyed-hier x h p T ks items c.requires.key c.requires.named
+
+pub run_keyed_totals-keyed_rows-requires-clause-there : goal.run_keyed_totals-keyed_rows-requires-clause-there
+run_keyed_totals-keyed_rows-requires-clause-there g t c κs within =
+    let x = c.args.context.now in
+    let h = hier_of c.args.hier.now in
+    let p = c.args.path.now in
+    let T = inner_of (option_map pipe_of c.args.shown.now) in
+    let ks = keys_of c.args.keyed.now.keys.now in
+    let items = map agg_of c.args.keyed.now.items.now in
+    let r = c.requires.ready in
+    let u = keyed-found x h p T ks items c.requires.key c.args.root.now r.0 r.1 c.args.rows.now r.2 in
+    ap is_some u.at
+
+pub run_keyed_totals-keyed_rows-requires-clause-index : goal.run_keyed_totals-keyed_rows-requires-clause-index
+run_keyed_totals-keyed_rows-requires-clause-index g t c κs within =
+    let x = c.args.context.now in
+    let h = hier_of c.args.hier.now in
+    let p = c.args.path.now in
+    let T = inner_of (option_map pipe_of c.args.shown.now) in
+    let ks = keys_of c.args.keyed.now.keys.now in
+    let items = map agg_of c.args.keyed.now.items.now in
+    keyed-hier x h p T ks items c.requires.key c.requires.named
+
+pub run_keyed_totals-run_shown-requires-clause-ready : goal.run_keyed_totals-run_shown-requires-clause-ready
+run_keyed_totals-run_shown-requires-clause-ready g t c κs within =
+    let x = c.args.context.now in
+    let h = hier_of c.args.hier.now in
+    let p = c.args.path.now in
+    let T = inner_of (option_map pipe_of c.args.shown.now) in
+    let ks = keys_of c.args.keyed.now.keys.now in
+    let items = map agg_of c.args.keyed.now.items.now in
+    let r = c.requires.ready in
+    let u = keyed-found x h p T ks items c.requires.key c.args.root.now r.0 r.1 c.args.rows.now r.2 in
+    u.shown
+
+pub run_keyed_totals-run_shown-requires-clause-named : goal.run_keyed_totals-run_shown-requires-clause-named
+run_keyed_totals-run_shown-requires-clause-named g t c κs within =
+    let x = c.args.context.now in
+    let h = hier_of c.args.hier.now in
+    let p = c.args.path.now in
+    let T = inner_of (option_map pipe_of c.args.shown.now) in
+    let ks = keys_of c.args.keyed.now.keys.now in
+    let items = map agg_of c.args.keyed.now.items.now in
+    keyed-named x h p T ks items c.requires.key c.requires.named
+
+pub run_keyed_totals-returns-in_err-shown-clause-mean : goal.run_keyed_totals-returns-in_err-shown-clause-mean
+run_keyed_totals-returns-in_err-shown-clause-mean g t c = λ S S' R.
+    let x = c.args.context.now in
+    let h = hier_of c.args.hier.now in
+    let p = c.args.path.now in
+    let T = inner_of (option_map pipe_of c.args.shown.now) in
+    let ks = keys_of c.args.keyed.now.keys.now in
+    let items = map agg_of c.args.keyed.now.items.now in
+    let u = keyed-found x h p T ks items c.requires.key c.args.root.now S S' c.args.rows.now R in
+    let q = err_from_is_err_and c.from_residual.result c.from_residual.ensures.1 in
+    rw (q.1, q.2) (keyed-err x h p T ks items c.requires.key c.args.root.now S S' c.args.rows.now R u.place u.at c.in_err-shown.field-0.0 (c.in_err-shown.ensures.shown u.place u.at))
+
+pub run_keyed_totals-returns-in_err-shown-clause-steps : goal.run_keyed_totals-returns-in_err-shown-clause-steps
+run_keyed_totals-returns-in_err-shown-clause-steps g t c = λ S S' R.
+    let x = c.args.context.now in
+    let h = hier_of c.args.hier.now in
+    let p = c.args.path.now in
+    let T = inner_of (option_map pipe_of c.args.shown.now) in
+    let ks = keys_of c.args.keyed.now.keys.now in
+    let items = map agg_of c.args.keyed.now.items.now in
+    let u = keyed-found x h p T ks items c.requires.key c.args.root.now S S' c.args.rows.now R in
+    let spent = c.run_shown.ensures.steps u.place u.at in
+    let least = keyed-least x h p T ks items c.requires.key c.args.root.now S S' c.args.rows.now R u.place u.at in
+    omega (arith, spent, least)
+
+pub run_keyed_totals-returns-in_err-shown-clause-grown : goal.run_keyed_totals-returns-in_err-shown-clause-grown
+run_keyed_totals-returns-in_err-shown-clause-grown g t c = omega (arith, c.run_shown.ensures.grown)
+
+pub run_keyed_totals-keyed_rows-requires-clause-of : goal.run_keyed_totals-keyed_rows-requires-clause-of
+run_keyed_totals-keyed_rows-requires-clause-of g t c κs within =
+    let r = c.requires.ready in
+    all-fit-of c.args.context.now.world r.0 c.args.rows.now (r.2).runs.fit
+
+pub run_keyed_totals-keyed_rows-requires-clause-shown : goal.run_keyed_totals-keyed_rows-requires-clause-shown
+run_keyed_totals-keyed_rows-requires-clause-shown g t c κs within = λ f at. subst (AreNodesBelow (count c.args.context.now.world f.set)) (sym c.as_slice.ensures.value) (c.in_ok-shown.ensures.within f at)
+
+pub run_keyed_totals-keyed_rows-requires-clause-paths : goal.run_keyed_totals-keyed_rows-requires-clause-paths
+run_keyed_totals-keyed_rows-requires-clause-paths g t c κs within =
+    let x = c.args.context.now in
+    let h = hier_of c.args.hier.now in
+    let p = c.args.path.now in
+    let T = inner_of (option_map pipe_of c.args.shown.now) in
+    let ks = keys_of c.args.keyed.now.keys.now in
+    let items = map agg_of c.args.keyed.now.items.now in
+    let r = c.requires.ready in
+    keyed-paths x h p T ks items c.requires.key c.args.root.now r.0 r.1 c.args.rows.now r.2
+
+pub run_keyed_totals-keyed_rows-requires-clause-numbered : goal.run_keyed_totals-keyed_rows-requires-clause-numbered
+run_keyed_totals-keyed_rows-requires-clause-numbered g t c κs within = c.requires.keyed.numbered
+
+pub run_keyed_totals-keyed_rows-requires-clause-ready : goal.run_keyed_totals-keyed_rows-requires-clause-ready
+run_keyed_totals-keyed_rows-requires-clause-ready g t c κs within =
+    let x = c.args.context.now in
+    let h = hier_of c.args.hier.now in
+    let p = c.args.path.now in
+    let T = inner_of (option_map pipe_of c.args.shown.now) in
+    let ks = keys_of c.args.keyed.now.keys.now in
+    let items = map agg_of c.args.keyed.now.items.now in
+    let r = c.requires.ready in
+    keyed-readied x h p T ks items c.requires.key c.args.root.now r.0 r.1 c.args.rows.now r.2 (subst IsLoaded c.store.ensures.value c.data_is_loaded.ensures.value)
+
+pub run_keyed_totals-returns-clause-mean : goal.run_keyed_totals-returns-clause-mean
+run_keyed_totals-returns-clause-mean g t c = λ S S' R.
+    let x = c.args.context.now in
+    let h = hier_of c.args.hier.now in
+    let p = c.args.path.now in
+    let T = inner_of (option_map pipe_of c.args.shown.now) in
+    let ks = keys_of c.args.keyed.now.keys.now in
+    let items = map agg_of c.args.keyed.now.items.now in
+    let u = keyed-found x h p T ks items c.requires.key c.args.root.now S S' c.args.rows.now R in
+    keyed-gives x h p T ks items c.requires.key c.args.root.now S S' c.args.rows.now R u.place u.at c.as_slice.result.now (c.in_ok-shown.ensures.shown u.place u.at ∙ ap Some (sym c.as_slice.ensures.value)) c.keyed_rows.result (c.keyed_rows.ensures.rows u.place S u.at R.root_is)
+
+pub run_keyed_totals-returns-clause-steps : goal.run_keyed_totals-returns-clause-steps
+run_keyed_totals-returns-clause-steps g t c = λ S S' R.
+    let x = c.args.context.now in
+    let h = hier_of c.args.hier.now in
+    let p = c.args.path.now in
+    let T = inner_of (option_map pipe_of c.args.shown.now) in
+    let ks = keys_of c.args.keyed.now.keys.now in
+    let items = map agg_of c.args.keyed.now.items.now in
+    let u = keyed-found x h p T ks items c.requires.key c.args.root.now S S' c.args.rows.now R in
+    let chosen = c.run_shown.ensures.steps u.place u.at in
+    let made = c.keyed_rows.ensures.steps u.place S u.at R.root_is in
+    let least = keyed-spent x h p T ks items c.requires.key c.args.root.now S S' c.args.rows.now R u.place u.at c.as_slice.result.now (c.in_ok-shown.ensures.shown u.place u.at ∙ ap Some (sym c.as_slice.ensures.value)) in
+    omega (arith, chosen, made, least)
+
+pub run_keyed_totals-returns-clause-grown : goal.run_keyed_totals-returns-clause-grown
+run_keyed_totals-returns-clause-grown g t c = omega (arith, c.run_shown.ensures.grown, c.keyed_rows.ensures.grown)
+
+pub run_keyed-keyed_fits-requires-clause-there : goal.run_keyed-keyed_fits-requires-clause-there
+run_keyed-keyed_fits-requires-clause-there g t c κs within =
+    let x = c.args.context.now in
+    let h = hier_of c.in-Recursive.hier in
+    let p = c.in-Recursive.path in
+    let T = inner_of (option_map pipe_of c.in-Recursive.shown) in
+    let ks = keys_of c.args.keyed.now.keys.now in
+    let items = map agg_of c.args.keyed.now.items.now in
+    let e = c.requires.keyed.step_is in
+    let own = same-keys (keys_of c.in-GroupBy.keys) ks (inner_of (option_map pipe_of c.in-GroupBy.field-1)) (tree.OptPipe.SomePipe (Pipe.Then (tree.Step.Aggregate items) Pipe.End)) (sym (ap step_of c.in-GroupBy.is ∙ step_of-GroupBy c.in-GroupBy.keys c.in-GroupBy.field-1) ∙ e) in
+    let has = subst (HasKey (tree.Key.Recursive h p T)) own (met-key c.in-GroupBy.keys c.as_slice-items.result.now c.loop-key.key-index c.key-item.result c.as_slice-items.ensures.value c.loop-key-test.true c.key-item.is (c.loop-key.invariant).0 (ap key_of c.in-Recursive.is ∙ key_of-Recursive c.in-Recursive.hier p c.in-Recursive.shown)) in
+    let r = c.requires.ready in
+    let R = step-runs-on e refl r.2 in
+    let u = keyed-found x h p T ks items has c.args.root.now r.0 r.1 c.args.rows.now R in
+    ap is_some u.at
+
+pub run_keyed-keyed_fits-requires-clause-index : goal.run_keyed-keyed_fits-requires-clause-index
+run_keyed-keyed_fits-requires-clause-index g t c κs within =
+    let x = c.args.context.now in
+    let h = hier_of c.in-Recursive.hier in
+    let p = c.in-Recursive.path in
+    let T = inner_of (option_map pipe_of c.in-Recursive.shown) in
+    let ks = keys_of c.args.keyed.now.keys.now in
+    let items = map agg_of c.args.keyed.now.items.now in
+    let e = c.requires.keyed.step_is in
+    let own = same-keys (keys_of c.in-GroupBy.keys) ks (inner_of (option_map pipe_of c.in-GroupBy.field-1)) (tree.OptPipe.SomePipe (Pipe.Then (tree.Step.Aggregate items) Pipe.End)) (sym (ap step_of c.in-GroupBy.is ∙ step_of-GroupBy c.in-GroupBy.keys c.in-GroupBy.field-1) ∙ e) in
+    let has = subst (HasKey (tree.Key.Recursive h p T)) own (met-key c.in-GroupBy.keys c.as_slice-items.result.now c.loop-key.key-index c.key-item.result c.as_slice-items.ensures.value c.loop-key-test.true c.key-item.is (c.loop-key.invariant).0 (ap key_of c.in-Recursive.is ∙ key_of-Recursive c.in-Recursive.hier p c.in-Recursive.shown)) in
+    keyed-hier x h p T ks items has (subst (λ s. AreReady x (step_hierarchies s)) e c.requires.named)
+
+pub run_keyed-run_keyed_totals-requires-clause-key : goal.run_keyed-run_keyed_totals-requires-clause-key
+run_keyed-run_keyed_totals-requires-clause-key g t c κs within =
+    let x = c.args.context.now in
+    let h = hier_of c.in-Recursive.hier in
+    let p = c.in-Recursive.path in
+    let T = inner_of (option_map pipe_of c.in-Recursive.shown) in
+    let ks = keys_of c.args.keyed.now.keys.now in
+    let items = map agg_of c.args.keyed.now.items.now in
+    let e = c.requires.keyed.step_is in
+    let own = same-keys (keys_of c.in-GroupBy.keys) ks (inner_of (option_map pipe_of c.in-GroupBy.field-1)) (tree.OptPipe.SomePipe (Pipe.Then (tree.Step.Aggregate items) Pipe.End)) (sym (ap step_of c.in-GroupBy.is ∙ step_of-GroupBy c.in-GroupBy.keys c.in-GroupBy.field-1) ∙ e) in
+    let has = subst (HasKey (tree.Key.Recursive h p T)) own (met-key c.in-GroupBy.keys c.as_slice-items.result.now c.loop-key.key-index c.key-item.result c.as_slice-items.ensures.value c.loop-key-test.true c.key-item.is (c.loop-key.invariant).0 (ap key_of c.in-Recursive.is ∙ key_of-Recursive c.in-Recursive.hier p c.in-Recursive.shown)) in
+    has
+
+pub run_keyed-run_keyed_totals-requires-clause-ready : goal.run_keyed-run_keyed_totals-requires-clause-ready
+run_keyed-run_keyed_totals-requires-clause-ready g t c κs within =
+    let x = c.args.context.now in
+    let h = hier_of c.in-Recursive.hier in
+    let p = c.in-Recursive.path in
+    let T = inner_of (option_map pipe_of c.in-Recursive.shown) in
+    let ks = keys_of c.args.keyed.now.keys.now in
+    let items = map agg_of c.args.keyed.now.items.now in
+    let e = c.requires.keyed.step_is in
+    let own = same-keys (keys_of c.in-GroupBy.keys) ks (inner_of (option_map pipe_of c.in-GroupBy.field-1)) (tree.OptPipe.SomePipe (Pipe.Then (tree.Step.Aggregate items) Pipe.End)) (sym (ap step_of c.in-GroupBy.is ∙ step_of-GroupBy c.in-GroupBy.keys c.in-GroupBy.field-1) ∙ e) in
+    let has = subst (HasKey (tree.Key.Recursive h p T)) own (met-key c.in-GroupBy.keys c.as_slice-items.result.now c.loop-key.key-index c.key-item.result c.as_slice-items.ensures.value c.loop-key-test.true c.key-item.is (c.loop-key.invariant).0 (ap key_of c.in-Recursive.is ∙ key_of-Recursive c.in-Recursive.hier p c.in-Recursive.shown)) in
+    let r = c.requires.ready in
+    let R = step-runs-on e refl r.2 in
+    (r.0, r.1, R)
+
+pub run_keyed-run_keyed_totals-requires-clause-named : goal.run_keyed-run_keyed_totals-requires-clause-named
+run_keyed-run_keyed_totals-requires-clause-named g t c κs within =
+    subst (λ s. AreReady c.args.context.now (step_hierarchies s)) c.requires.keyed.step_is c.requires.named
+
+pub run_keyed-run_keyed_totals-requires-clause-keyed : goal.run_keyed-run_keyed_totals-requires-clause-keyed
+run_keyed-run_keyed_totals-requires-clause-keyed g t c κs within =
+    record { step_is = refl; numbered = c.requires.keyed.numbered }
+
+pub run_keyed-returns-then-keyed_fits-clause-mean : goal.run_keyed-returns-then-keyed_fits-clause-mean
+run_keyed-returns-then-keyed_fits-clause-mean g t c = λ S S' R.
+    let e = c.requires.keyed.step_is in
+    subst (Gives c.run_keyed_totals.result) (sym (step-mean-on c.args.context.now S {l = c.args.rows.now} e refl)) (c.run_keyed_totals.ensures.mean S S' (step-runs-on e refl R))
+
+pub run_keyed-returns-then-keyed_fits-clause-steps : goal.run_keyed-returns-then-keyed_fits-clause-steps
+run_keyed-returns-then-keyed_fits-clause-steps g t c = λ S S' R.
+    let e = c.requires.keyed.step_is in
+    let same = (c.loop-key.invariant).1 in
+    let spent = c.run_keyed_totals.ensures.steps S S' (step-runs-on e refl R) in
+    let whole = step-cost-on c.args.context.now S {l = c.args.rows.now} e refl in
+    omega (arith, same, spent, whole)
+
+pub run_keyed-loop-key-preserved : goal.run_keyed-loop-key-preserved
+run_keyed-loop-key-preserved g t c = (
+  λ k h. c.loop-key.invariant.0 k (next-among k c.as_slice-items.result.now c.loop-key.key-index c.key-item.result c.loop-key-test.true c.key-item.is h),
+  c.loop-key.invariant.1,
+)
+
+pub run_keyed-returns-after-loop-key-clause-steps : goal.run_keyed-returns-after-loop-key-clause-steps
+run_keyed-returns-after-loop-key-clause-steps g t c = λ S S' R.
+    let same = (c.loop-key.invariant).1 in
+    let spent = c.run_by_levels.ensures.steps S S' R in
+    omega (arith, same, spent)
+
 -- ---- either way
+
+pub run_grouping-keyed_groups-requires-clause-of : goal.run_grouping-keyed_groups-requires-clause-of
+run_grouping-keyed_groups-requires-clause-of g t c κs within =
+    let r = c.requires.ready in
+    all-fit-of c.args.context.now.world r.0 c.args.rows.now (r.2).runs.fit
+
+pub run_grouping-returns-in_err-keyed-clause-mean : goal.run_grouping-returns-in_err-keyed-clause-mean
+run_grouping-returns-in_err-keyed-clause-mean g t c = λ S S' R.
+    let q = err_from_is_err_and c.from_residual.result c.from_residual.ensures.1 in
+    rw (q.1, q.2) (groups-refused c.args.context.now (step_of c.args.step.now) c.args.rows.now c.in_err-keyed.field-0.0 c.in_err-keyed.ensures.found S)
 
 pub run_grouping-run_totals-requires-clause-ready : goal.run_grouping-run_totals-requires-clause-ready
 run_grouping-run_totals-requires-clause-ready g t c κs within =

@@ -73,3 +73,9 @@ invariant-grouping_levels-loop-key g l =
     (are_flat_keys (keys_from (map key_of l.items)) ≡ are_flat_keys (keys_from (map key_of (drop l.key-index l.items))))
     × ((k : Key) → HasKey k (keys_from (map key_of (drop l.key-index l.items))) → HasKey k (keys_from (map key_of l.items)))
     × (l.steps ≡ l.fn.steps)
+
+-- a key that is left is one of the keys, and nothing is counted
+abbrev pub invariant-run_keyed-loop-key : goal.invariant-run_keyed-loop-key
+invariant-run_keyed-loop-key g l =
+    ((k : Key) → HasKey k (keys_from (map key_of (drop l.key-index l.items))) → HasKey k (keys_from (map key_of l.items)))
+    × (l.steps ≡ l.fn.steps)

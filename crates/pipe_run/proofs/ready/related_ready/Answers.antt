@@ -3,7 +3,7 @@ use Rattle.std.specs.Prelude.{option_map}
 use Rattle.apply_ast.specs.Views.{inner_of, pipe_of}
 use Rattle.apply_meaning.specs.MeaningLaws.{IsLoaded}
 use Rattle.pipe_run.proofs.RelatedLemmas.{related-run}
-use Rattle.pipe_run.proofs.pipes.related_ready.Goals as goal
+use Rattle.pipe_run.proofs.ready.related_ready.Goals as goal
 
 pub returns : goal.returns
 returns g c = λ v h.

@@ -1,5 +1,5 @@
 use Rattle.apply_meaning.proofs.MeanLemmas.{fit-at_places}
-use Rattle.pipe_run.proofs.pipes.group_ready.Goals as goal
+use Rattle.pipe_run.proofs.ready.group_ready.Goals as goal
 
 pub returns : goal.returns
 returns g c =

@@ -1,6 +1,6 @@
 use Rattle.apply_ast.specs.Views.{pipe_of}
 use Rattle.pipe_run.proofs.ConcatLemmas.{branch-at}
-use Rattle.pipe_run.proofs.pipes.branch_ready.Goals as goal
+use Rattle.pipe_run.proofs.ready.branch_ready.Goals as goal
 
 pub returns : goal.returns
 returns g c =

@@ -3,7 +3,7 @@ use Rattle.apply_ast.specs.Trees.{pipe}
 use Rattle.apply_ast.specs.Views.{step_of}
 use Rattle.context_typing.specs.Readings.{readings}
 use Rattle.apply_meaning.proofs.RunLemmas.{turn, next-step}
-use Rattle.pipe_run.proofs.pipes.step_ready.Goals as goal
+use Rattle.pipe_run.proofs.ready.step_ready.Goals as goal
 
 pub returns : goal.returns
 returns g c =

@@ -4,7 +4,7 @@ use Rattle.apply_ast.specs.Trees.{Step}
 use Rattle.apply_ast.specs.Views.{pipe_of, pipes_in}
 use Rattle.step_run.specs.Conditions.{StepRunsFrom}
 use Rattle.pipe_run.proofs.ConcatLemmas.{branches-run}
-use Rattle.pipe_run.proofs.pipes.branches_ready.Goals as goal
+use Rattle.pipe_run.proofs.ready.branches_ready.Goals as goal
 
 pub returns : goal.returns
 returns g c =

@@ -1,5 +1,5 @@
 use Rattle.step_run.proofs.RunLevels.{slice-at}
-use Rattle.pipe_run.proofs.pipes.level_ready.Goals as goal
+use Rattle.pipe_run.proofs.ready.level_ready.Goals as goal
 
 pub returns : goal.returns
 returns g c =

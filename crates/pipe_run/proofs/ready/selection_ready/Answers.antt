@@ -4,7 +4,7 @@ use Rattle.context_typing.specs.Readings.{readings}
 use Rattle.apply_meaning.proofs.RunLemmas.{all-fit-of}
 use Rattle.apply_meaning.specs.MeaningLaws.{IsLoaded}
 use Rattle.step_run.proofs.SelectionLemmas.{limit-ready}
-use Rattle.pipe_run.proofs.pipes.selection_ready.Goals as goal
+use Rattle.pipe_run.proofs.ready.selection_ready.Goals as goal
 
 pub returns-clause-of : goal.returns-clause-of
 returns-clause-of g c =

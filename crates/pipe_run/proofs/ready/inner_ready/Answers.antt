@@ -5,7 +5,7 @@ use Rattle.edm_model.specs.Models.{Navigation}
 use Rattle.apply_ast.specs.Views.{inner_of, pipe_of}
 use Rattle.context_typing.specs.Shapes.{set_shape}
 use Rattle.pipe_run.proofs.RelatedLemmas.{related-turn}
-use Rattle.pipe_run.proofs.pipes.inner_ready.Goals as goal
+use Rattle.pipe_run.proofs.ready.inner_ready.Goals as goal
 
 pub returns : goal.returns
 returns g c =
