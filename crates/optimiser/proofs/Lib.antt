@@ -2,6 +2,7 @@ mod AnywhereLemmas
 mod ApartLemmas
 mod FactorLemmas
 mod GivenLemmas
+mod KindLemmas
 mod PlanSteps
 mod PlanTurns
 mod RestLemmas

@@ -5,6 +5,7 @@ ghost use Rattle.apply_ast.specs.Views.{inner_of, key_of, keys_of, pipe_of, pipe
 ghost use Rattle.rewrite_laws.specs.TreeEquality.{step_same};
 ghost use Rattle.walk_laws.specs.Apart as spec;
 
+use crate::kinds::kinds_apart;
 use crate::resting::is_one;
 use apply_ast::{KeyItem, KeyList, Pipe, PipeList, Step};
 use rewrite_forms::same_step;
@@ -73,7 +74,7 @@ pub(crate) fn is_loose(step: &Step) -> bool
 }
 
 /// Whether a step may go from the front of a branch.
-fn may_go(step: &Step) -> bool
+pub(crate) fn may_go(step: &Step) -> bool
     ensures { result ≡ spec.may_go (step_of step.now) }
 {
     match step {
@@ -94,7 +95,7 @@ fn may_go(step: &Step) -> bool
 }
 
 /// Whether a step that no filter passes stands before the first filter.
-fn is_closed(pipe: &Pipe) -> bool
+pub(crate) fn is_closed(pipe: &Pipe) -> bool
     ensures { result ≡ spec.is_closed (pipe_of pipe.now) }
 {
     for step in pipe.steps() {
@@ -109,7 +110,7 @@ fn is_closed(pipe: &Pipe) -> bool
 }
 
 /// The first step of a pipeline.
-fn first_step(pipe: &Pipe) -> &Step
+pub(crate) fn first_step(pipe: &Pipe) -> &Step
     ensures { spec.first_of (pipe_of pipe.now) ≡ Some (step_of result.now) }
 {
     let steps = pipe.steps();
@@ -253,7 +254,9 @@ pub(crate) fn step_apart(step: &Step) -> bool
 {
     match step {
         Step::GroupBy(keys, inner) => keys_apart(keys) && inner_apart(inner),
-        Step::Concat(branches) => begin_apart(branches) && branches_apart(branches),
+        Step::Concat(branches) => {
+            (begin_apart(branches) || kinds_apart(branches)) && branches_apart(branches)
+        }
         Step::Join(join) => inner_apart(&join.inner),
         Step::Climb(climb) => stays_apart(&climb.inner),
         Step::Identity => true,

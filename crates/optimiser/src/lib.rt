@@ -19,7 +19,8 @@
 //! all steps that come out of branches are put before their concatenations; then comes one rewrite by a later rule, and the rounds
 //! and the walk again, until no rule applies. `next_rewrite` makes one rewrite, for comparisons.
 //!
-//! `plans` has the plan, `walking` the walk, `apart` whether branches begin with different steps for good,
+//! `plans` has the plan, `walking` the walk, `apart` whether branches begin with different steps for good, `kinds` whether they begin
+//! with steps of different kinds,
 //! `given` whether filters come out of the others and stay before them, `anywhere` whether nothing but filters comes out of them,
 //! `resting` whether filters rest, `factoring` the steps that come out of branches, and `rewriting` the one rewrite. Below `walking`, `known` has what is
 //! known of the steps of a pipeline before a walk comes to them: the shapes at the ends of branches, and those behind steps that
@@ -38,6 +39,7 @@ mod heads;
 mod held;
 mod idle;
 mod inside;
+mod kinds;
 mod known;
 mod plans;
 mod putting;

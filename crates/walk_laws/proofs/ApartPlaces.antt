@@ -18,9 +18,9 @@ use Rattle.rewrite_laws.specs.TreeEquality.{step_same}
 use Rattle.rewrite_laws.proofs.EachPlace.{Respected, pipe_each}
 use Rattle.rewrite_laws.proofs.FactorRule.{begins-with}
 use Rattle.rewrite_laws.proofs.SameTrees.{Begin, rest}
-use Rattle.walk_laws.specs.Apart.{begin_apart, branches_apart, inner_apart, is_apart_from, is_closed, is_firm, is_fixed, is_loose, key_apart, keys_apart, leads_to, never_begins, some_other, stays_apart, step_apart}
+use Rattle.walk_laws.specs.Apart.{begin_apart, branches_apart, inner_apart, is_apart_from, is_closed, is_firm, is_fixed, is_held, is_loose, is_unlike, key_apart, keys_apart, kind_of, kinds_apart, leads_to, may_go, never_begins, never_first, some_never, some_other, stays_apart, step_apart}
 use Rattle.walk_laws.proofs.ApartRules.{KeepsApart}
-use Rattle.walk_laws.proofs.ApartSteps.{KeptBranches, KeptStep, KeptSteps, branch-kept, branches-kept, closed-behind, concat-apart, concat-leads, first-behind, grouping-leads, leads-behind, soft-first}
+use Rattle.walk_laws.proofs.ApartSteps.{KeptBranches, KeptStep, KeptSteps, branch-kept, branches-kept, closed-behind, concat-apart, concat-leads, first-behind, grouping-leads, held-behind, leads-behind, never-behind, orders-behind, soft-first}
 use Rattle.walk_laws.proofs.SameItself.{step-self}
 use Rattle.walk_laws.proofs.WalkPassing.{and-none}
 
@@ -40,6 +40,9 @@ with_step s s' p k = record {
   leads = λ x f l. k.leads x f l p;
   closed = λ h. k.closed p ∙ h;
   first = λ h. absurd (soft-first s p k.soft h);
+  never = λ x l h. (λ i. not (step_same x (k.kind i)) && (not (k.stays i) || never_first x p)) ∙ h;
+  orders = λ c h. k.orders p ∙ h;
+  held = λ h. (k.held p ∙ h, ap (λ x. Some x) k.kind);
   apart = λ h. let t = and_parts (step_apart s) (stays_apart p) h in and_from (step_apart s') (stays_apart p) (k.apart t.0) t.1;
 }
 
@@ -48,6 +51,9 @@ with_rest s p q k = record {
   leads = λ x f l. leads-behind x s p q (k.leads x f l);
   closed = closed-behind s p q k.closed;
   first = first-behind s p q k.closed;
+  never = λ x l. never-behind x s p q (k.never x l);
+  orders = orders-behind s p q k.orders;
+  held = λ h. (held-behind s p q k.closed k.orders h, refl);
   apart = λ h. let t = and_parts (step_apart s) (stays_apart p) h in and_from (step_apart s) (stays_apart q) t.0 (k.apart t.1);
 }
 
@@ -56,6 +62,10 @@ with_group_keys ks ks' T k = record {
   leads = λ x f l p. grouping-leads x ks ks' T T f p p;
   closed = λ p. refl;
   soft = refl;
+  kind = refl;
+  stays = refl;
+  orders = λ p. refl;
+  held = λ p. refl;
   apart = λ h. let t = and_parts (keys_apart ks) (inner_apart T) h in and_from (keys_apart ks') (inner_apart T) (k t.0) t.1;
 }
 
@@ -64,6 +74,10 @@ with_group_inner ks T T' k = record {
   leads = λ x f l p. grouping-leads x ks ks T T' f p p;
   closed = λ p. refl;
   soft = refl;
+  kind = refl;
+  stays = refl;
+  orders = λ p. refl;
+  held = λ p. refl;
   apart = λ h. let t = and_parts (keys_apart ks) (inner_apart T) h in and_from (keys_apart ks) (inner_apart T') t.0 (k t.1);
 }
 
@@ -72,6 +86,10 @@ with_branches ps qs k = record {
   leads = λ x f l p. concat-leads x ps qs f p p;
   closed = λ p. refl;
   soft = refl;
+  kind = refl;
+  stays = refl;
+  orders = λ p. refl;
+  held = λ p. refl;
   apart = concat-apart ps qs k;
 }
 
@@ -80,14 +98,14 @@ join-leads (Step.Join o n' a' U) outer n a T T' p f = cc
 join-leads x outer n a T T' p f = refl
 
 with_join : (outer : Bool) (n a : Name) (T T' : OptPipe) → KeptInner T T' → KeptStep (Step.Join outer n a T) (Step.Join outer n a T')
-with_join outer n a T T' k = record { leads = λ x f l p. join-leads x outer n a T T' p f; closed = λ p. refl; soft = refl; apart = k }
+with_join outer n a T T' k = record { leads = λ x f l p. join-leads x outer n a T T' p f; closed = λ p. refl; soft = refl; apart = k; kind = refl; stays = refl; orders = λ p. refl; held = λ p. refl }
 
 climb-leads : (x : Step) (up : Bool) (h : HierName) (p : Path) (T T' : Pipe) (d : Option ℕ) (keep : Bool) (q : Pipe) → is_firm x ≡ true → leads_to x (Pipe.Then (Step.Climb up h p T' d keep) q) ≡ leads_to x (Pipe.Then (Step.Climb up h p T d keep) q)
 climb-leads (Step.Climb up' h' p' U d' keep') up h p T T' d keep q f = cc
 climb-leads x up h p T T' d keep q f = refl
 
 with_climb : (up : Bool) (h : HierName) (p : Path) (T T' : Pipe) (d : Option ℕ) (keep : Bool) → KeptSteps T T' → KeptStep (Step.Climb up h p T d keep) (Step.Climb up h p T' d keep)
-with_climb up h p T T' d keep k = record { leads = λ x f l q. climb-leads x up h p T T' d keep q f; closed = λ q. refl; soft = refl; apart = k.apart }
+with_climb up h p T T' d keep k = record { leads = λ x f l q. climb-leads x up h p T T' d keep q f; closed = λ q. refl; soft = refl; apart = k.apart; kind = refl; stays = refl; orders = λ q. refl; held = λ q. refl }
 
 with_key : (k k' : Key) (ks : Keys) → KeptKey k k' → KeptKeys (Keys.MoreKeys k ks) (Keys.MoreKeys k' ks)
 with_key k k' ks f h = let t = and_parts (key_apart k) (keys_apart ks) h in and_from (key_apart k') (keys_apart ks) (f t.0) t.1
@@ -155,14 +173,28 @@ none-apart x (Pipes.MorePipes p ps) all h k =
     go false e q = ap (λ z. (z && (is_loose x || is_closed (Pipe.Then x q))) && some_other x all) e
     go true e q = ap (λ z. is_fixed (Pipe.Then x q) && z) (no-other x all e k) ∙ and-none (is_fixed (Pipe.Then x q)) false refl
 
+none-never : (x : Step) (ps : Pipes) → Begin x ps ≡ true → some_never (kind_of x) ps ≡ false
+none-never x Pipes.NoPipes h = refl
+none-never x (Pipes.MorePipes p ps) h =
+    let t = and_parts (is_some_and (step_same x) (slice_get (steps p) 0)) _ h in
+    let q = begins-with x p t.0 in
+    λ i. (ap (never_first (kind_of x)) q.1 ∙ ap (λ z. not z && (not (may_go x) || never_first (kind_of x) q.0)) (step-self (kind_of x))) i || none-never x ps t.1 i
+
+none-kinds : (x : Step) (ps all : Pipes) → Begin x ps ≡ true → Begin x all ≡ true → kinds_apart all ps ≡ false
+none-kinds x Pipes.NoPipes all h k = refl
+none-kinds x (Pipes.MorePipes p ps) all h k =
+    let t = and_parts (is_some_and (step_same x) (slice_get (steps p) 0)) _ h in
+    let q = begins-with x p t.0 in
+    λ i. (ap (is_unlike all) q.1 ∙ ap (λ z. is_held (Pipe.Then x q.0) && z) (none-never x all k) ∙ and-none (is_held (Pipe.Then x q.0)) false refl) i || none-kinds x ps all t.1 k i
+
 module _ (m : Model) (c : Customs) where
   pub factor-none : (S : Shape) (before : Bool) (s : Step) (ss : List Step) → step_apart s ≡ true → factor_branches m c S before s ss ≡ None
   factor-none S before (Step.Concat Pipes.NoPipes) ss h = refl
   factor-none S before (Step.Concat (Pipes.MorePipes Pipe.End ps)) ss h = refl
   factor-none S before (Step.Concat (Pipes.MorePipes (Pipe.Then x q) ps)) ss h =
       let qs = Pipes.MorePipes (Pipe.Then x q) ps in
-      let t = and_parts (begin_apart qs qs) (branches_apart qs) h in
-      let apart : Begin x qs ≡ false = no-true (Begin x qs) (λ k. true≢false (sym t.0 ∙ none-apart x qs qs k k)) in
+      let t = and_parts (begin_apart qs qs || kinds_apart qs qs) (branches_apart qs) h in
+      let apart : Begin x qs ≡ false = no-true (Begin x qs) (λ k. true≢false (sym t.0 ∙ (λ i. none-apart x qs qs k k i || none-kinds x qs qs k k i))) in
       ap (λ z. then_some (not (is_identity x) && z) (x ∷ concat (map rest (branches qs)) ∷ ss)) apart ∙ nothing (not (is_identity x)) _
     where
       no-true : (b : Bool) → (b ≡ true → ⊥) → b ≡ false
@@ -213,7 +245,7 @@ module _ (m : Model) (c : Customs) where
     step-nowhere (Step.GroupBy ks T) S h =
         let t = and_parts (keys_apart ks) (inner_apart T) h in
         λ i. map (λ ks'. Step.GroupBy ks' T) (keys-nowhere ks t.0 i) ++ map (Step.GroupBy ks) (inner-nowhere T S t.1 i)
-    step-nowhere (Step.Concat ps) S h = ap (map Step.Concat) (branches-nowhere ps S (and_parts (begin_apart ps ps) (branches_apart ps) h).1)
+    step-nowhere (Step.Concat ps) S h = ap (map Step.Concat) (branches-nowhere ps S (and_parts (begin_apart ps ps || kinds_apart ps ps) (branches_apart ps) h).1)
     step-nowhere (Step.Join outer n a T) S h = go (join_navigation m S n) (λ v. inner-nowhere T (set_shape v.target) h)
       where
         go : (o : Option Navigation) → ((v : Navigation) → inner_results factor_branches m c (set_shape v.target) T ≡ []) → ◌≡◌ {A = List Step} (elim o [ None ↦ [] | Some v ↦ map (Step.Join outer n a) (inner_results factor_branches m c (set_shape v.target) T) ]) []

@@ -16,13 +16,13 @@ use Rattle.context_typing.specs.Shapes.{Shape}
 use Rattle.context_typing.specs.Typing.{Customs, RollupPart, after, group_keys, has_kind, is_nodes, is_risky, is_sure, order_sure, rollup_part, steps_shape}
 use Rattle.context_typing.proofs.WalkFacts.{pipe-steps}
 use Rattle.rewrite_laws.specs.Rewrites.{Rule, all_but_last, behind, branches, concat, drop_identity, drop_idle, drop_order, drop_true, ended, ended_inner, ended_keys, filter_branches, filter_nodes, filter_related, grouping_quiet, is_among, is_idle, join_counts, join_quiet, movable, node_shape, on_node, over, pass_compute, pass_grouping, pass_join, pass_order, pass_outer_join, pass_traverse, passing, paths, pipe_or_identity, split_conjunction, top_count, with_paths}
-use Rattle.rewrite_laws.specs.TreeEquality.{expr_same}
+use Rattle.rewrite_laws.specs.TreeEquality.{expr_same, step_same}
 use Rattle.rewrite_laws.proofs.GroupingRules.{row_keys}
 use Rattle.rewrite_laws.proofs.NodeRule.{node_taken, node_test}
 use Rattle.rewrite_laws.proofs.RuleLemmas.{filters, movable-found, pipe-filters}
 use Rattle.rewrite_laws.proofs.StepLists.{last-split}
-use Rattle.walk_laws.specs.Apart.{inner_apart, is_closed, is_firm, is_loose, leads_to, stays_apart, step_apart}
-use Rattle.walk_laws.proofs.ApartSteps.{KeptSteps, apart-appended, apart-ended_inner, apart-ended_keys, apart-filters, apart-identity, concat-apart, concat-leads, ended-kept, grouping-leads, leads-behind, leads-filters, open-filters, open-first, soft-first}
+use Rattle.walk_laws.specs.Apart.{first_kind, inner_apart, is_closed, is_firm, is_held, is_loose, keeps_orders, kind_of, leads_to, may_go, never_first, stays_apart, step_apart}
+use Rattle.walk_laws.proofs.ApartSteps.{KeptSteps, apart-appended, apart-ended_inner, apart-ended_keys, apart-filters, apart-identity, concat-apart, concat-leads, ended-kept, grouping-leads, held-closed, leads-behind, leads-filters, never-filter, never-filters, never-identity, never-stays, open-filters, open-first, soft-first}
 
 -- what a rule makes of steps leads to the same, is closed where they are, and stays apart
 abbrev pub KeepsApart : Model → Customs → Rule → Type 0
@@ -30,8 +30,12 @@ KeepsApart m c r = (S : Shape) (before : Bool) (s : Step) (ss ss' : List Step) �
 
 -- steps whose first is not firm come to others
 kept-soft : (s : Step) (p q : Pipe) → is_firm s ≡ false → ((x : Step) → is_firm x ≡ true → leads_to x q ≡ leads_to x (Pipe.Then s p)) → (is_closed (Pipe.Then s p) ≡ true → is_closed q ≡ true) → (stays_apart (Pipe.Then s p) ≡ true → stays_apart q ≡ true)
-    → KeptSteps (Pipe.Then s p) q
-kept-soft s p q e leads closed apart = record {
+    → ((x : Step) → is_loose x ≡ false → never_first x (Pipe.Then s p) ≡ true → never_first x q ≡ true) → (is_closed (Pipe.Then s p) ≡ true → keeps_orders (Pipe.Then s p) ≡ true → keeps_orders q ≡ true)
+    → (is_held (Pipe.Then s p) ≡ true → (is_held q ≡ true) × (first_kind q ≡ first_kind (Pipe.Then s p))) → KeptSteps (Pipe.Then s p) q
+kept-soft s p q e leads closed apart never orders held = record {
+  never = never;
+  orders = orders;
+  held = held;
   leads = λ x f l. leads x f;
   closed = closed;
   first = λ h. absurd (soft-first s p e h);
@@ -61,14 +65,20 @@ passing-kept m T test x ss ss' o got =
       closed = λ h. absurd (true≢false (sym h ∙ shut));
       first = λ h. absurd (open-first x was o.tight shut h);
       apart = λ h. ap (λ z. step_apart x && z) (apart-filters es p ∙ sym (apart-filters es (Pipe.Then (Step.Filter b) p))) ∙ h;
+      never = λ y l h.
+          never-filter y b (Pipe.Then x (filters es p)) l
+          ∙ ap (λ z. not (step_same y (kind_of x)) && (not (may_go x) || z)) (never-filters y es p l ∙ sym (never-filters y es (Pipe.Then (Step.Filter b) p) l ∙ never-filter y b p l)) ∙ h;
+      orders = λ c h. absurd (true≢false (sym c ∙ shut));
+      held = λ h. absurd (true≢false (sym (held-closed x was h) ∙ shut));
     }))
 
 -- a filter that goes in
 taking-kept : (m : Model) (T : Shape) (test : Expr → Bool) (x : Step) (into : Expr → Step) (ss ss' : List Step) → is_firm x ≡ false → option_map (λ r. behind (into r.last) r) (find (λ r. test r.last) (movable m T ss)) ≡ Some ss'
     → ((y : Step) (b : Expr) (p q : Pipe) → is_firm y ≡ true → leads_to y (Pipe.Then (into b) q) ≡ leads_to y (Pipe.Then x p))
     → ((es : List Expr) (b : Expr) (p : Pipe) → is_closed (Pipe.Then x (filters es (Pipe.Then (Step.Filter b) p))) ≡ true → is_closed (Pipe.Then (into b) (filters es p)) ≡ true)
-    → ((b : Expr) → step_apart x ≡ true → step_apart (into b) ≡ true) → KeptSteps (pipe (x ∷ ss)) (pipe ss')
-taking-kept m T test x into ss ss' soft got same closed inside =
+    → ((b : Expr) → step_apart x ≡ true → step_apart (into b) ≡ true) → may_go x ≡ false → ((b : Expr) → (may_go (into b) ≡ false) × (kind_of (into b) ≡ kind_of x) × ((p : Pipe) → keeps_orders (Pipe.Then (into b) p) ≡ true))
+    → ((es : List Expr) (b : Expr) (p : Pipe) → is_held (Pipe.Then x (filters es (Pipe.Then (Step.Filter b) p))) ≡ true → ⊥) → KeptSteps (pipe (x ∷ ss)) (pipe ss')
+taking-kept m T test x into ss ss' soft got same closed inside stays kinds unheld =
     let t = mapped (λ r. behind (into r.last) r) (find (λ r. test r.last) (movable m T ss)) ss' got in
     let r = movable-found m T test ss t.0 t.1 in
     let es = (t.0).between in
@@ -82,7 +92,10 @@ taking-kept m T test x into ss ss' soft got same closed inside =
     (kept-soft x was (Pipe.Then (into b) (filters es p)) soft (λ y f. same y b was (filters es p) f) (closed es b p)
     (λ h.
     let u = and_parts (step_apart x) (stays_apart was) h in
-    and_from (step_apart (into b)) (stays_apart (filters es p)) (inside b u.0) (apart-filters es p ∙ sym (apart-filters es (Pipe.Then (Step.Filter b) p)) ∙ u.1))))
+    and_from (step_apart (into b)) (stays_apart (filters es p)) (inside b u.0) (apart-filters es p ∙ sym (apart-filters es (Pipe.Then (Step.Filter b) p)) ∙ u.1))
+    (λ y l h. never-stays y (into b) (filters es p) (kinds b).0 ∙ ap (λ z. not (step_same y z)) (kinds b).1 ∙ sym (never-stays y x was stays) ∙ h)
+    (λ c h. (kinds b).2 (filters es p))
+    (λ h. absurd (unheld es b p h))))
 
 -- a step that filters may pass does not close what is behind
 never-closed : (x : Step) → ((p : Pipe) → is_closed (Pipe.Then x p) ≡ is_closed p) → (es : List Expr) (b : Expr) (p : Pipe) → is_closed (Pipe.Then x (filters es (Pipe.Then (Step.Filter b) p))) ≡ true → ⊥
@@ -94,7 +107,7 @@ module _ (m : Model) (c : Customs) where
   pub identity-apart : KeepsApart m c drop_identity
   identity-apart S before Step.Identity ss ss' e =
       subst (λ l. KeptSteps (Pipe.Then Step.Identity (pipe ss)) (pipe l)) (then_some-parts (before || is_nonempty ss) ss ss' e).1
-      (kept-soft Step.Identity (pipe ss) (pipe ss) refl (λ x f. refl) (λ h. cc) (λ h. h))
+      (kept-soft Step.Identity (pipe ss) (pipe ss) refl (λ x f. refl) (λ h. cc) (λ h. h) (λ x l h. sym (never-identity x (pipe ss) l) ∙ h) (λ c h. cc) (λ h. cc))
   identity-apart S before s ss ss' e = none_or ss' e
 
   pub split-apart : KeepsApart m c split_conjunction
@@ -102,14 +115,16 @@ module _ (m : Model) (c : Customs) where
       let x = Step.Filter (Expr.Binary BinOp.And a b) in
       let made = Step.Filter a ∷ Step.Filter b ∷ ss in
       subst (λ l. KeptSteps (Pipe.Then x (pipe ss)) (pipe l)) (then_some-parts (is_sure m S b) made ss' e).1
-      (kept-soft x (pipe ss) (pipe made) refl (λ y f. refl) (λ h. h) (λ h. h))
+      (kept-soft x (pipe ss) (pipe made) refl (λ y f. refl) (λ h. h) (λ h. h)
+      (λ y l h. never-filter y a (Pipe.Then (Step.Filter b) (pipe ss)) l ∙ never-filter y b (pipe ss) l ∙ sym (never-filter y (Expr.Binary BinOp.And a b) (pipe ss) l) ∙ h) (λ c h. cc) (λ h. cc))
   split-apart S before s ss ss' e = none_or ss' e
 
   pub true-apart : KeepsApart m c drop_true
   true-apart S before (Step.Filter (Expr.Bool' true)) ss ss' e =
       let x = Step.Filter (Expr.Bool' true) in
       subst (λ l. KeptSteps (Pipe.Then x (pipe ss)) (pipe l)) (some_value e)
-      (kept-soft x (pipe ss) (Pipe.Then Step.Identity (pipe ss)) refl (λ y f. refl) (λ h. h) (λ h. h))
+      (kept-soft x (pipe ss) (Pipe.Then Step.Identity (pipe ss)) refl (λ y f. refl) (λ h. h) (λ h. h)
+      (λ y l h. never-identity y (pipe ss) l ∙ sym (never-filter y (Expr.Bool' true) (pipe ss) l) ∙ h) (λ c h. cc) (λ h. cc))
   true-apart S before s ss ss' e = none_or ss' e
 
   pub compute-apart : KeepsApart m c pass_compute
@@ -132,7 +147,7 @@ module _ (m : Model) (c : Customs) where
       let x = Step.Concat ps in
       let into : Expr → Step = λ b. concat (map (λ p. ended p (Step.Filter b)) (branches ps)) in
       taking-kept m (after m c S x) (λ b. list_all (λ p. is_some_and (λ S'. has_kind is_boolean_kind m S' b) (steps_shape m c S p)) (branches ps)) x into ss ss' refl e
-      (λ y b p q f. concat-leads y ps _ f p q) (λ es b p h. refl) (λ b. concat-apart ps _ (ended-kept ps b))
+      (λ y b p q f. concat-leads y ps _ f p q) (λ es b p h. refl) (λ b. concat-apart ps _ (ended-kept ps b)) refl (λ b. (refl, refl, λ p. refl)) (λ es b p h. true≢false (sym h))
   branches-apart S before s ss ss' e = none_or ss' e
 
   pub join-apart : KeepsApart m c pass_join
@@ -153,6 +168,7 @@ module _ (m : Model) (c : Customs) where
       (λ y b p q f. no-join y false n a (ended_inner T (Step.Filter (with_paths (drop 1) b))) q f ∙ sym (no-join y false n a T p f))
       (λ es b p h. absurd (never-closed x (λ p. refl) es b p h))
       (λ b h. apart-ended_inner T (with_paths (drop 1) b) ∙ h)
+      refl (λ b. (refl, refl, λ p. refl)) (λ es b p h. never-closed x (λ p. refl) es b p (held-closed x (filters es (Pipe.Then (Step.Filter b) p)) h))
   related-apart S before s ss ss' e = none_or ss' e
 
   pub outer_join-apart : KeepsApart m c pass_outer_join
@@ -166,7 +182,8 @@ module _ (m : Model) (c : Customs) where
   aggregate-apart S before (Step.OrderBy items) (Step.Aggregate as' ∷ ss) ss' e =
       let made = Step.Aggregate as' ∷ ss in
       subst (λ l. KeptSteps (Pipe.Then (Step.OrderBy items) (pipe made)) (pipe l)) (then_some-parts (order_sure m S items) made ss' e).1
-      (kept-soft (Step.OrderBy items) (pipe made) (pipe made) refl (λ x f. refl) (λ h. refl) (λ h. h))
+      (kept-soft (Step.OrderBy items) (pipe made) (pipe made) refl (λ x f. refl) (λ h. refl) (λ h. h)
+      (λ x l h. (and_parts (not (step_same x (Step.OrderBy items))) (never_first x (pipe made)) h).1) (λ c h. cc) (λ h. cc))
   aggregate-apart S before s ss ss' e = none_or ss' e
 
   no-count : (x : Step) (t : TopStep) (p : Pipe) → is_firm x ≡ true → leads_to x (Pipe.Then (Step.TopBy t) p) ≡ false
@@ -180,7 +197,7 @@ module _ (m : Model) (c : Customs) where
       let both = record t { limit = Limit.Count (min a.0 b.0) } in
       subst (λ l. KeptSteps (Pipe.Then (Step.TopBy t) (Pipe.Then (Step.TopBy u) (pipe ss))) (pipe l)) (then_some-parts (expr_same t.expr u.expr) (Step.TopBy both ∷ ss) ss' b.2).1
       (kept-soft (Step.TopBy t) (Pipe.Then (Step.TopBy u) (pipe ss)) (Pipe.Then (Step.TopBy both) (pipe ss)) refl
-      (λ x f. no-count x both (pipe ss) f ∙ sym (no-count x t (Pipe.Then (Step.TopBy u) (pipe ss)) f)) (λ h. refl) (λ h. h))
+      (λ x f. no-count x both (pipe ss) f ∙ sym (no-count x t (Pipe.Then (Step.TopBy u) (pipe ss)) f)) (λ h. refl) (λ h. h) (λ x l h. h) (λ c h. refl) (λ h. (refl, refl)))
   count-apart S before s ss ss' e = none_or ss' e
 
   pub traverse-apart : KeepsApart m c pass_traverse
@@ -196,6 +213,7 @@ module _ (m : Model) (c : Customs) where
       (λ y b p r f. grouping-leads y ks (ended_keys (Step.Filter (on_node (N.0).1 b)) ks) T T f p r)
       (λ es b p h. absurd (never-closed x (λ p. refl) es b p h))
       (λ b h. ap (λ z. z && inner_apart T) (apart-ended_keys ks (on_node (N.0).1 b)) ∙ h)
+      refl (λ b. (refl, refl, λ p. refl)) (λ es b p h. never-closed x (λ p. refl) es b p (held-closed x (filters es (Pipe.Then (Step.Filter b) p)) h))
   nodes-apart S before s ss ss' e = none_or ss' e
 
   no-climb : (x : Step) (up : Bool) (h : HierName) (p : Path) (T : Pipe) (d : Option ℕ) (keep : Bool) (q : Pipe) → is_firm x ≡ true → leads_to x (Pipe.Then (Step.Climb up h p T d keep) q) ≡ false
@@ -215,5 +233,5 @@ module _ (m : Model) (c : Customs) where
       (λ u.
       let z = and_parts (stays_apart T) (stays_apart (pipe ss)) u in
       let rest = (and_parts (stays_apart (pipe (all_but_last T))) _ (sym (ap stays_apart whole ∙ apart-appended (all_but_last T) (t.0 ∷ [])) ∙ z.0)).0 in
-      and_from (stays_apart (pipe_or_identity (all_but_last T))) (stays_apart (pipe ss)) (apart-identity (all_but_last T) ∙ rest) z.1))
+      and_from (stays_apart (pipe_or_identity (all_but_last T))) (stays_apart (pipe ss)) (apart-identity (all_but_last T) ∙ rest) z.1) (λ x l h. h) (λ c h. refl) (λ h. (refl, refl)))
   idle-apart S before s ss ss' e = none_or ss' e

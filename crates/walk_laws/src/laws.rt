@@ -7,7 +7,8 @@ pub fn walk_is_plan()
     ensures law { WalkIsPlan }
 {}
 
-/// So is a typed pipeline two of whose branches in each concatenation begin with different steps for good.
+/// So is a typed pipeline two of whose branches in each concatenation begin with different steps for good, or with steps of different
+/// kinds.
 pub fn apart_walk_is_plan()
     ensures law { ApartWalkIsPlan }
 {}

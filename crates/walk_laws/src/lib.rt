@@ -5,8 +5,8 @@
 //! far as the rules let it, or into a step. A walk has all rules but the ninth, or the first eight. `specs/Factored` defines pipelines
 //! whose filters rest, so that none of the first eight rules moves one, and the steps that come out of all their concatenations at
 //! once.
-//! `specs/Apart` defines pipelines in whose concatenations two branches begin with different steps for good, and `specs/FiltersOut`
-//! those out of whose other concatenations nothing but filters comes, anywhere or where these stay before them. `specs/WalkLaws` has
+//! `specs/Apart` defines pipelines in whose concatenations two branches begin with different steps for good, or with steps of different
+//! kinds, and `specs/FiltersOut` those out of whose other concatenations nothing but filters comes, anywhere or where these stay before them. `specs/WalkLaws` has
 //! the laws as statements, and `laws` a function for each.
 //!
 //! The crate stands on `rewrite_laws` for the rules and for what a plan is, and has no code but its laws. It promises that the walk
