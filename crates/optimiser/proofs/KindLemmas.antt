@@ -1,5 +1,5 @@
 -- Whether branches begin with steps of different kinds for good, step by step and branch by branch.
-use Rattle.std.proofs.Common.{◌≡◌, refl, sym, ◌∙◌, ap, Bool, true, false, not, ◌&&◌, ◌||◌, None, Some, if◌then◌else◌}
+use Rattle.std.proofs.Common.{◌≡◌, refl, sym, ◌∙◌, ap, Bool, true, false, not, ◌&&◌, ◌||◌, Some, if◌then◌else◌}
 use Rattle.edm_values.proofs.OptionFacts.{none_or, some_value}
 use Rattle.apply_ast.specs.Trees.{Keys, OptPipe, Pipe, Pipes, Step}
 use Rattle.rewrite_laws.specs.TreeEquality.{step_same}

@@ -3,10 +3,12 @@ mod ApartLemmas
 mod FactorLemmas
 mod GivenLemmas
 mod KindLemmas
+mod LastingLemmas
 mod PlanSteps
 mod PlanTurns
 mod RestLemmas
 mod SamePipes
+mod WithinLemmas
 pub mod HeadLemmas
 pub mod HeldLists
 pub mod IdleLemmas

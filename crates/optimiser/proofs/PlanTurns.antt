@@ -18,11 +18,11 @@ use Rattle.rewrite_laws.specs.RewriteLaws.{IsTypedFrom, MayStandFor}
 use Rattle.rewrite_laws.specs.Rewrites.{IsPlanOf, Rule, first_rewrite, next, rewritten}
 use Rattle.rewrite_laws.proofs.PlanEnds.{plan_of_next, plan_of_settled, rewrites_left, rewrites_left-next}
 use Rattle.walk_laws.specs.Apart.{stays_apart}
-use Rattle.walk_laws.specs.Factored.{factored, pipe_rests}
+use Rattle.walk_laws.specs.Factored.{factored, factored_inside, pipe_rests}
 use Rattle.walk_laws.specs.FiltersOut.{gives_anywhere, gives_at_front}
 use Rattle.walk_laws.specs.Walks.{All, Early, rules_of, walk}
 use Rattle.walk_laws.specs.WalkLaws.{ApartWalkIsPlan, EarlyWalkIsPlan, EarlyWalkKeepsMeaning, FactoringIsRewriting, FactoringKeepsPlan, GivenWalkIsPlan, IsFactored, IsRound, LaterRulesFollow, UnfactoredIsSettled, next_by, rewritten_by}
-use Rattle.optimiser.specs.Plans.{HasPlanOf, IsBegun, IsFirstOf, IsGiven, IsRounded, IsTurn, IsTurned, IsTypedPlan, IsWalked, IsWithFactored, later_rules}
+use Rattle.optimiser.specs.Plans.{HasPlanOf, IsBegun, IsFirstOf, IsGiven, IsRounded, IsTurn, IsTurned, IsTypedPlan, IsWalked, IsWithFactored, IsWithFactoredInside, later_rules}
 use Rattle.optimiser.proofs.PlanSteps.{found-append, typing-kept}
 
 module _ (m : Model) (c : Customs) where
@@ -207,17 +207,17 @@ module _ (m : Model) (c : Customs) where
 
   module _ (t : Typed) (customs : IsTrue (customs_typed m c)) (typing : IsTyping m c t) (gives : IsTrue (gives_anywhere (pipe_of t.pipe))) where
     -- the walk by all rules, and the filters that come out then
-    pub factor-round : FactoringKeepsPlan → (q r : Typed) → IsWalked All m c t q → IsWithFactored q r → HasPlanOf m c t r
+    pub factor-round : FactoringKeepsPlan → (q r : Typed) → IsWalked All m c t q → IsWithFactoredInside q r → HasPlanOf m c t r
     factor-round law q r w f =
         let S = shape_of_set m t.set in
-        round-plan t r (factored (walk All m c S (pipe_of t.pipe))) (f.set ∙ w.set) (f.shape ∙ w.shape) (f.pipe ∙ ap factored w.pipe) (law m c S t.shape (pipe_of t.pipe) (typed-from t customs typing) gives)
+        round-plan t r (factored_inside (walk All m c S (pipe_of t.pipe))) (f.set ∙ w.set) (f.shape ∙ w.shape) (f.pipe ∙ ap factored_inside w.pipe) (law m c S t.shape (pipe_of t.pipe) (typed-from t customs typing) gives)
 
     -- where none came out, no rule applies
-    pub round-end : UnfactoredIsSettled → (q r : Typed) → IsWalked All m c t q → IsWithFactored q r → pipe_of r.pipe ≡ pipe_of q.pipe → next m c (shape_of_set m r.set) (pipe_of r.pipe) ≡ None
+    pub round-end : UnfactoredIsSettled → (q r : Typed) → IsWalked All m c t q → IsWithFactoredInside q r → pipe_of r.pipe ≡ pipe_of q.pipe → next m c (shape_of_set m r.set) (pipe_of r.pipe) ≡ None
     round-end law q r w f same =
         let S = shape_of_set m t.set in
         let v = walk All m c S (pipe_of t.pipe) in
-        let e : factored v ≡ v = sym (ap factored w.pipe) ∙ sym f.pipe ∙ same ∙ w.pipe in
+        let e : factored_inside v ≡ v = sym (ap factored_inside w.pipe) ∙ sym f.pipe ∙ same ∙ w.pipe in
         (λ i. next m c (shape_of_set m ((f.set ∙ w.set) i)) ((same ∙ w.pipe) i)) ∙ law m c S t.shape (pipe_of t.pipe) (typed-from t customs typing) gives e
 
   -- it is not known whether a rule applies

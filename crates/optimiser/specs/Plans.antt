@@ -8,7 +8,7 @@ use Rattle.context_typing.specs.Answers.{IsTyping}
 use Rattle.context_typing.specs.Typing.{Customs, shape_of_set}
 use Rattle.context_typing.specs.declared.typed.Typed.{Typed}
 use Rattle.rewrite_laws.specs.Rewrites.{Rule, IsPlanOf, first_rewrite, next, rewritten, rules}
-use Rattle.walk_laws.specs.Factored.{factored}
+use Rattle.walk_laws.specs.Factored.{factored, factored_inside}
 use Rattle.walk_laws.specs.Walks.{Rules, All, Early, rules_of, walk}
 use Rattle.optimiser.specs.declared.plans.Plan.{Plan}
 
@@ -61,6 +61,12 @@ pub record IsWithFactored (t q : Typed) : Type 0 where
   pub set : q.set ≡ t.set
   pub shape : q.shape ≡ t.shape
   pub pipe : pipe_of q.pipe ≡ factored (pipe_of t.pipe)
+
+-- the same, in joins, groupings and climbs too
+pub record IsWithFactoredInside (t q : Typed) : Type 0 where
+  pub set : q.set ≡ t.set
+  pub shape : q.shape ≡ t.shape
+  pub pipe : pipe_of q.pipe ≡ factored_inside (pipe_of t.pipe)
 
 -- a typed pipeline settled in one walk by all rules, with the steps that come out of branches then, with its set and its shape
 pub record IsGiven (m : Model) (c : Customs) (t q : Typed) : Type 0 where

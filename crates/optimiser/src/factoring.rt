@@ -109,7 +109,11 @@ fn put_none(made: &mut Vec<Step>, alloc: Global) -> Result<(), AllocError>
 }
 
 /// Puts the steps with which all branches begin behind others, and the concatenation of what is left.
-fn put_concat(made: &mut Vec<Step>, alloc: Global, lists: &[Vec<Step>]) -> Result<(), AllocError>
+pub(crate) fn put_concat(
+    made: &mut Vec<Step>,
+    alloc: Global,
+    lists: &[Vec<Step>],
+) -> Result<(), AllocError>
     ensures { OnOk result (map step_of made.new.items ≡ map step_of made.old.items ++ spec.before_concat (form.lists_of lists.now)) }
 {
     match lists.split_first() {

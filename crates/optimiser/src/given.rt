@@ -5,6 +5,7 @@ ghost use Rattle.walk_laws.specs.Apart as other;
 ghost use Rattle.walk_laws.specs.FiltersOut as spec;
 
 use crate::apart::{branches_apart, is_firm, is_loose, leads_to, step_apart};
+use crate::lasting::gives_no_other;
 use apply_ast::{Pipe, PipeList, Step};
 
 /// Whether no filter passes a step, nor goes into it.
@@ -29,7 +30,7 @@ fn is_stop(step: &Step) -> bool
 }
 
 /// The first step but filters and `identity`.
-fn front_of(pipe: &Pipe) -> Option<&Step>
+pub(crate) fn front_of(pipe: &Pipe) -> Option<&Step>
     ensures { option_map (λ s. step_of s.now) result ≡ spec.front_of (pipe_of pipe.now) }
 {
     for step in pipe.steps() {
@@ -79,7 +80,7 @@ fn gives_filters(step: &Step) -> bool
     ensures { result ≡ spec.gives_filters (step_of step.now) }
 {
     match step {
-        Step::Concat(branches) => some_own(branches) && branches_apart(branches),
+        Step::Concat(branches) => gives_no_other(branches) && branches_apart(branches),
         Step::Identity => false,
         Step::Filter(_) => false,
         Step::Compute(_) => false,

@@ -12,7 +12,7 @@ use apply_ast::{Name, Pipe, PipeList, Step, TopStep};
 use rewrite_forms::{same_expr, same_step};
 
 /// Whether a step is neither dropped nor moved, unless it is an order, and no other comes out of it.
-fn is_solid(step: &Step) -> bool
+pub(crate) fn is_solid(step: &Step) -> bool
     ensures { result ≡ spec.is_solid (step_of step.now) }
 {
     match step {
@@ -43,7 +43,7 @@ fn is_ordering(step: &Step) -> bool
 }
 
 /// Whether a step is an aggregation.
-fn is_aggregate(step: &Step) -> bool
+pub(crate) fn is_aggregate(step: &Step) -> bool
     ensures { result ≡ spec.is_aggregate (step_of step.now) }
 {
     match step {
@@ -167,7 +167,7 @@ fn never_first(step: &Step, pipe: &Pipe) -> bool
 }
 
 /// Whether one of some branches never does.
-fn some_never(step: &Step, branches: &PipeList) -> bool
+pub(crate) fn some_never(step: &Step, branches: &PipeList) -> bool
     ensures { result ≡ spec.some_never (spec.kind_of (step_of step.now)) (pipes_of branches.now) }
 {
     for branch in branches.as_slice() {

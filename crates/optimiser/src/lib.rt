@@ -19,15 +19,15 @@
 //! all steps that come out of branches are put before their concatenations; then comes one rewrite by a later rule, and the rounds
 //! and the walk again, until no rule applies. `next_rewrite` makes one rewrite, for comparisons.
 //!
-//! `plans` has the plan, `walking` the walk, `apart` whether branches begin with different steps for good, `kinds` whether they begin
-//! with steps of different kinds,
-//! `given` whether filters come out of the others and stay before them, `anywhere` whether nothing but filters comes out of them,
-//! `resting` whether filters rest, `factoring` the steps that come out of branches, and `rewriting` the one rewrite. Below `walking`, `known` has what is
-//! known of the steps of a pipeline before a walk comes to them: the shapes at the ends of branches, and those behind steps that
-//! hold pipelines, so that no branch is typed again. `held` has the segments of a walk, a step with the filters behind it;
-//! `heads` says which filters pass a step and which go into it; `idle` drops steps that are idle at the end; `putting` puts
-//! filters, `stepping` the steps of a pipeline, and `ends` the filters that have gone to its end. `rules` has the rules of a walk,
-//! and `inside` laws of what is typed and known inside a typed step.
+//! `plans` has the plan, `walking` the walk, `apart` whether branches begin with different steps for good, `kinds` whether they
+//! begin with steps of different kinds, `lasting` whether nothing but filters comes out of branches, `given` whether filters come
+//! out of the others and stay before them, `anywhere` whether nothing but filters comes out of them, `resting` whether filters
+//! rest, `factoring` the steps that come out of branches, `within` those in joins, groupings and climbs too, and `rewriting` the one
+//! rewrite. Below `walking`, `known` has what is known of the steps of a pipeline before a walk comes to them: the shapes at the
+//! ends of branches, and those behind steps that hold pipelines, so that no branch is typed again. `held` has the segments of a
+//! walk, a step with the filters behind it; `heads` says which filters pass a step and which go into it; `idle` drops steps that
+//! are idle at the end; `putting` puts filters, `stepping` the steps of a pipeline, and `ends` the filters that have gone to its
+//! end. `rules` has the rules of a walk, and `inside` laws of what is typed and known inside a typed step.
 #![tactic(auto)]
 
 mod anywhere;
@@ -41,6 +41,7 @@ mod idle;
 mod inside;
 mod kinds;
 mod known;
+mod lasting;
 mod plans;
 mod putting;
 mod resting;
@@ -49,6 +50,7 @@ mod rules;
 mod same;
 mod stepping;
 mod walking;
+mod within;
 
 pub use plans::{Plan, optimise};
 pub use rewriting::next_rewrite;

@@ -12,7 +12,7 @@ ghost use Rattle.rewrite_laws.specs.RewriteLaws.{MayStandFor};
 ghost use Rattle.rewrite_laws.specs.Rewrites.{IsPlanOf};
 ghost use Rattle.walk_laws.specs.FiltersOut as spec;
 ghost use Rattle.walk_laws.specs.Walks as walks;
-ghost use Rattle.optimiser.specs.Plans.{AreOneTyping, IsBegun, IsGiven, IsPlan, IsRounded, IsTurn, IsTypedPlan, IsWalked, IsWithFactored, own_of, written_of};
+ghost use Rattle.optimiser.specs.Plans.{AreOneTyping, IsBegun, IsGiven, IsPlan, IsRounded, IsTurn, IsTypedPlan, IsWalked, IsWithFactored, IsWithFactoredInside, own_of, written_of};
 ghost use Rattle.optimiser.specs.WalkRules.{rules_named};
 
 use crate::anywhere::gives_anywhere;
@@ -24,6 +24,7 @@ use crate::rewriting::later_rewrite;
 use crate::rules::Rules;
 use crate::same::same_pipe;
 use crate::walking::walk;
+use crate::within::factored_inside;
 use apply_ast::Pipe;
 use context_typing::{Customs, Typed, set_shape};
 use edm_model::Model;
@@ -124,6 +125,17 @@ fn with_factored(alloc: Global, t: &Typed) -> Result<Typed, AllocError>
     })
 }
 
+/// The same, in joins, groupings and climbs too.
+fn with_factored_inside(alloc: Global, t: &Typed) -> Result<Typed, AllocError>
+    ensures { IfOk result (IsWithFactoredInside t.now) }
+{
+    Ok(Typed {
+        set: t.set,
+        pipe: factored_inside(alloc, &t.pipe)?,
+        shape: t.shape.copy(alloc)?,
+    })
+}
+
 /// A typed pipeline settled by the rules that come first. Where its filters rest then, the rule that takes a step out of branches
 /// comes next, until it applies no more, and all those steps come out at once.
 fn turned(alloc: Global, m: &Model, c: &Customs, t: &Typed) -> Result<Typed, AllocError>
@@ -167,7 +179,7 @@ fn one_round(alloc: Global, m: &Model, c: &Customs, t: &Typed) -> Result<(Typed,
     factoring_keeps_plan();
     unfactored_is_settled();
     let all = walked(alloc, m, c, Rules::All, t)?;
-    let out = with_factored(alloc, &all)?;
+    let out = with_factored_inside(alloc, &all)?;
     let done = same_pipe(&out.pipe, &all.pipe);
     Ok((out, done))
 }

@@ -93,14 +93,14 @@ with_branches ps qs k = record {
   apart = concat-apart ps qs k;
 }
 
-join-leads : (x : Step) (outer : Bool) (n a : Name) (T T' : OptPipe) (p : Pipe) → is_firm x ≡ true → leads_to x (Pipe.Then (Step.Join outer n a T') p) ≡ leads_to x (Pipe.Then (Step.Join outer n a T) p)
+pub join-leads : (x : Step) (outer : Bool) (n a : Name) (T T' : OptPipe) (p : Pipe) → is_firm x ≡ true → leads_to x (Pipe.Then (Step.Join outer n a T') p) ≡ leads_to x (Pipe.Then (Step.Join outer n a T) p)
 join-leads (Step.Join o n' a' U) outer n a T T' p f = cc
 join-leads x outer n a T T' p f = refl
 
 with_join : (outer : Bool) (n a : Name) (T T' : OptPipe) → KeptInner T T' → KeptStep (Step.Join outer n a T) (Step.Join outer n a T')
 with_join outer n a T T' k = record { leads = λ x f l p. join-leads x outer n a T T' p f; closed = λ p. refl; soft = refl; apart = k; kind = refl; stays = refl; orders = λ p. refl; held = λ p. refl }
 
-climb-leads : (x : Step) (up : Bool) (h : HierName) (p : Path) (T T' : Pipe) (d : Option ℕ) (keep : Bool) (q : Pipe) → is_firm x ≡ true → leads_to x (Pipe.Then (Step.Climb up h p T' d keep) q) ≡ leads_to x (Pipe.Then (Step.Climb up h p T d keep) q)
+pub climb-leads : (x : Step) (up : Bool) (h : HierName) (p : Path) (T T' : Pipe) (d : Option ℕ) (keep : Bool) (q : Pipe) → is_firm x ≡ true → leads_to x (Pipe.Then (Step.Climb up h p T' d keep) q) ≡ leads_to x (Pipe.Then (Step.Climb up h p T d keep) q)
 climb-leads (Step.Climb up' h' p' U d' keep') up h p T T' d keep q f = cc
 climb-leads x up h p T T' d keep q f = refl
 
@@ -173,7 +173,7 @@ none-apart x (Pipes.MorePipes p ps) all h k =
     go false e q = ap (λ z. (z && (is_loose x || is_closed (Pipe.Then x q))) && some_other x all) e
     go true e q = ap (λ z. is_fixed (Pipe.Then x q) && z) (no-other x all e k) ∙ and-none (is_fixed (Pipe.Then x q)) false refl
 
-none-never : (x : Step) (ps : Pipes) → Begin x ps ≡ true → some_never (kind_of x) ps ≡ false
+pub none-never : (x : Step) (ps : Pipes) → Begin x ps ≡ true → some_never (kind_of x) ps ≡ false
 none-never x Pipes.NoPipes h = refl
 none-never x (Pipes.MorePipes p ps) h =
     let t = and_parts (is_some_and (step_same x) (slice_get (steps p) 0)) _ h in
@@ -235,7 +235,7 @@ module _ (m : Model) (c : Customs) where
         go None k = refl
         go (Some f) k = ap (map (Key.Recursive h' p)) (k f)
 
-    keys-nowhere : (ks : Keys) → keys_apart ks ≡ true → keys_results factor_branches m c ks ≡ []
+    pub keys-nowhere : (ks : Keys) → keys_apart ks ≡ true → keys_results factor_branches m c ks ≡ []
     keys-nowhere Keys.NoKeys h = refl
     keys-nowhere (Keys.MoreKeys k ks) h =
         let t = and_parts (key_apart k) (keys_apart ks) h in

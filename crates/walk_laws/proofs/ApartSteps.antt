@@ -148,7 +148,7 @@ held-behind s p q f g h =
     let u = and_parts (is_solid s) (is_closed (Pipe.Then s p)) t.0 in
     and_from (is_solid s && is_closed (Pipe.Then s q)) (keeps_orders (Pipe.Then s q)) (and_from (is_solid s) (is_closed (Pipe.Then s q)) u.0 (closed-behind s p q f u.1)) (orders-behind s p q g u.1 t.1)
 
-solid-kind : (s : Step) → is_solid s ≡ true → is_loose (kind_of s) ≡ false
+pub solid-kind : (s : Step) → is_solid s ≡ true → is_loose (kind_of s) ≡ false
 solid-kind Step.Identity h = cc
 solid-kind (Step.Filter e) h = cc
 solid-kind s h = refl

@@ -20,15 +20,15 @@ use Rattle.walk_laws.proofs.SameItself.{step-self}
 use Rattle.walk_laws.proofs.Unsplit.{append-none, map-none, nothing-parts, then_some-none}
 
 -- the steps of a branch, none where it is `identity`
-abbrev but_alone : Pipe → List Step
+abbrev pub but_alone : Pipe → List Step
 but_alone p = if is_alone p then [] else steps p
 
 -- all branches have a step
-abbrev all_long : Pipes → Bool
+abbrev pub all_long : Pipes → Bool
 all_long Pipes.NoPipes = true
 all_long (Pipes.MorePipes p ps) = is_long p && all_long ps
 
-long-whole : (p : Pipe) → is_long p ≡ true → pipe_or_identity (but_alone p) ≡ p
+pub long-whole : (p : Pipe) → is_long p ≡ true → pipe_or_identity (but_alone p) ≡ p
 long-whole Pipe.End h = cc
 long-whole (Pipe.Then Step.Identity Pipe.End) h = refl
 long-whole (Pipe.Then Step.Identity (Pipe.Then s p)) h = pipe-steps (Pipe.Then Step.Identity (Pipe.Then s p))
@@ -61,14 +61,14 @@ all-same x (Pipes.MorePipes p ps) h = λ i. same-begin x p h i && all-same x ps 
 
 module _ (m : Model) (c : Customs) where
   -- `identity` stands before no other step
-  no-identity : (S : Shape) (ss : List Step) → drop_identity m c S true Step.Identity ss ≡ None → ⊥
+  pub no-identity : (S : Shape) (ss : List Step) → drop_identity m c S true Step.Identity ss ≡ None → ⊥
   no-identity S ss e = none_or ss (sym e)
 
-  no-first : (S : Shape) (s : Step) (ss : List Step) → drop_identity m c S false Step.Identity (s ∷ ss) ≡ None → ⊥
+  pub no-first : (S : Shape) (s : Step) (ss : List Step) → drop_identity m c S false Step.Identity (s ∷ ss) ≡ None → ⊥
   no-first S s ss e = none_or (s ∷ ss) (sym e)
 
   -- no step comes out of branches that do not begin with one step
-  concat-left : (S : Shape) (before : Bool) (ps : Pipes) (ss : List Step) → all_long ps ≡ true → branch_results drop_identity m c S ps ≡ [] → factor_branches m c S before (Step.Concat ps) ss ≡ None → before_concat (map but_alone (branches ps)) ≡ Step.Concat ps ∷ []
+  pub concat-left : (S : Shape) (before : Bool) (ps : Pipes) (ss : List Step) → all_long ps ≡ true → branch_results drop_identity m c S ps ≡ [] → factor_branches m c S before (Step.Concat ps) ss ≡ None → before_concat (map but_alone (branches ps)) ≡ Step.Concat ps ∷ []
   unfolding pipe_results
   concat-left S before Pipes.NoPipes ss h i none = refl
   concat-left S before (Pipes.MorePipes Pipe.End ps) ss h i none = cc
@@ -85,7 +85,7 @@ module _ (m : Model) (c : Customs) where
       ∙ ap (λ rs. Step.Concat rs ∷ []) (long-concat qs h)
 
   -- typed branches have a step
-  typed-long : (S : Shape) (ps : Pipes) (Ss : List Shape) → all_some (branch_shapes m c S ps) ≡ Some Ss → all_long ps ≡ true
+  pub typed-long : (S : Shape) (ps : Pipes) (Ss : List Shape) → all_some (branch_shapes m c S ps) ≡ Some Ss → all_long ps ≡ true
   unfolding steps_shape
   typed-long S Pipes.NoPipes Ss e = refl
   typed-long S (Pipes.MorePipes p ps) Ss e =

@@ -22,11 +22,13 @@ use Rattle.rewrite_laws.proofs.FilterRuns.{each-place}
 use Rattle.rewrite_laws.proofs.RuleLemmas.{after-filter}
 use Rattle.rewrite_laws.proofs.SameTrees.{Begin, rest}
 use Rattle.rewrite_laws.proofs.StepLists.{identity-shape}
-use Rattle.walk_laws.specs.Apart.{branches_apart, is_firm, is_loose, leads_to, may_go, stays_apart, step_apart}
+use Rattle.walk_laws.specs.Apart.{branches_apart, is_firm, is_loose, is_solid, kind_of, leads_to, may_go, never_first, some_never, stays_apart, step_apart}
 use Rattle.walk_laws.specs.Factored.{before_concat, factored_branches}
-use Rattle.walk_laws.specs.FiltersOut.{branches_give, front_of, gives_alone, has_own_front, may_give, some_beside, some_own, stays_behind}
+use Rattle.walk_laws.specs.FiltersOut.{branches_give, front_of, front_kind, gives_alone, gives_no_other, has_own_front, lasting_kind, lasts, may_give, solid_kind, some_beside, some_lasting, some_own, stays_behind}
+use Rattle.walk_laws.proofs.Lasting.{lasting-tight}
 use Rattle.walk_laws.specs.Walks.{All, Segment, Test, all_steps, head_of, judged, parts, put_selection, put_step, put_steps, put_test, segment_steps, selection, settled_branches, settled_step, step_enters, taken, taken_as, tests_passed, with_test, without_orders}
-use Rattle.walk_laws.proofs.ApartPlaces.{branches-nowhere, factor-none, step-nowhere}
+use Rattle.walk_laws.proofs.ApartSteps.{never-filter, never-identity}
+use Rattle.walk_laws.proofs.ApartPlaces.{branches-nowhere, factor-none, none-never, step-nowhere}
 use Rattle.walk_laws.proofs.GivenFilters.{OutOf, StopsLast, middle-none, out-append, out-of-concat, put-stop, stop-step}
 use Rattle.walk_laws.proofs.SameItself.{step-self}
 use Rattle.walk_laws.proofs.SegmentTails.{SameBefore, StandsApart, steps-append, steps-same}
@@ -142,12 +144,27 @@ none-own x (Pipes.MorePipes p ps) all l h k =
     go false e = ap (λ z. z && some_beside x all) e
     go true e = ap (λ z. is_firm x && z) (leads-all x all e l k) ∙ ap (λ z. z && false) e
 
-pub filter-given : (x : Step) (ps : Pipes) → is_identity x ≡ false → some_own ps ps ≡ true → Begin x ps ≡ true → (e : Expr) × (x ≡ Step.Filter e)
+none-lasting : (x : Step) (ps all : Pipes) → is_loose x ≡ false → Begin x ps ≡ true → Begin x all ≡ true → some_lasting all ps ≡ false
+none-lasting x Pipes.NoPipes all l h k = refl
+none-lasting x (Pipes.MorePipes p ps) all l h k =
+    let t = and_parts (is_some_and (step_same x) (slice_get (steps p) 0)) _ h in
+    let q = begins-with x p t.0 in
+    λ i. (ap (λ p. is_some_and (λ x. some_never x all) (lasting_kind p)) q.1 ∙ go q.0 (lasts (Pipe.Then x q.0))) i || none-lasting x ps all l t.1 k i
+  where
+    solid : (b : Bool) → is_some_and (λ x. some_never x all) (then_some b (kind_of x)) ≡ false
+    solid true = none-never x all k
+    solid false = refl
+
+    go : (q : Pipe) (b : Bool) → is_some_and (λ x. some_never x all) (if b then front_kind (Pipe.Then x q) else None) ≡ false
+    go q true = ap (λ o. is_some_and (λ x. some_never x all) (option_and_then solid_kind o)) (front-first x q l) ∙ solid (is_solid x)
+    go q false = refl
+
+pub filter-given : (x : Step) (ps : Pipes) → is_identity x ≡ false → gives_no_other ps ≡ true → Begin x ps ≡ true → (e : Expr) × (x ≡ Step.Filter e)
 filter-given x ps plain own h = go x plain (loose (is_loose x) refl)
   where
     loose : (b : Bool) → is_loose x ≡ b → is_loose x ≡ true
     loose true e = e
-    loose false e = absurd (true≢false (sym own ∙ none-own x ps ps e h h))
+    loose false e = absurd (true≢false (sym own ∙ (λ i. none-own x ps ps e h h i || none-lasting x ps ps e h h i)))
 
     go : (x : Step) → is_identity x ≡ false → is_loose x ≡ true → (e : Expr) × (x ≡ Step.Filter e)
     go Step.Identity i l = cc
@@ -205,6 +222,38 @@ own-rests e all (Pipes.MorePipes p ps) k h =
     go None = refl
     go (Some x) = ap (λ z. is_firm x && z) (beside-rests x e all k)
 
+lasts-rest : (e : Expr) (p q : Pipe) → p ≡ Pipe.Then (Step.Filter e) q → drop 1 (steps p) ≡ steps q → lasts (rest p) ≡ lasts p
+lasts-rest e p q h k = ap (λ l. lasts (pipe_or_identity l)) k ∙ go q ∙ sym (ap lasts h)
+  where
+    go : (q : Pipe) → lasts (pipe_or_identity (steps q)) ≡ lasts q
+    go Pipe.End = refl
+    go (Pipe.Then s q) = ap lasts (pipe-steps (Pipe.Then s q))
+
+never-rest : (x : Step) (e : Expr) (p q : Pipe) → is_loose x ≡ false → p ≡ Pipe.Then (Step.Filter e) q → drop 1 (steps p) ≡ steps q → never_first x (rest p) ≡ never_first x p
+never-rest x e p q l h k = ap (λ l. never_first x (pipe_or_identity l)) k ∙ go q ∙ sym (ap (never_first x) h ∙ never-filter x e q l)
+  where
+    go : (q : Pipe) → never_first x (pipe_or_identity (steps q)) ≡ never_first x q
+    go Pipe.End = never-identity x Pipe.End l
+    go (Pipe.Then s q) = ap (never_first x) (pipe-steps (Pipe.Then s q))
+
+never-rests : (x : Step) (e : Expr) (ps : Pipes) → is_loose x ≡ false → Begin (Step.Filter e) ps ≡ true → some_never x (rests ps) ≡ some_never x ps
+never-rests x e Pipes.NoPipes l h = refl
+never-rests x e (Pipes.MorePipes p ps) l h =
+    let t = and_parts (is_some_and (step_same (Step.Filter e)) (slice_get (steps p) 0)) _ h in
+    let q = begins-with (Step.Filter e) p t.0 in
+    λ i. never-rest x e p q.0 l q.1 q.2 i || never-rests x e ps l t.1 i
+
+lasting-rests : (e : Expr) (all ps : Pipes) → Begin (Step.Filter e) all ≡ true → Begin (Step.Filter e) ps ≡ true → some_lasting (rests all) (rests ps) ≡ some_lasting all ps
+lasting-rests e all Pipes.NoPipes k h = refl
+lasting-rests e all (Pipes.MorePipes p ps) k h =
+    let t = and_parts (is_some_and (step_same (Step.Filter e)) (slice_get (steps p) 0)) _ h in
+    let q = begins-with (Step.Filter e) p t.0 in
+    λ i. ((λ j. is_some_and (λ x. some_never x (rests all)) (if lasts-rest e p q.0 q.1 q.2 j then option_and_then solid_kind (front-rest e p q.0 q.1 q.2 j) else None)) ∙ go (lasting_kind p) (lasting-tight p)) i || lasting-rests e all ps k t.1 i
+  where
+    go : (o : Option Step) → ((x : Step) → o ≡ Some x → is_loose x ≡ false) → is_some_and (λ x. some_never x (rests all)) o ≡ is_some_and (λ x. some_never x all) o
+    go None f = refl
+    go (Some x) f = never-rests x e all (f x refl) k
+
 apart-rests : (e : Expr) (ps : Pipes) → Begin (Step.Filter e) ps ≡ true → branches_apart (rests ps) ≡ branches_apart ps
 apart-rests e Pipes.NoPipes h = refl
 apart-rests e (Pipes.MorePipes p ps) h =
@@ -228,7 +277,7 @@ give-rests true e (Pipes.MorePipes p ps) h =
     λ i. give-rest e p q.0 q.1 q.2 i && give-rests true e ps t.1 i
 
 pub gives-rests : (a : Bool) (e : Expr) (ps : Pipes) → Begin (Step.Filter e) ps ≡ true → gives_alone a (Step.Concat (rests ps)) ≡ gives_alone a (Step.Concat ps)
-gives-rests a e ps h = λ i. own-rests e ps ps h h i && give-rests a e ps h i
+gives-rests a e ps h = λ i. (own-rests e ps ps h h i || lasting-rests e ps ps h h i) && give-rests a e ps h i
 
 -- ---- at the concatenation
 
@@ -340,7 +389,7 @@ module _ (m : Model) (c : Customs) where
       given a =
           let v = and_parts b (gives_alone false (Step.Concat qs)) a in
           let y = and_parts (not (is_identity x)) (Begin x qs) t.0 in
-          let f = filter-given x qs (not-back (is_identity x) y.0) (and_parts (some_own qs qs) (branches_apart qs) v.1).0 y.1 in
+          let f = filter-given x qs (not-back (is_identity x) y.0) (and_parts (gives_no_other qs) (branches_apart qs) v.1).0 y.1 in
           let begin : Begin (Step.Filter f.0) qs ≡ true = ap (λ x. Begin x qs) (sym f.1) ∙ y.1 in
           let made : pipe ss' ≡ Pipe.Then (Step.Filter f.0) (Pipe.Then (Step.Concat (rests qs)) B) = into ∙ ap (λ x. Pipe.Then x (Pipe.Then (Step.Concat (rests qs)) B)) f.1 in (
             ap (λ p. OutOf (all_steps (put_steps All m c S p gs))) made ∙ given-put S S' before f.0 (Pipe.Then x q) ps B gs (stop v.0) typed u begin,
@@ -357,7 +406,7 @@ module _ (m : Model) (c : Customs) where
   inside-none S b (Step.Concat ps) p h =
       elim (either (step_apart (Step.Concat ps)) (b && gives_alone false (Step.Concat ps)) (and_parts (step_apart (Step.Concat ps) || (b && gives_alone false (Step.Concat ps))) _ h).0) [
         | inl a ↦ step-nowhere m c (Step.Concat ps) S a
-        | inr a ↦ ap (map Step.Concat) (branches-nowhere m c ps S (and_parts (some_own ps ps) (branches_apart ps) (and_parts b (gives_alone false (Step.Concat ps)) a).1).1)
+        | inr a ↦ ap (map Step.Concat) (branches-nowhere m c ps S (and_parts (gives_no_other ps) (branches_apart ps) (and_parts b (gives_alone false (Step.Concat ps)) a).1).1)
       ]
   inside-none S b s p h = step-nowhere m c s S (apart (either (step_apart s) (b && gives_alone false s) (and_parts (step_apart s || (b && gives_alone false s)) _ h).0))
     where

@@ -9,6 +9,11 @@ mod FilterRest
 mod GivenFilters
 mod GivenPlaces
 mod GivenPlan
+mod HeldFamilies
+mod Holes
+mod IdleWalk
+mod InsideLeft
+mod Lasting
 mod LowerPipes
 mod NearestFilters
 mod OutKeeps
@@ -34,3 +39,4 @@ mod WalkRest
 mod WalkRules
 mod WalkSteps
 mod WalkUnbranched
+mod WithinWalk

@@ -21,15 +21,17 @@ use Rattle.rewrite_laws.proofs.FactorRule.{begins-with, rests}
 use Rattle.rewrite_laws.proofs.OneMeaning.{loaded-results, loaded-rules}
 use Rattle.rewrite_laws.proofs.RuleLemmas.{after-filter}
 use Rattle.rewrite_laws.proofs.SameTrees.{Begin, rest}
-use Rattle.walk_laws.specs.Apart.{is_firm, is_loose, leads_to, step_apart}
-use Rattle.walk_laws.specs.FiltersOut.{branches_give, front_of, gives_alone, has_own_front, may_give, some_beside, some_own, stays_behind}
+use Rattle.walk_laws.specs.Apart.{is_firm, is_loose, leads_to, never_first, some_never, step_apart}
+use Rattle.walk_laws.specs.FiltersOut.{branches_give, front_of, gives_alone, gives_no_other, has_own_front, lasting_kind, may_give, solid_kind, some_beside, some_lasting, some_own, stays_behind}
 use Rattle.walk_laws.specs.Walks.{shape_behind}
 use Rattle.walk_laws.proofs.ApartPlaces.{step-nowhere}
-use Rattle.walk_laws.proofs.ApartSteps.{concat-leads, leads-behind}
+use Rattle.walk_laws.proofs.ApartSteps.{concat-leads, leads-behind, never-behind, never-filter}
 use Rattle.walk_laws.proofs.GivenPlaces.{behind-same, either, first-typed, gives-rests}
+use Rattle.walk_laws.proofs.Holes.{Hole, IsThere, filled, hole-firm, hole-gives, hole-kind, hole-lasts, hole-leads, hole-loose, hole-made, hole-never, hole-nothing, hole-shape, hole-still, hole-typed, inside}
+use Rattle.walk_laws.proofs.Lasting.{Lasting, lasting-among, lasting-behind, lasting-kept}
 use Rattle.walk_laws.proofs.OutPlaces.{Deep, begin-gives, deep-made, in-branches, spliced}
 use Rattle.walk_laws.proofs.StayPlaces.{own-among}
-use Rattle.walk_laws.proofs.StayRules.{and_both, or_both, stay-filter}
+use Rattle.walk_laws.proofs.StayRules.{and_both, front-first, or_both, stay-filter}
 use Rattle.walk_laws.proofs.Unsplit.{Unsplit, append-none, map-none, nothing-parts, then_some-none}
 use Rattle.walk_laws.proofs.WalkPlaces.{behind-typed}
 
@@ -101,6 +103,8 @@ module _ (m : Model) (c : Customs) where
     front : (x : Step) → is_firm x ≡ true → front_of p ≡ Some x → front_of q ≡ Some x
     leads : (x : Step) → is_firm x ≡ true → leads_to x q ≡ leads_to x p
     give : (b : Bool) → may_give true b p ≡ true → may_give true b q ≡ true
+    never : (x : Step) → is_loose x ≡ false → never_first x p ≡ true → never_first x q ≡ true
+    last : Lasting p q
 
   spliced-beside : (left : List Pipe) (x : Step) (p q : Pipe) (right : Pipes) → leads_to x q ≡ leads_to x p → some_beside x (spliced left q right) ≡ some_beside x (spliced left p right)
   spliced-beside [] x p q right e = ap (λ z. not z || some_beside x right) e
@@ -114,6 +118,18 @@ module _ (m : Model) (c : Customs) where
       go (Some x) e f h = let t = and_parts (is_firm x) (some_beside x all) h in ap (has_own_front all) (f x t.0 refl) ∙ h
   spliced-own (y ∷ left) all p q right f = or_both (has_own_front all (front_of y)) (some_own all (spliced left p right)) (has_own_front all (front_of y)) (some_own all (spliced left q right)) (λ h. h) (spliced-own left all p q right f)
 
+  spliced-never : (left : List Pipe) (x : Step) (p q : Pipe) (right : Pipes) → (never_first x p ≡ true → never_first x q ≡ true) → some_never x (spliced left p right) ≡ true → some_never x (spliced left q right) ≡ true
+  spliced-never [] x p q right f = or_both (never_first x p) (some_never x right) (never_first x q) (some_never x right) f (λ h. h)
+  spliced-never (y ∷ left) x p q right f = or_both (never_first x y) (some_never x (spliced left p right)) (never_first x y) (some_never x (spliced left q right)) (λ h. h) (spliced-never left x p q right f)
+
+  spliced-lasting : (left : List Pipe) (all : Pipes) (p q : Pipe) (right : Pipes) → Lasting p q → some_lasting all (spliced left p right) ≡ true → some_lasting all (spliced left q right) ≡ true
+  spliced-lasting [] all p q right l =
+      let P : Step → Bool = λ x. some_never x all in
+      or_both (is_some_and P (lasting_kind p)) (some_lasting all right) (is_some_and P (lasting_kind q)) (some_lasting all right) (lasting-kept P p q l) (λ h. h)
+  spliced-lasting (y ∷ left) all p q right l =
+      let P : Step → Bool = λ x. some_never x all in
+      or_both (is_some_and P (lasting_kind y)) (some_lasting all (spliced left p right)) (is_some_and P (lasting_kind y)) (some_lasting all (spliced left q right)) (λ h. h) (spliced-lasting left all p q right l)
+
   spliced-give : (left : List Pipe) (p q : Pipe) (right : Pipes) → Fronts p q → branches_give true (spliced left p right) ≡ true → branches_give true (spliced left q right) ≡ true
   spliced-give [] p q right f = and_both (may_give true true p) (branches_give true right) (may_give true true q) (branches_give true right) (f.give true) (λ h. h)
   spliced-give (y ∷ left) p q right f = and_both (may_give true true y) (branches_give true (spliced left p right)) (may_give true true y) (branches_give true (spliced left q right)) (λ h. h) (spliced-give left p q right f)
@@ -122,8 +138,10 @@ module _ (m : Model) (c : Customs) where
   spliced-gives left p q right f =
       let ps = spliced left p right in
       let qs = spliced left q right in
-      and_both (some_own ps ps) (branches_give true ps) (some_own qs qs) (branches_give true qs)
+      and_both (gives_no_other ps) (branches_give true ps) (gives_no_other qs) (branches_give true qs)
+      (or_both (some_own ps ps) (some_lasting ps ps) (some_own qs qs) (some_lasting qs qs)
       (λ h. own-among qs ps qs (λ x g l k. spliced-beside left x p q right (f.leads x g) ∙ k) (spliced-own left ps p q right f h))
+      (λ h. lasting-among qs ps qs (λ x l. spliced-never left x p q right (f.never x l)) (spliced-lasting left ps p q right f.last h)))
       (spliced-give left p q right f)
 
   -- steps before what differs
@@ -137,6 +155,8 @@ module _ (m : Model) (c : Customs) where
         bare = bare a b (is_loose s) k.bare;
         front = λ x g. front a b (is_loose s) x (k.front x g);
         leads = λ x g. leads-behind x s a b (k.leads x g);
+        never = λ x l. never-behind x s a b (k.never x l);
+        last = lasting-behind s a b k.last;
         give = λ z. and_both (step_apart s || gives_alone true s) (may_give true (stays_behind z s) a) (step_apart s || gives_alone true s) (may_give true (stays_behind z s) b) (λ h. h) (k.give (stays_behind z s));
       }
     where
@@ -161,6 +181,8 @@ module _ (m : Model) (c : Customs) where
         bare = λ h. none_or x (sym h);
         front = λ s g h. absurd (no-firm qs s g (some_value h));
         leads = λ s g. concat-leads s qs (rests qs) g z z;
+        never = λ s l h. never-filter s e (Pipe.Then y z) l ∙ h;
+        last = record { ends = λ h. refl; kind = λ s h g. none_or s g };
         give = λ b h.
             let v = and_parts (step_apart x || gives_alone true x) (may_give true (stays_behind b x) z) h in
             stay-filter true b e (Pipe.Then y z)
@@ -178,6 +200,8 @@ module _ (m : Model) (c : Customs) where
         bare = λ h. none_or x (sym h);
         front = λ s g h. absurd (no-firm ps s g (some_value h));
         leads = λ s g. concat-leads s ps qs g z z;
+        never = λ s l h. h;
+        last = record { ends = λ h. refl; kind = λ s h g. none_or s g };
         give = λ b h.
             let v = and_parts (step_apart x || gives_alone true x) (may_give true (stays_behind b x) z) h in
             and_from (step_apart y || gives_alone true y) (may_give true (stays_behind b y) z)
@@ -185,6 +209,36 @@ module _ (m : Model) (c : Customs) where
               | inl a ↦ absurd (in-none qs (subst (λ l. Contains l qs) (map-none Step.Concat (branch_results factor_branches m c S ps) (step-nowhere m c x S a)) there))
               | inr g ↦ spliced-gives left p q right f g
             ])) v.1;
+      }
+
+  -- in a join, a grouping or a climb
+  hole-behind : (h : Hole) (b : Bool) (p q : Pipe) → stays_behind b (filled h q) ≡ stays_behind b (filled h p)
+  hole-behind (Hole.Related outer n a v) b p q = refl
+  hole-behind (Hole.Grouped ks) b p q = refl
+  hole-behind (Hole.Chosen left h x f right T) b p q = refl
+  hole-behind (Hole.Climbed up h x d keep) b p q = refl
+
+  hole-fronts : (S : Shape) (h : Hole) (p q z : Pipe) → IsThere m S h → Fronts p q → Contains (pipe_results factor_branches m c (inside S h) false p) q → Fronts (Pipe.Then (filled h p) z) (Pipe.Then (filled h q) z)
+  hole-fronts S h p q z there f made =
+      let x = filled h p in
+      let y = filled h q in
+      let first = front-first x z (hole-loose h p) in
+      record {
+        bare = λ k. none_or x (sym k ∙ first);
+        front = λ v g k. absurd (true≢false (sym g ∙ ap is_firm (some_value (sym k ∙ first)) ∙ hole-firm h p));
+        leads = λ v g. hole-leads h v p q z g;
+        never = λ v l k. hole-never h v p q z ∙ k;
+        last = record {
+          ends = λ k. hole-lasts h q z;
+          kind = λ v k g. ap (option_and_then solid_kind) (front-first y z (hole-loose h q)) ∙ hole-kind h p q ∙ sym (ap (option_and_then solid_kind) first) ∙ g;
+        };
+        give = λ b k.
+            let v = and_parts (step_apart x || gives_alone true x) (may_give true (stays_behind b x) z) k in
+            and_from (step_apart y || gives_alone true y) (may_give true (stays_behind b y) z)
+            (or_right (step_apart y) (gives_alone true y) (elim (either (step_apart x) (gives_alone true x) v.0) [
+              | inl a ↦ absurd (in-none y (subst (λ l. Contains l y) (step-nowhere m c x S a) (hole-made m c factor_branches h S p q there made)))
+              | inr g ↦ hole-gives h p q (f.give true) g
+            ])) (ap (λ w. may_give true w z) (hole-behind h b p q) ∙ v.1);
       }
 
   at-ahead : (ahead : List Step) (s : Step) (zs : List Step) → pipe (ahead ++ s ∷ zs) ≡ pipe (ahead ++ steps (Pipe.Then s (pipe zs)))
@@ -199,7 +253,14 @@ module _ (m : Model) (c : Customs) where
     where
       at-two : (ahead : List Step) (s t : Step) (zs : List Step) → pipe (ahead ++ s ∷ t ∷ zs) ≡ pipe (ahead ++ steps (Pipe.Then s (Pipe.Then t (pipe zs))))
       at-two ahead s t zs = ap (λ l. pipe (ahead ++ s ∷ t ∷ l)) (sym (steps-pipe zs))
-  all-fronts (suc n) S p q o =
+  all-fronts (suc n) S p q (inr o) =
+      let T = shape_behind m c S (pipe o.ahead) in
+      let x = filled o.hole o.was in
+      let y = filled o.hole o.now in
+      let U = inside T o.hole in
+      let k = ahead-fronts o.ahead (Pipe.Then x (pipe o.behind)) (Pipe.Then y (pipe o.behind)) (hole-fronts T o.hole o.was o.now (pipe o.behind) o.there (all-fronts n U o.was o.now o.within) (deep-made m c n U o.was o.now o.within)) in
+      subst (Fronts p) (sym (o.into ∙ at-ahead o.ahead y o.behind)) (subst (λ z. Fronts z (pipe (o.ahead ++ steps (Pipe.Then y (pipe o.behind))))) (sym (o.from ∙ at-ahead o.ahead x o.behind)) k)
+  all-fronts (suc n) S p q (inl o) =
       let T = shape_behind m c S (pipe o.ahead) in
       let x = Step.Concat (spliced o.left o.was o.right) in
       let y = Step.Concat (spliced o.left o.now o.right) in
@@ -219,6 +280,7 @@ module _ (m : Model) (c : Customs) where
     less : (S : Shape) (s : Step) (ss : List Step) → r m c S true s ss ≡ None → r m c S false s ss ≡ None
     tail : (S : Shape) (before : Bool) (s : Step) (ss ts : List Step) → is_nonempty ss ≡ true → r m c S before s ss ≡ None → r m c S before s ts ≡ None
     filter' : (S : Shape) (before before' : Bool) (e : Expr) (ss ts : List Step) → r m c S before (Step.Filter e) ss ≡ None → r m c S before' (Step.Filter e) ts ≡ None
+    hole : (S : Shape) (before : Bool) (h : Hole) (p : Pipe) (ss : List Step) → r m c S before (filled h p) ss ≡ None
 
   module _ (r : Rule) (R : Beside r) where
     -- nothing at the first step, in it, or behind it
@@ -301,7 +363,23 @@ module _ (m : Model) (c : Customs) where
         ∙ nothing-ahead o.ahead S false (Step.Concat (Pipes.MorePipes o.first o.others)) (Step.Filter o.expr) o.behind (Step.Concat (rests (Pipes.MorePipes o.first o.others)) ∷ o.behind)
         (λ b k. nothing-out T S' b o.expr o.first o.others o.behind typed.1 o.begin k)
         (sym (ap (pipe_results r m c S false) o.from) ∙ h)
-    deep-nothing (suc n) S S' p q t o h =
+    deep-nothing (suc n) S S' p q t (inr o) h =
+        let x = filled o.hole o.was in
+        let y = filled o.hole o.now in
+        let typed = typed-behind o.ahead (x ∷ o.behind) S S' (sym (ap (steps_shape m c S) o.from) ∙ t.typed.1) in
+        let T = shape_behind m c S (pipe o.ahead) in
+        let first = typed_first m c T S' x (pipe o.behind) typed.1 in
+        let b = hole-typed m c o.hole T (after m c T x) o.was o.there t.customs (lawful-behind o.ahead S T t.lawful typed.0) first.0 in
+        let later = deep-typed n (inside T o.hole) b.0 o.was o.now b.1 o.within in
+        ap (pipe_results r m c S false) o.into
+        ∙ nothing-ahead o.ahead S false x y o.behind o.behind
+        (λ z k.
+        let v = nothing-parts r m c T z x (pipe o.behind) k in
+        nothing-from T z y (pipe o.behind) (R.hole T z o.hole o.now (steps (pipe o.behind)))
+        (hole-still m c r o.hole T o.was o.now o.there v.1 (deep-nothing n (inside T o.hole) b.0 o.was o.now b.1 o.within (hole-nothing m c r o.hole T o.was o.there v.1)))
+        (ap (λ z. pipe_results r m c (unwrap_or z T) true (pipe o.behind)) (hole-shape m c o.hole T b.0 o.was o.now o.there b.1 later) ∙ v.2))
+        (sym (ap (pipe_results r m c S false) o.from) ∙ h)
+    deep-nothing (suc n) S S' p q t (inl o) h =
         let ps = spliced o.left o.was o.right in
         let qs = spliced o.left o.now o.right in
         let typed = typed-behind o.ahead (Step.Concat ps ∷ o.behind) S S' (sym (ap (steps_shape m c S) o.from) ∙ t.typed.1) in
@@ -320,8 +398,14 @@ module _ (m : Model) (c : Customs) where
   -- the first three rules are of this kind
 
   identity-beside : Beside drop_identity
-  identity-beside = record { concat = λ S before ps ss. refl; alone = λ S. refl; less = less; tail = tail; filter' = λ S before before' e ss ts h. refl }
+  identity-beside = record { hole = hole; concat = λ S before ps ss. refl; alone = λ S. refl; less = less; tail = tail; filter' = λ S before before' e ss ts h. refl }
     where
+      hole : (S : Shape) (before : Bool) (h : Hole) (p : Pipe) (ss : List Step) → drop_identity m c S before (filled h p) ss ≡ None
+      hole S before (Hole.Related outer n a v) p ss = refl
+      hole S before (Hole.Grouped ks) p ss = refl
+      hole S before (Hole.Chosen left h x f right T) p ss = refl
+      hole S before (Hole.Climbed up h x d keep) p ss = refl
+
       less : (S : Shape) (s : Step) (ss : List Step) → drop_identity m c S true s ss ≡ None → drop_identity m c S false s ss ≡ None
       less S Step.Identity ss h = none_or ss (sym h)
       less S s ss h = refl
@@ -335,15 +419,27 @@ module _ (m : Model) (c : Customs) where
       tail S before s ss ts n h = refl
 
   split-beside : Beside split_conjunction
-  split-beside = record { concat = λ S before ps ss. refl; alone = λ S. refl; less = λ S s ss h. other S true false s ss ss h; tail = λ S before s ss ts n h. other S before before s ss ts h; filter' = λ S before before' e ss ts h. other S before before' (Step.Filter e) ss ts h }
+  split-beside = record { hole = hole; concat = λ S before ps ss. refl; alone = λ S. refl; less = λ S s ss h. other S true false s ss ss h; tail = λ S before s ss ts n h. other S before before s ss ts h; filter' = λ S before before' e ss ts h. other S before before' (Step.Filter e) ss ts h }
     where
+      hole : (S : Shape) (before : Bool) (h : Hole) (p : Pipe) (ss : List Step) → split_conjunction m c S before (filled h p) ss ≡ None
+      hole S before (Hole.Related outer n a v) p ss = refl
+      hole S before (Hole.Grouped ks) p ss = refl
+      hole S before (Hole.Chosen left h x f right T) p ss = refl
+      hole S before (Hole.Climbed up h x d keep) p ss = refl
+
       other : (S : Shape) (before before' : Bool) (s : Step) (ss ts : List Step) → split_conjunction m c S before s ss ≡ None → split_conjunction m c S before' s ts ≡ None
       other S before before' (Step.Filter (Expr.Binary BinOp.And a b)) ss ts h = ap (λ z. then_some z (Step.Filter a ∷ Step.Filter b ∷ ts)) (then_some-none (is_sure m S b) (Step.Filter a ∷ Step.Filter b ∷ ss) h)
       other S before before' s ss ts h = refl
 
   true-beside : Beside drop_true
-  true-beside = record { concat = λ S before ps ss. refl; alone = λ S. refl; less = λ S s ss h. other S true false s ss ss h; tail = λ S before s ss ts n h. other S before before s ss ts h; filter' = λ S before before' e ss ts h. other S before before' (Step.Filter e) ss ts h }
+  true-beside = record { hole = hole; concat = λ S before ps ss. refl; alone = λ S. refl; less = λ S s ss h. other S true false s ss ss h; tail = λ S before s ss ts n h. other S before before s ss ts h; filter' = λ S before before' e ss ts h. other S before before' (Step.Filter e) ss ts h }
     where
+      hole : (S : Shape) (before : Bool) (h : Hole) (p : Pipe) (ss : List Step) → drop_true m c S before (filled h p) ss ≡ None
+      hole S before (Hole.Related outer n a v) p ss = refl
+      hole S before (Hole.Grouped ks) p ss = refl
+      hole S before (Hole.Chosen left h x f right T) p ss = refl
+      hole S before (Hole.Climbed up h x d keep) p ss = refl
+
       other : (S : Shape) (before before' : Bool) (s : Step) (ss ts : List Step) → drop_true m c S before s ss ≡ None → drop_true m c S before' s ts ≡ None
       other S before before' (Step.Filter (Expr.Bool' true)) ss ts h = none_or (Step.Identity ∷ ss) (sym h)
       other S before before' s ss ts h = refl

@@ -15,16 +15,16 @@ use Rattle.rewrite_laws.proofs.OneOutcome.{outcome-in_place}
 use Rattle.rewrite_laws.proofs.PlanEnds.{plan_exists, plan_of_next}
 use Rattle.rewrite_laws.proofs.PlanLaws.{plan_is_unique}
 use Rattle.rewrite_laws.proofs.PlanMeaning.{find_map-from, first-contains}
-use Rattle.walk_laws.specs.Factored.{factored}
+use Rattle.walk_laws.specs.Factored.{factored_inside}
 use Rattle.walk_laws.specs.FiltersOut.{may_give}
 use Rattle.walk_laws.specs.Walks.{All, Early, front, rules_of, walk, whole}
 use Rattle.walk_laws.specs.WalkLaws.{FactoringKeepsPlan, IsRound, UnfactoredIsSettled, WalkKeepsPlan, next_by}
 use Rattle.walk_laws.proofs.ApartRules.{KeepsApart, aggregate-apart, branches-apart, compute-apart, count-apart, grouping-apart, identity-apart, idle-apart, join-apart, nodes-apart, order-apart, outer_join-apart, related-apart, split-apart, traverse-apart, true-apart}
-use Rattle.walk_laws.proofs.FactoredLeft.{left_factored}
+use Rattle.walk_laws.proofs.InsideLeft.{left_inside}
 use Rattle.walk_laws.proofs.LowerPipes.{IsLower, IsLowest, by_lower, lower-lowest, lowest-chain, never-lower, rewrite-lower}
 use Rattle.walk_laws.proofs.OutKeeps.{Plain, at-factor, deep-gives, deep-plain, deep-rewrite, deep-typed, in-none}
 use Rattle.walk_laws.proofs.OutPlaces.{AnyOut, all-out, deep-made, out-factored}
-use Rattle.walk_laws.proofs.OutWalk.{deep-walk}
+use Rattle.walk_laws.proofs.WithinWalk.{deep-walk}
 use Rattle.walk_laws.proofs.StayPlaces.{stay_anywhere}
 use Rattle.walk_laws.proofs.StayRules.{KeepsStay, aggregate-stay, branches-stay, compute-stay, count-stay, grouping-stay, identity-stay, idle-stay, join-stay, nodes-stay, order-stay, outer_join-stay, related-stay, split-stay, traverse-stay, true-stay}
 use Rattle.walk_laws.proofs.WalkPlan.{first-of_two, found-behind, found-front, found-none, next-alike, next-lower, next-typed, none-of_two, nothing, rules-within, walk-rest, walked}
@@ -137,7 +137,7 @@ module _ (m : Model) (c : Customs) where
     out-plain : (p y : Pipe) → Typed p → Outs p y → Plain m c S p → Plain m c S y
     out-plain p y t o h = deep-plain m c o.0 S S' p y t o.1 h
 
-    out-same : (p y : Pipe) → Outs p y → factored y ≡ factored p
+    out-same : (p y : Pipe) → Outs p y → factored_inside y ≡ factored_inside p
     out-same p y o = out-factored m c o.0 S p y o.1
 
     first-out : (p y : Pipe) → Typed p → Gives p → Plain m c S p → First p factor_branches ≡ Some y → Outs p y
@@ -148,8 +148,8 @@ module _ (m : Model) (c : Customs) where
     none-factor : (p : Pipe) → Typed p → First p factor_branches ≡ None → pipe_results factor_branches m c S false p ≡ []
     none-factor p t e = nothing All m c S S' p t factor_branches at-factor e
 
-    factored-left : (p : Pipe) → Typed p → Plain m c S p → First p factor_branches ≡ None → factored p ≡ p
-    factored-left p t h e = left_factored m c p S S' t.typed.0 t.typed.1 h.identity' (none-factor p t e)
+    factored-left : (p : Pipe) → Typed p → Plain m c S p → First p factor_branches ≡ None → factored_inside p ≡ p
+    factored-left p t h e = left_inside m c p S S' t.typed.0 t.typed.1 h.identity' (none-factor p t e)
 
     -- ---- what comes next
 
@@ -194,9 +194,9 @@ module _ (m : Model) (c : Customs) where
 
     -- what keeps the plan of a pipeline
     record Keeps (p : Pipe) : Type 0 where
-      walk' : Plan p ≡ Plan (factored (walk All m c S p))
+      walk' : Plan p ≡ Plan (factored_inside (walk All m c S p))
       out : (y : Pipe) → Outs p y → Plan p ≡ Plan y
-      factor : Plain m c S p → Plan p ≡ Plan (factored p)
+      factor : Plain m c S p → Plan p ≡ Plan (factored_inside p)
 
     abbrev Kept : Pipe → Type 0
     Kept p = Typed p → Gives p → Keeps p
@@ -215,7 +215,7 @@ module _ (m : Model) (c : Customs) where
       keeps-next q e = ih q (next-lower All m c S S' p t q e) (next-typed All m c S S' p t q e) (next-gives p q t e g)
 
       -- the plan of what comes out of the walk
-      walked-out : (u : Pipe) → Outs (walk All m c S p) u → Plan (factored (walk All m c S p)) ≡ Plan (factored (walk All m c S u))
+      walked-out : (u : Pipe) → Outs (walk All m c S p) u → Plan (factored_inside (walk All m c S p)) ≡ Plan (factored_inside (walk All m c S u))
       walked-out u o =
           let s = settled p t in
           let v = walk All m c S p in
@@ -223,22 +223,22 @@ module _ (m : Model) (c : Customs) where
           ap Plan (sym (out-same v u o)) ∙ sym (k.factor (out-plain v u s.typed o (plain-settled v s.typed s.none))) ∙ k.walk'
 
       -- so the walk of what comes out has the plan of the walk
-      walks-same : (y : Pipe) → Outs p y → Plan (factored (walk All m c S p)) ≡ Plan (factored (walk All m c S y))
+      walks-same : (y : Pipe) → Outs p y → Plan (factored_inside (walk All m c S p)) ≡ Plan (factored_inside (walk All m c S y))
       walks-same y o =
           let x = deep-walk m c o.0 S S' p y t o.1 in
-          walked-out x.0 (o.0, x.1) ∙ ap (λ z. Plan (factored z)) x.2
+          walked-out x.0 (o.0, x.1) ∙ ap (λ z. Plan (factored_inside z)) x.2
 
       walk-next : (q : Pipe) → next_by All m c S p ≡ Some q → walk All m c S q ≡ walk All m c S p
       walk-next q e = ap whole ((next-alike All m c S S' p t q e).0 front)
 
-      by-walk : (o : Option Pipe) → next m c S p ≡ o → Plan p ≡ Plan (factored (walk All m c S p))
+      by-walk : (o : Option Pipe) → next m c S p ≡ o → Plan p ≡ Plan (factored_inside (walk All m c S p))
       by-walk None e =
           let n = from-none p e in
-          ap Plan (sym (ap factored (walk-rest All m c S S' p t n.0) ∙ factored-left p t (plain-settled p t n.0) n.1))
+          ap Plan (sym (ap factored_inside (walk-rest All m c S S' p t n.0) ∙ factored-left p t (plain-settled p t n.0) n.1))
       by-walk (Some q) e =
           plan-next p q e
           ∙ elim (from-next p q e) [
-            | inl x ↦ (keeps-next q x).walk' ∙ ap (λ z. Plan (factored z)) (walk-next q x)
+            | inl x ↦ (keeps-next q x).walk' ∙ ap (λ z. Plan (factored_inside z)) (walk-next q x)
             | inr x ↦ let o = first-out p q t g (plain-early p t x.1) x.0 in (keeps-out q o).walk' ∙ sym (walks-same q o)
           ]
 
@@ -249,14 +249,14 @@ module _ (m : Model) (c : Customs) where
       by-out y o (Some q) e =
           plan-next p q e
           ∙ elim (from-next p q e) [
-            | inl x ↦ (keeps-next q x).walk' ∙ ap (λ z. Plan (factored z)) (walk-next q x) ∙ walks-same y o ∙ sym (keeps-out y o).walk'
+            | inl x ↦ (keeps-next q x).walk' ∙ ap (λ z. Plan (factored_inside z)) (walk-next q x) ∙ walks-same y o ∙ sym (keeps-out y o).walk'
             | inr x ↦
                 let h = plain-early p t x.1 in
                 let f = first-out p q t g h x.0 in
                 (keeps-out q f).factor (out-plain p q t f h) ∙ ap Plan (out-same p q f ∙ sym (out-same p y o)) ∙ sym ((keeps-out y o).factor (out-plain p y t o h))
           ]
 
-      by-factor : Plain m c S p → (o : Option Pipe) → First p factor_branches ≡ o → Plan p ≡ Plan (factored p)
+      by-factor : Plain m c S p → (o : Option Pipe) → First p factor_branches ≡ o → Plan p ≡ Plan (factored_inside p)
       by-factor h None e = ap Plan (sym (factored-left p t h e))
       by-factor h (Some y) e =
           let o = first-out p y t g h e in
@@ -276,18 +276,18 @@ module _ (m : Model) (c : Customs) where
       lowest : IsLowest q p
 
     abbrev Factored : Pipe → Type 0
-    Factored p = Typed p → Gives p → Plain m c S p → IsOut p (factored p)
+    Factored p = Typed p → Gives p → Plain m c S p → IsOut p (factored_inside p)
 
     factored-kept : (p : Pipe) → Factored p
     factored-kept p = by_lower Factored (λ p h t g k. go p h t g k (First p factor_branches) refl) p
       where
-        go : (p : Pipe) → ((q : Pipe) → IsLower q p → Factored q) → Typed p → Gives p → Plain m c S p → (o : Option Pipe) → First p factor_branches ≡ o → IsOut p (factored p)
+        go : (p : Pipe) → ((q : Pipe) → IsLower q p → Factored q) → Typed p → Gives p → Plain m c S p → (o : Option Pipe) → First p factor_branches ≡ o → IsOut p (factored_inside p)
         go p h t g k None e = subst (IsOut p) (sym (factored-left p t k e)) (record { typed = t; gives = g; lowest = inl refl })
         go p h t g k (Some y) e =
             let o = first-out p y t g k e in
             let l = out-lower p y t o in
             let f = h y l (out-typed p y t o) (out-gives p y o g) (out-plain p y t o k) in
-            subst (IsOut p) (out-same p y o) (record { typed = f.typed; gives = f.gives; lowest = inr (lowest-chain (factored y) y p f.lowest l) })
+            subst (IsOut p) (out-same p y o) (record { typed = f.typed; gives = f.gives; lowest = inr (lowest-chain (factored_inside y) y p f.lowest l) })
 
     -- ---- where nothing comes out
 
@@ -300,7 +300,7 @@ module _ (m : Model) (c : Customs) where
             let d : find_map (First p) (drop 9 rules) ≡ None = sym (found-behind (First p) (take 8 rules) (drop 9 rules) h) ∙ e in
             found-behind (First p) (take 8 rules) (drop 8 rules) h ∙ (λ i. first_some (f i) (d i))
 
-    nothing-out : (p : Pipe) → Typed p → Gives p → factored (walk All m c S p) ≡ walk All m c S p → next m c S (walk All m c S p) ≡ None
+    nothing-out : (p : Pipe) → Typed p → Gives p → factored_inside (walk All m c S p) ≡ walk All m c S p → next m c S (walk All m c S p) ≡ None
     nothing-out p t g e = go (First v factor_branches) refl
       where
         v : Pipe
@@ -318,7 +318,7 @@ module _ (m : Model) (c : Customs) where
             let o = first-out v y s.typed (s.gives g) k h in
             let l = out-lower v y s.typed o in
             let f = factored-kept y (out-typed v y s.typed o) (out-gives v y o (s.gives g)) (out-plain v y s.typed o k) in
-            absurd (never-lower v (subst (λ z. IsLower z v) (out-same v y o ∙ e) (lowest-chain (factored y) y v f.lowest l)))
+            absurd (never-lower v (subst (λ z. IsLower z v) (out-same v y o ∙ e) (lowest-chain (factored_inside y) y v f.lowest l)))
 
     walk-round : (p : Pipe) → Typed p → Gives p → IsRound m c S S' p (walk All m c S p)
     walk-round p t g =
@@ -330,12 +330,12 @@ module _ (m : Model) (c : Customs) where
           plan = λ r h. plan-same p v r ((all-kept p t g).walk' ∙ sym ((all-kept v s.typed (s.gives g)).factor (plain-settled v s.typed s.none))) h;
         }
 
-    factor-round : (p : Pipe) → Typed p → Gives p → IsRound m c S S' p (factored (walk All m c S p))
+    factor-round : (p : Pipe) → Typed p → Gives p → IsRound m c S S' p (factored_inside (walk All m c S p))
     factor-round p t g =
         let s = settled p t in
         let v = walk All m c S p in
         let f = factored-kept v s.typed (s.gives g) (plain-settled v s.typed s.none) in
-        record { typed = f.typed; gives = f.gives; plan = λ r h. plan-same p (factored v) r (all-kept p t g).walk' h }
+        record { typed = f.typed; gives = f.gives; plan = λ r h. plan-same p (factored_inside v) r (all-kept p t g).walk' h }
 
 pub walk_keeps_plan : WalkKeepsPlan
 walk_keeps_plan m c S S' p t g = walk-round m c S S' p t g

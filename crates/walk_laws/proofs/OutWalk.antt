@@ -1,5 +1,5 @@
 -- Where a filter comes out of a concatenation of a pipeline, it comes out of that of what the walk by all rules makes of it, and the walks of both come to the same.
-use Rattle.std.proofs.Common.{◌≡◌, refl, sym, ◌∙◌, ap, subst, ℕ, zero, suc, Bool, true, ◌&&◌, List, [], ◌∷◌, ◌++◌, Option, Some, None, IsTrue, append-nil, map, if◌then◌else◌}
+use Rattle.std.proofs.Common.{◌≡◌, refl, sym, ◌∙◌, ap, subst, ℕ, zero, suc, Bool, true, ◌&&◌, List, [], ◌∷◌, ◌++◌, Option, Some, None, IsTrue, append-nil, map, inl, inr, if◌then◌else◌}
 use Rattle.std.specs.Prelude.{option_and_then, slice_get}
 use Rattle.std.specs.Bool.{then_some}
 use Rattle.std.specs.List.{list_all}
@@ -22,6 +22,7 @@ use Rattle.rewrite_laws.proofs.SameTrees.{Begin, rest}
 use Rattle.walk_laws.specs.Walks.{All, Segment, Test, all_steps, front, parts, put_filter, put_filters, put_selection, put_step, put_steps, put_test, selection, settled_branches, settled_step, shape_behind, step_enters, taken, taken_as, tests_passed, walk, whole, without_orders}
 use Rattle.walk_laws.proofs.GivenFilters.{branch-given, given}
 use Rattle.walk_laws.proofs.GivenPlaces.{behind-same, concat-counts, concat-orders, concat-put, concat_with, enters-same, filters_of, first-typed, put-concat}
+use Rattle.walk_laws.proofs.Holes.{filled}
 use Rattle.walk_laws.proofs.OutKeeps.{after-same, branch-typed, deep-typed, lawful-behind, shapes-same, typed-behind}
 use Rattle.walk_laws.proofs.OutPlaces.{Deep, Inside, Out, spliced}
 use Rattle.walk_laws.proofs.SameItself.{step-self}
@@ -78,7 +79,7 @@ record Led (e : Expr) (k1 k2 : List Expr → Pipes) : Type 0 where
 led-more : (e : Expr) (k1 k2 : List Expr → Pipes) (x : Expr) → Led e k1 k2 → Led e (λ es. k1 (x ∷ es)) (λ es. k2 (x ∷ es))
 led-more e k1 k2 x h = record { first = λ es. h.first (x ∷ es); others = λ es. h.others (x ∷ es); some = λ es. h.some (x ∷ es); begin = λ es. h.begin (x ∷ es); rests' = λ es. h.rests' (x ∷ es) }
 
-long-list : (xs : List Step) (s : Step) (ts : List Step) → pipe_or_identity (xs ++ s ∷ ts) ≡ pipe (xs ++ s ∷ ts)
+pub long-list : (xs : List Step) (s : Step) (ts : List Step) → pipe_or_identity (xs ++ s ∷ ts) ≡ pipe (xs ++ s ∷ ts)
 long-list [] s ts = refl
 long-list (x ∷ xs) s ts = refl
 
@@ -112,7 +113,7 @@ module _ (m : Model) (c : Customs) where
 
   -- ---- steps before and behind
 
-  put-append : (S : Shape) (ss ts : List Step) (gs : List Segment) → put_steps All m c S (pipe (ss ++ ts)) gs ≡ put_steps All m c (shape_behind m c S (pipe ss)) (pipe ts) (put_steps All m c S (pipe ss) gs)
+  pub put-append : (S : Shape) (ss ts : List Step) (gs : List Segment) → put_steps All m c S (pipe (ss ++ ts)) gs ≡ put_steps All m c (shape_behind m c S (pipe ss)) (pipe ts) (put_steps All m c S (pipe ss) gs)
   unfolding put_steps
   put-append S [] ts gs = refl
   put-append S (s ∷ ss) ts gs = put-append (after m c S s) ss ts (put_step All m c S s (settled_step All m c S s) gs)
@@ -128,19 +129,19 @@ module _ (m : Model) (c : Customs) where
   behind-identity S (s ∷ l) = refl
 
   -- what the walk makes is typed and put as the pipeline
-  record IsAgain (S S' : Shape) (p q : Pipe) : Type 0 where
-    put : (gs : List Segment) → put_steps All m c S q gs ≡ put_steps All m c S p gs
-    shape : shape_behind m c S q ≡ shape_behind m c S p
-    typed : IsTypedFrom m c S S' q
+  pub record IsAgain (S S' : Shape) (p q : Pipe) : Type 0 where
+    pub put : (gs : List Segment) → put_steps All m c S q gs ≡ put_steps All m c S p gs
+    pub shape : shape_behind m c S q ≡ shape_behind m c S p
+    pub typed : IsTypedFrom m c S S' q
 
-  again : (S S' : Shape) (p : Pipe) → IsTypedFrom m c S S' p → IsAgain S S' p (walk All m c S p)
+  pub again : (S S' : Shape) (p : Pipe) → IsTypedFrom m c S S' p → IsAgain S S' p (walk All m c S p)
   again S S' p t =
       walked All m c S S' (IsAgain S S')
       (λ p t e. record { put = λ gs. refl; shape = refl; typed = t })
       (λ p q r t e h. let k = next-alike All m c S S' p t q e in record { put = λ gs. h.put gs ∙ k.0 gs; shape = h.shape ∙ k.1; typed = h.typed }) p t
 
   -- so are steps of which it is made, or none
-  again-steps : (S T : Shape) (ss : List Step) → IsTrue (customs_typed m c) → IsTrue (is_lawful m S) → steps_shape m c S (pipe ss) ≡ Some T
+  pub again-steps : (S T : Shape) (ss : List Step) → IsTrue (customs_typed m c) → IsTrue (is_lawful m S) → steps_shape m c S (pipe ss) ≡ Some T
       → (put_steps All m c S (pipe (all_steps (put_steps All m c S (pipe ss) front))) front ≡ put_steps All m c S (pipe ss) front) × (shape_behind m c S (pipe (all_steps (put_steps All m c S (pipe ss) front))) ≡ T)
   unfolding put_steps steps_shape
   again-steps S T [] k l e = (refl, behind-typed m c S T Pipe.End e)
@@ -153,7 +154,7 @@ module _ (m : Model) (c : Customs) where
 
   -- ---- the walks
 
-  out-walk : (S S' : Shape) (p y : Pipe) → IsTypedFrom m c S S' p → Out m c S p y → (u : Pipe) × Out m c S (walk All m c S p) u × (walk All m c S u ≡ walk All m c S y)
+  pub out-walk : (S S' : Shape) (p y : Pipe) → IsTypedFrom m c S S' p → Out m c S p y → (u : Pipe) × Out m c S (walk All m c S p) u × (walk All m c S u ≡ walk All m c S y)
   unfolding put_steps steps_shape
   out-walk S S' p y t o = (made, out, same)
     where
@@ -282,7 +283,7 @@ module _ (m : Model) (c : Customs) where
   -- ---- a branch in which a filter comes out
 
   -- a pipeline with filters at its end
-  abbrev with_filters : Pipe → List Expr → Pipe
+  abbrev pub with_filters : Pipe → List Expr → Pipe
   with_filters p es = pipe (steps p ++ map Step.Filter es)
 
   filters-put : (T : Shape) (es : List Expr) (gs : List Segment) → put_steps All m c T (pipe (map Step.Filter es)) gs ≡ put_filters m T es gs
@@ -291,15 +292,18 @@ module _ (m : Model) (c : Customs) where
   filters-put T (e ∷ es) gs = one-filter All m c T e (pipe (map Step.Filter es)) gs ∙ filters-put T es (put_filter m T e gs)
 
   -- a branch that filters go into is walked as one that has them
-  abbrev entered' : Shape → List Expr → Pipe → Pipe
+  abbrev pub entered' : Shape → List Expr → Pipe → Pipe
   entered' T es p = whole (put_filters m (shape_behind m c T p) es (put_steps All m c T p front))
 
-  entered-walk : (T : Shape) (p : Pipe) (es : List Expr) → entered' T es p ≡ walk All m c T (with_filters p es)
-  entered-walk T p es =
-      ap whole (sym (put-append T (steps p) (map Step.Filter es) front ∙ (λ i. put_steps All m c (shape_behind m c T (pipe-steps p i)) (pipe (map Step.Filter es)) (put_steps All m c T (pipe-steps p i) front)) ∙ filters-put (shape_behind m c T p) es (put_steps All m c T p front)))
+  pub entered-put : (T : Shape) (p : Pipe) (es : List Expr) → put_filters m (shape_behind m c T p) es (put_steps All m c T p front) ≡ put_steps All m c T (with_filters p es) front
+  entered-put T p es =
+      sym (put-append T (steps p) (map Step.Filter es) front ∙ (λ i. put_steps All m c (shape_behind m c T (pipe-steps p i)) (pipe (map Step.Filter es)) (put_steps All m c T (pipe-steps p i) front)) ∙ filters-put (shape_behind m c T p) es (put_steps All m c T p front))
+
+  pub entered-walk : (T : Shape) (p : Pipe) (es : List Expr) → entered' T es p ≡ walk All m c T (with_filters p es)
+  entered-walk T p es = ap whole (entered-put T p es)
 
   -- filters that are typed on a shape
-  abbrev AreTyped : Shape → List Expr → Type 0
+  abbrev pub AreTyped : Shape → List Expr → Type 0
   AreTyped R es = Each (λ e. step_shape m c R (Step.Filter e) ≡ Some R) es
 
   filters-typed : (R : Shape) (es : List Expr) → AreTyped R es → steps_shape m c R (pipe (map Step.Filter es)) ≡ Some R
@@ -307,11 +311,11 @@ module _ (m : Model) (c : Customs) where
   filters-typed R [] a = refl
   filters-typed R (e ∷ es) a = ap (option_and_then (λ Z. steps_shape m c Z (pipe (map Step.Filter es)))) a.0 ∙ filters-typed R es a.1
 
-  long-with : (p : Pipe) (ts : List Step) → is_long p ≡ true → is_long (pipe (steps p ++ ts)) ≡ true
+  pub long-with : (p : Pipe) (ts : List Step) → is_long p ≡ true → is_long (pipe (steps p ++ ts)) ≡ true
   long-with Pipe.End ts h = cc
   long-with (Pipe.Then s p) ts h = refl
 
-  with-typed : (T R : Shape) (p : Pipe) (es : List Expr) → IsTypedFrom m c T R p → AreTyped R es → IsTypedFrom m c T R (with_filters p es)
+  pub with-typed : (T R : Shape) (p : Pipe) (es : List Expr) → IsTypedFrom m c T R p → AreTyped R es → IsTypedFrom m c T R (with_filters p es)
   with-typed T R p es t a = record {
     customs = t.customs;
     lawful = t.lawful;
@@ -322,13 +326,13 @@ module _ (m : Model) (c : Customs) where
   }
 
   -- more steps behind
-  behind-more : (p : Pipe) (ahead : List Step) (s : Step) (zs ts : List Step) → p ≡ pipe (ahead ++ s ∷ zs) → pipe (steps p ++ ts) ≡ pipe (ahead ++ s ∷ (zs ++ ts))
+  pub behind-more : (p : Pipe) (ahead : List Step) (s : Step) (zs ts : List Step) → p ≡ pipe (ahead ++ s ∷ zs) → pipe (steps p ++ ts) ≡ pipe (ahead ++ s ∷ (zs ++ ts))
   behind-more p ahead s zs ts e = ap (λ p. pipe (steps p ++ ts)) e ∙ ap (λ l. pipe (l ++ ts)) (steps-pipe (ahead ++ s ∷ zs)) ∙ ap pipe (append_assoc ahead (s ∷ zs) ts)
 
-  behind-two : (p : Pipe) (ahead : List Step) (r s : Step) (zs ts : List Step) → p ≡ pipe (ahead ++ r ∷ s ∷ zs) → pipe (steps p ++ ts) ≡ pipe (ahead ++ r ∷ s ∷ (zs ++ ts))
+  pub behind-two : (p : Pipe) (ahead : List Step) (r s : Step) (zs ts : List Step) → p ≡ pipe (ahead ++ r ∷ s ∷ zs) → pipe (steps p ++ ts) ≡ pipe (ahead ++ r ∷ s ∷ (zs ++ ts))
   behind-two p ahead r s zs ts e = ap (λ p. pipe (steps p ++ ts)) e ∙ ap (λ l. pipe (l ++ ts)) (steps-pipe (ahead ++ r ∷ s ∷ zs)) ∙ ap pipe (append_assoc ahead (r ∷ s ∷ zs) ts)
 
-  deep-more : (n : ℕ) (T : Shape) (p q : Pipe) (es : List Expr) → Deep m c n T p q → Deep m c n T (with_filters p es) (with_filters q es)
+  pub deep-more : (n : ℕ) (T : Shape) (p q : Pipe) (es : List Expr) → Deep m c n T p q → Deep m c n T (with_filters p es) (with_filters q es)
   deep-more zero T p q es o = record {
     ahead = o.ahead;
     expr = o.expr;
@@ -340,7 +344,18 @@ module _ (m : Model) (c : Customs) where
     begin = o.begin;
     one = o.one;
   }
-  deep-more (suc n) T p q es o = record {
+  deep-more (suc n) T p q es (inr o) = inr (record {
+    ahead = o.ahead;
+    hole = o.hole;
+    was = o.was;
+    now = o.now;
+    behind = o.behind ++ map Step.Filter es;
+    there = o.there;
+    from = behind-more p o.ahead (filled o.hole o.was) o.behind (map Step.Filter es) o.from;
+    into = behind-more q o.ahead (filled o.hole o.now) o.behind (map Step.Filter es) o.into;
+    within = o.within;
+  })
+  deep-more (suc n) T p q es (inl o) = inl (record {
     ahead = o.ahead;
     left = o.left;
     was = o.was;
@@ -350,7 +365,7 @@ module _ (m : Model) (c : Customs) where
     from = behind-more p o.ahead (Step.Concat (spliced o.left o.was o.right)) o.behind (map Step.Filter es) o.from;
     into = behind-more q o.ahead (Step.Concat (spliced o.left o.now o.right)) o.behind (map Step.Filter es) o.into;
     within = o.within;
-  }
+  })
 
   -- ---- concatenations that differ in one branch
 
@@ -414,7 +429,7 @@ module _ (m : Model) (c : Customs) where
   }
 
   module _ (n : ℕ) (ih : (T R : Shape) (p y : Pipe) → IsTypedFrom m c T R p → Deep m c n T p y → (u : Pipe) × Deep m c n T (walk All m c T p) u × (walk All m c T u ≡ walk All m c T y)) where
-    inside-walk : (S S' : Shape) (p y : Pipe) → IsTypedFrom m c S S' p → Inside m c (Deep m c n) S p y → (u : Pipe) × Inside m c (Deep m c n) S (walk All m c S p) u × (walk All m c S u ≡ walk All m c S y)
+    pub inside-walk : (S S' : Shape) (p y : Pipe) → IsTypedFrom m c S S' p → Inside m c (Deep m c n) S p y → (u : Pipe) × Inside m c (Deep m c n) S (walk All m c S p) u × (walk All m c S u ≡ walk All m c S y)
     unfolding put_steps steps_shape
     inside-walk S S' p y t o = (made, out, same)
       where
@@ -564,7 +579,3 @@ module _ (m : Model) (c : Customs) where
             ∙ (again T S' W typed-W).put a
             ∙ sym (put-append S A (Step.Concat qs ∷ zs) front))
             ∙ sym (ap (λ p. whole (put_steps All m c S p front)) o.into)
-
-  pub deep-walk : (n : ℕ) (S S' : Shape) (p y : Pipe) → IsTypedFrom m c S S' p → Deep m c n S p y → (u : Pipe) × Deep m c n S (walk All m c S p) u × (walk All m c S u ≡ walk All m c S y)
-  deep-walk zero S S' p y t o = out-walk S S' p y t o
-  deep-walk (suc n) S S' p y t o = inside-walk n (deep-walk n) S S' p y t o

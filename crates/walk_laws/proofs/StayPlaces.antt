@@ -1,5 +1,5 @@
 -- What a rule but the ninth makes of a typed pipeline, at whatever place, keeps that filters stay before the concatenation that gives them, where what it makes at its place does.
-use Rattle.std.proofs.Common.{◌≡◌, refl, sym, ◌∙◌, ap, Bool, true, false, not, ◌||◌, Option, Some, None, IsTrue, if◌then◌else◌}
+use Rattle.std.proofs.Common.{◌≡◌, refl, sym, ◌∙◌, ap, Bool, true, ◌&&◌, false, not, ◌||◌, Option, Some, None, IsTrue, if◌then◌else◌}
 use Rattle.std.specs.Prelude.{option_and_then}
 use Rattle.std.proofs.lemmas.Bool.{and_from, and_parts, true≢false}
 use Rattle.edm_values.proofs.EachLemmas.{Each}
@@ -12,8 +12,10 @@ use Rattle.context_typing.specs.TypingLaws.{TypingKeepsLawful}
 use Rattle.rewrite_laws.specs.Rewrites.{Rule, pipe_results}
 use Rattle.rewrite_laws.specs.RewriteLaws.{KeepsOutcomeInPlace}
 use Rattle.rewrite_laws.proofs.EachPlace.{Respected, pipe_each}
-use Rattle.walk_laws.specs.Apart.{branches_apart, inner_apart, is_firm, is_loose, key_apart, keys_apart, leads_to, stays_apart}
-use Rattle.walk_laws.specs.FiltersOut.{branches_give, front_of, gives_alone, has_own_front, is_stop, may_give, some_beside, some_own}
+use Rattle.walk_laws.specs.Apart.{branches_apart, inner_apart, is_firm, is_loose, key_apart, keys_apart, leads_to, some_never, stays_apart}
+use Rattle.walk_laws.specs.FiltersOut.{branches_give, front_of, gives_alone, gives_no_other, has_own_front, inner_gives, is_stop, key_gives, keys_give, lasting_kind, lasts, may_give, solid_kind, some_beside, some_lasting, some_own}
+use Rattle.edm_values.specs.Lists.{is_some_and}
+use Rattle.walk_laws.proofs.Lasting.{lasting-among, lasting-behind, lasting-kept}
 use Rattle.walk_laws.proofs.ApartPlaces.{kept-respected}
 use Rattle.walk_laws.proofs.ApartRules.{KeepsApart}
 use Rattle.walk_laws.proofs.ApartSteps.{KeptBranches, KeptStep, KeptSteps}
@@ -25,11 +27,14 @@ record StayStep (s s' : Step) : Type 0 where
   tight' : is_loose s' ≡ false
   stop : is_stop s' ≡ is_stop s
   gives : (a : Bool) → gives_alone a s ≡ true → gives_alone a s' ≡ true
+  kind : solid_kind s' ≡ solid_kind s
+  ends : (p : Pipe) → lasts (Pipe.Then s' p) ≡ lasts (Pipe.Then s p)
 
 -- branches come to others
 record StayBranches (ps qs : Pipes) : Type 0 where
   beside : (x : Step) → is_firm x ≡ true → is_loose x ≡ false → some_beside x ps ≡ true → some_beside x qs ≡ true
   own : (all : Pipes) → some_own all ps ≡ true → some_own all qs ≡ true
+  lasting : (all : Pipes) → some_lasting all ps ≡ true → some_lasting all qs ≡ true
   give : (a : Bool) → branches_give a ps ≡ true → branches_give a qs ≡ true
 
 -- with what keeps branches apart
@@ -42,14 +47,23 @@ BothStep s s' = KeptStep s s' × StayStep s s'
 abbrev BothBranches : Pipes → Pipes → Type 0
 BothBranches ps qs = KeptBranches ps qs × StayBranches ps qs
 
+abbrev ApartInner : OptPipe → OptPipe → Type 0
+ApartInner T T' = inner_apart T ≡ true → inner_apart T' ≡ true
+
 abbrev KeptInner : OptPipe → OptPipe → Type 0
-KeptInner T T' = inner_apart T ≡ true → inner_apart T' ≡ true
+KeptInner T T' = ApartInner T T' × (inner_gives T ≡ true → inner_gives T' ≡ true)
+
+abbrev ApartKey : Key → Key → Type 0
+ApartKey k k' = key_apart k ≡ true → key_apart k' ≡ true
+
+abbrev ApartKeys : Keys → Keys → Type 0
+ApartKeys ks ks' = keys_apart ks ≡ true → keys_apart ks' ≡ true
 
 abbrev KeptKey : Key → Key → Type 0
-KeptKey k k' = key_apart k ≡ true → key_apart k' ≡ true
+KeptKey k k' = ApartKey k k' × (key_gives k ≡ true → key_gives k' ≡ true)
 
 abbrev KeptKeys : Keys → Keys → Type 0
-KeptKeys ks ks' = keys_apart ks ≡ true → keys_apart ks' ≡ true
+KeptKeys ks ks' = ApartKeys ks ks' × (keys_give ks ≡ true → keys_give ks' ≡ true)
 
 -- a front is no filter
 front-tight : (p : Pipe) (x : Step) → front_of p ≡ Some x → is_loose x ≡ false
@@ -74,6 +88,10 @@ stay-with_step s s' p k = record {
   bare = λ h. none_or s (sym h ∙ front-first s p k.1.tight);
   front = λ x g h. absurd (true≢false (sym g ∙ ap is_firm (some_value (sym h ∙ front-first s p k.1.tight)) ∙ k.0.soft));
   stay = λ a b. with-first s s' p p a b k.1.stop (k.1.tight' ∙ sym k.1.tight) (k.1.gives a) k.0.apart (λ y h. h);
+  last = record {
+    ends = λ h. k.1.ends p ∙ h;
+    kind = λ x h g. ap (option_and_then solid_kind) (front-first s' p k.1.tight') ∙ k.1.kind ∙ sym (ap (option_and_then solid_kind) (front-first s p k.1.tight)) ∙ g;
+  };
 }
 
 stay-with_rest : (s : Step) (p q : Pipe) → BothSteps p q → StaySteps (Pipe.Then s p) (Pipe.Then s q)
@@ -81,6 +99,7 @@ stay-with_rest s p q k = record {
   bare = bare (is_loose s);
   front = λ x g. front (is_loose s) x g;
   stay = λ a b. with-first s s p q a b refl refl (λ h. h) (λ h. h) (k.1.stay a);
+  last = lasting-behind s p q k.1.last;
 }
   where
     bare : (l : Bool) → (if l then front_of p else Some s) ≡ None → (if l then front_of q else Some s) ≡ None
@@ -95,6 +114,9 @@ stay-with_branch : (p q : Pipe) (ps : Pipes) → BothSteps p q → StayBranches 
 stay-with_branch p q ps k = record {
   beside = λ x f l. or_both (not (leads_to x p)) (some_beside x ps) (not (leads_to x q)) (some_beside x ps) (λ h. ap not (k.0.leads x f l) ∙ h) (λ h. h);
   own = λ all. or_both (has_own_front all (front_of p)) (some_own all ps) (has_own_front all (front_of q)) (some_own all ps) (go all (front_of p) k.1.bare k.1.front) (λ h. h);
+  lasting = λ all.
+      or_both (is_some_and (λ x. some_never x all) (lasting_kind p)) (some_lasting all ps) (is_some_and (λ x. some_never x all) (lasting_kind q)) (some_lasting all ps)
+      (lasting-kept (λ x. some_never x all) p q k.1.last) (λ h. h);
   give = give;
 }
   where
@@ -110,6 +132,8 @@ stay-with_other_branches : (p : Pipe) (ps qs : Pipes) → BothBranches ps qs →
 stay-with_other_branches p ps qs k = record {
   beside = λ x f l. or_both (not (leads_to x p)) (some_beside x ps) (not (leads_to x p)) (some_beside x qs) (λ h. h) (k.1.beside x f l);
   own = λ all. or_both (has_own_front all (front_of p)) (some_own all ps) (has_own_front all (front_of p)) (some_own all qs) (λ h. h) (k.1.own all);
+  lasting = λ all.
+      or_both (is_some_and (λ x. some_never x all) (lasting_kind p)) (some_lasting all ps) (is_some_and (λ x. some_never x all) (lasting_kind p)) (some_lasting all qs) (λ h. h) (k.1.lasting all);
   give = give;
 }
   where
@@ -122,28 +146,32 @@ stay-with_branches ps qs k = record {
   tight = refl;
   tight' = refl;
   stop = refl;
-  gives = λ a. and_both (some_own ps ps) (branches_give a ps) (some_own qs qs) (branches_give a qs) (λ h. own-among qs ps qs k.1.beside (k.1.own ps h)) (k.1.give a);
+  gives = λ a.
+      and_both (gives_no_other ps) (branches_give a ps) (gives_no_other qs) (branches_give a qs)
+      (or_both (some_own ps ps) (some_lasting ps ps) (some_own qs qs) (some_lasting qs qs) (λ h. own-among qs ps qs k.1.beside (k.1.own ps h)) (λ h. lasting-among qs ps qs k.0.never (k.1.lasting ps h))) (k.1.give a);
+  kind = refl;
+  ends = λ p. refl;
 }
 
 module _ (m : Model) (c : Customs) where
-  R : Respected m c (λ S. KeptSteps) (λ S. KeptStep) (λ S. KeptInner) (λ S. KeptBranches) KeptKey KeptKeys
+  R : Respected m c (λ S. KeptSteps) (λ S. KeptStep) (λ S. ApartInner) (λ S. KeptBranches) ApartKey ApartKeys
   R = kept-respected m c
 
   both-respected : Respected m c (λ S. BothSteps) (λ S. BothStep) (λ S. KeptInner) (λ S. BothBranches) KeptKey KeptKeys
   both-respected = record {
     with_step = λ S s s' p k. (R.with_step S s s' p k.0, stay-with_step s s' p k);
     with_rest = λ S S' s p q law e k. (R.with_rest S S' s p q law e k.0, stay-with_rest s p q k);
-    with_inner = λ S p q l l' k. R.with_inner S p q l l' k.0;
+    with_inner = λ S p q l l' k. (R.with_inner S p q l l' k.0, k.1.stay true true);
     with_branch = λ S p q ps l l' k. (R.with_branch S p q ps l l' k.0, stay-with_branch p q ps k);
     with_other_branches = λ S p ps qs k. (R.with_other_branches S p ps qs k.0, stay-with_other_branches p ps qs k);
-    with_group_keys = λ S ks ks' T k. (R.with_group_keys S ks ks' T k, record { tight = refl; tight' = refl; stop = refl; gives = λ a h. h });
-    with_group_inner = λ S ks T T' k. (R.with_group_inner S ks T T' k, record { tight = refl; tight' = refl; stop = refl; gives = λ a h. h });
+    with_group_keys = λ S ks ks' T k. (R.with_group_keys S ks ks' T k.0, record { tight = refl; tight' = refl; stop = refl; kind = refl; ends = λ p. refl; gives = λ a. and_both a (keys_give ks && inner_gives T) a (keys_give ks' && inner_gives T) (λ h. h) (and_both (keys_give ks) (inner_gives T) (keys_give ks') (inner_gives T) k.1 (λ h. h)) });
+    with_group_inner = λ S ks T T' k. (R.with_group_inner S ks T T' k.0, record { tight = refl; tight' = refl; stop = refl; kind = refl; ends = λ p. refl; gives = λ a. and_both a (keys_give ks && inner_gives T) a (keys_give ks && inner_gives T') (λ h. h) (and_both (keys_give ks) (inner_gives T) (keys_give ks) (inner_gives T') (λ h. h) k.1) });
     with_branches = λ S ps qs k. (R.with_branches S ps qs k.0, stay-with_branches ps qs k);
-    with_join = λ S outer n a v T T' e k. (R.with_join S outer n a v T T' e k, record { tight = refl; tight' = refl; stop = refl; gives = λ a h. h });
-    with_climb = λ S up h p T T' d keep l l' k. (R.with_climb S up h p T T' d keep l l' k.0, record { tight = refl; tight' = refl; stop = refl; gives = λ a h. h });
-    with_recursive = λ h f p T T' e k. R.with_recursive h f p T T' e k;
-    with_key = R.with_key;
-    with_keys = R.with_keys;
+    with_join = λ S outer n a v T T' e k. (R.with_join S outer n a v T T' e k.0, record { tight = refl; tight' = refl; stop = refl; kind = refl; ends = λ p. refl; gives = λ a. and_both a (inner_gives T) a (inner_gives T') (λ h. h) k.1 });
+    with_climb = λ S up h p T T' d keep l l' k. (R.with_climb S up h p T T' d keep l l' k.0, record { tight = refl; tight' = refl; stop = refl; kind = refl; ends = λ p. refl; gives = λ a. and_both a (may_give true true T) a (may_give true true T') (λ h. h) (k.1.stay true true) });
+    with_recursive = λ h f p T T' e k. (R.with_recursive h f p T T' e k.0, k.1);
+    with_key = λ k k' ks f. (R.with_key k k' ks f.0, and_both (key_gives k) (keys_give ks) (key_gives k') (keys_give ks) f.1 (λ h. h));
+    with_keys = λ k ks ks' f. (R.with_keys k ks ks' f.0, and_both (key_gives k) (keys_give ks) (key_gives k) (keys_give ks') (λ h. h) f.1);
   }
 
   -- what a rule makes of a typed pipeline keeps that filters stay

@@ -8,21 +8,22 @@ use Rattle.edm_values.specs.Lists.{is_nonempty, is_some_and}
 use Rattle.edm_values.specs.Literals.{is_boolean_kind}
 use Rattle.edm_values.proofs.OptionFacts.{chained, if_else-parts, if_some, mapped, none_or, some_value, then_some-parts}
 use Rattle.edm_model.specs.Models.{Model}
-use Rattle.apply_ast.specs.Trees.{Expr, Limit, Pipe, Pipes, Step, TopStep, pipe, steps}
+use Rattle.apply_ast.specs.Trees.{Expr, Key, Keys, Limit, OptPipe, Pipe, Pipes, Step, TopStep, pipe, steps}
 use Rattle.apply_ast.specs.Views.{pipes_from}
 use Rattle.apply_ast.specs.declared.expressions.BinOp.TheVariants as BinOp
 use Rattle.context_typing.specs.Paths.{begins}
 use Rattle.context_typing.specs.Shapes.{Shape}
 use Rattle.context_typing.specs.Typing.{Customs, RollupPart, after, group_keys, has_kind, is_nodes, is_risky, is_sure, order_sure, rollup_part, steps_shape}
 use Rattle.context_typing.proofs.WalkFacts.{pipe-steps}
-use Rattle.rewrite_laws.specs.Rewrites.{Rule, all_but_last, behind, branches, concat, drop_identity, drop_idle, drop_order, drop_true, ended, ended_inner, ended_keys, filter_branches, filter_nodes, filter_related, grouping_quiet, is_among, is_idle, join_counts, join_quiet, movable, node_shape, on_node, over, pass_compute, pass_grouping, pass_join, pass_order, pass_outer_join, pass_traverse, passing, paths, pipe_or_identity, split_conjunction, top_count, with_paths}
+use Rattle.rewrite_laws.specs.Rewrites.{Rule, all_but_last, behind, branches, concat, drop_identity, drop_idle, drop_order, drop_true, ended, ended_inner, ended_key, ended_keys, filter_branches, filter_nodes, filter_related, grouping_quiet, is_among, is_idle, join_counts, join_quiet, movable, node_shape, on_node, over, pass_compute, pass_grouping, pass_join, pass_order, pass_outer_join, pass_traverse, passing, paths, pipe_or_identity, split_conjunction, top_count, with_paths}
 use Rattle.rewrite_laws.specs.TreeEquality.{expr_same}
 use Rattle.rewrite_laws.proofs.GroupingRules.{row_keys}
 use Rattle.rewrite_laws.proofs.NodeRule.{node_taken, node_test}
 use Rattle.rewrite_laws.proofs.RuleLemmas.{filters, movable-found, pipe-filters}
 use Rattle.rewrite_laws.proofs.StepLists.{last-split}
-use Rattle.walk_laws.specs.Apart.{inner_apart, is_firm, is_loose, leads_to, stays_apart, step_apart}
-use Rattle.walk_laws.specs.FiltersOut.{branches_give, front_of, gives_alone, has_own_front, is_stop, may_give, some_beside, some_own, stays_behind}
+use Rattle.walk_laws.specs.Apart.{inner_apart, is_aggregate, is_firm, is_loose, leads_to, may_go, some_never, stays_apart, step_apart}
+use Rattle.walk_laws.specs.FiltersOut.{branches_give, front_of, gives_alone, gives_no_other, has_own_front, inner_gives, is_stop, key_gives, keys_give, lasting_kind, lasts, may_give, solid_kind, some_beside, some_lasting, some_own, stays_behind}
+use Rattle.walk_laws.proofs.Lasting.{Lasting, lasting-among, lasting-kept, lasts-filters}
 use Rattle.walk_laws.proofs.ApartSteps.{apart-appended, apart-ended_inner, apart-ended_keys, apart-identity, concat-apart, ended-kept, leads-behind}
 
 pub or_both : (a b c d : Bool) → (a ≡ true → c ≡ true) → (b ≡ true → d ≡ true) → (a || b) ≡ true → (c || d) ≡ true
@@ -38,6 +39,7 @@ pub record StaySteps (p q : Pipe) : Type 0 where
   pub bare : front_of p ≡ None → front_of q ≡ None
   pub front : (x : Step) → is_firm x ≡ true → front_of p ≡ Some x → front_of q ≡ Some x
   pub stay : (a b : Bool) → may_give a b p ≡ true → may_give a b q ≡ true
+  pub last : Lasting p q
 
 -- so do what a rule makes of steps
 abbrev pub KeepsStay : Model → Customs → Rule → Type 0
@@ -57,12 +59,13 @@ stay-filters a b [] p = refl
 stay-filters a b (e ∷ es) p = stay-filter a b e (filters es p) ∙ stay-filters a b es p
 
 -- the same first step
-same-front : (p q : Pipe) → front_of q ≡ front_of p → ((a b : Bool) → may_give a b p ≡ true → may_give a b q ≡ true) → StaySteps p q
-same-front p q e f = record { bare = λ h. e ∙ h; front = λ x g h. e ∙ h; stay = f }
+same-front : (p q : Pipe) → front_of q ≡ front_of p → (lasts p ≡ true → lasts q ≡ true) → ((a b : Bool) → may_give a b p ≡ true → may_give a b q ≡ true) → StaySteps p q
+same-front p q e l f = record { bare = λ h. e ∙ h; front = λ x g h. e ∙ h; stay = f; last = record { ends = l; kind = λ k h g. ap (option_and_then solid_kind) e ∙ g } }
 
 -- a first step that rules change
-soft-front : (s : Step) (p q : Pipe) → is_loose s ≡ false → is_firm s ≡ false → ((a b : Bool) → may_give a b (Pipe.Then s p) ≡ true → may_give a b q ≡ true) → StaySteps (Pipe.Then s p) q
-soft-front s p q l soft f = record {
+soft-front : (s : Step) (p q : Pipe) → is_loose s ≡ false → is_firm s ≡ false → Lasting (Pipe.Then s p) q → ((a b : Bool) → may_give a b (Pipe.Then s p) ≡ true → may_give a b q ≡ true) → StaySteps (Pipe.Then s p) q
+soft-front s p q l soft last f = record {
+  last = last;
   bare = λ h. none_or s (sym h ∙ front-first s p l);
   front = λ x g h. absurd (true≢false (sym g ∙ ap is_firm (some_value (sym h ∙ front-first s p l)) ∙ soft));
   stay = f;
@@ -90,14 +93,15 @@ passing-stay m T test x ss ss' tight got =
     let K : Pipe → Type 0 = λ z. StaySteps (Pipe.Then x z) (pipe ss') in
     subst K (sym from) (subst (StaySteps (Pipe.Then x was)) (sym into)
     (same-front (Pipe.Then x was) (Pipe.Then (Step.Filter b) (Pipe.Then x (filters es p))) (front-first x (filters es p) tight ∙ sym (front-first x was tight))
+    (λ h. ap (λ z. if may_go x then z else not (is_aggregate x)) (lasts-filters es p ∙ sym (lasts-filters es (Pipe.Then (Step.Filter b) p))) ∙ h)
     (λ a z h. stay-filter a z b (Pipe.Then x (filters es p)) ∙ with-first x x was (filters es p) a z refl refl (λ h. h) (λ h. h)
     (λ y h. stay-filters a y es p ∙ sym (stay-filter a y b p) ∙ sym (stay-filters a y es (Pipe.Then (Step.Filter b) p)) ∙ h) h)))
 
 -- a filter that goes in
 taking-stay : (m : Model) (T : Shape) (test : Expr → Bool) (x : Step) (into : Expr → Step) (ss ss' : List Step) → is_loose x ≡ false → is_firm x ≡ false → option_map (λ r. behind (into r.last) r) (find (λ r. test r.last) (movable m T ss)) ≡ Some ss'
     → ((b : Expr) → is_stop (into b) ≡ is_stop x) → ((b : Expr) → is_loose (into b) ≡ is_loose x) → ((a : Bool) (b : Expr) → gives_alone a x ≡ true → gives_alone a (into b) ≡ true) → ((b : Expr) → step_apart x ≡ true → step_apart (into b) ≡ true)
-    → StaySteps (pipe (x ∷ ss)) (pipe ss')
-taking-stay m T test x into ss ss' tight soft got stop loose gives inside =
+    → ((b : Expr) → (solid_kind (into b) ≡ solid_kind x) × ((p : Pipe) → lasts (Pipe.Then (into b) p) ≡ true)) → StaySteps (pipe (x ∷ ss)) (pipe ss')
+taking-stay m T test x into ss ss' tight soft got stop loose gives inside kinds =
     let t = mapped (λ r. behind (into r.last) r) (find (λ r. test r.last) (movable m T ss)) ss' got in
     let r = movable-found m T test ss t.0 t.1 in
     let es = (t.0).between in
@@ -109,6 +113,10 @@ taking-stay m T test x into ss ss' tight soft got stop loose gives inside =
     let K : Pipe → Type 0 = λ z. StaySteps (Pipe.Then x z) (pipe ss') in
     subst K (sym from) (subst (StaySteps (Pipe.Then x was)) (sym to)
     (soft-front x was (Pipe.Then (into b) (filters es p)) tight soft
+    (record {
+      ends = λ h. (kinds b).1 (filters es p);
+      kind = λ k h g. ap (option_and_then solid_kind) (front-first (into b) (filters es p) (loose b ∙ tight)) ∙ (kinds b).0 ∙ sym (ap (option_and_then solid_kind) (front-first x was tight)) ∙ g;
+    })
     (λ a z h. with-first x (into b) was (filters es p) a z (stop b) (loose b) (gives a b) (inside b)
     (λ y h. stay-filters a y es p ∙ sym (stay-filter a y b p) ∙ sym (stay-filters a y es (Pipe.Then (Step.Filter b) p)) ∙ h) h)))
 
@@ -141,9 +149,33 @@ own-ended : (ps all : Pipes) (e : Expr) → some_own all (all_ended ps e) ≡ so
 own-ended Pipes.NoPipes all e = refl
 own-ended (Pipes.MorePipes p ps) all e = λ i. has_own_front all (front-ended p e i) || own-ended ps all e i
 
+lasts-ended : (p : Pipe) (e : Expr) → lasts (ended p (Step.Filter e)) ≡ lasts p
+lasts-ended Pipe.End e = refl
+lasts-ended (Pipe.Then s p) e = ap (λ z. if may_go s then z else not (is_aggregate s)) (lasts-ended p e)
+
+lasting-ended : (ps all : Pipes) (e : Expr) → some_lasting all ps ≡ true → some_lasting all (all_ended ps e) ≡ true
+lasting-ended Pipes.NoPipes all e h = h
+lasting-ended (Pipes.MorePipes p ps) all e h =
+    or_both (is_some_and (λ x. some_never x all) (lasting_kind p)) (some_lasting all ps) (is_some_and (λ x. some_never x all) (lasting_kind (ended p (Step.Filter e)))) (some_lasting all (all_ended ps e))
+    (lasting-kept (λ x. some_never x all) p (ended p (Step.Filter e)) (record { ends = λ h. lasts-ended p e ∙ h; kind = λ k h g. ap (option_and_then solid_kind) (front-ended p e) ∙ g }))
+    (lasting-ended ps all e) h
+
 may-ended : (a b : Bool) (p : Pipe) (e : Expr) → may_give a b (ended p (Step.Filter e)) ≡ may_give a b p
 may-ended a b Pipe.End e = stay-filter a b e Pipe.End
 may-ended a b (Pipe.Then s p) e = ap (λ z. (step_apart s || ((a || b) && gives_alone a s)) && z) (may-ended a (stays_behind b s) p e)
+
+inner-ended : (T : OptPipe) (e : Expr) → inner_gives (ended_inner T (Step.Filter e)) ≡ inner_gives T
+inner-ended OptPipe.NoPipe e = refl
+inner-ended (OptPipe.SomePipe p) e = may-ended true true p e
+
+key-ended : (k : Key) (e : Expr) → key_gives (ended_key (Step.Filter e) k) ≡ key_gives k
+key-ended (Key.Plain p) e = refl
+key-ended (Key.Rollup all ps) e = refl
+key-ended (Key.Recursive h p T) e = inner-ended T e
+
+keys-ended : (ks : Keys) (e : Expr) → keys_give (ended_keys (Step.Filter e) ks) ≡ keys_give ks
+keys-ended Keys.NoKeys e = refl
+keys-ended (Keys.MoreKeys k ks) e = λ i. key-ended k e i && keys-ended ks e i
 
 give-ended : (a : Bool) (ps : Pipes) (e : Expr) → branches_give a ps ≡ true → branches_give a (all_ended ps e) ≡ true
 give-ended false ps e h = (ended-kept ps e).apart h
@@ -153,9 +185,21 @@ give-ended true (Pipes.MorePipes p ps) e h =
 
 gives-ended : (a : Bool) (ps : Pipes) (e : Expr) → gives_alone a (Step.Concat ps) ≡ true → gives_alone a (Step.Concat (all_ended ps e)) ≡ true
 gives-ended a ps e =
-    and_both (some_own ps ps) _ (some_own (all_ended ps e) (all_ended ps e)) _
+    and_both (gives_no_other ps) _ (gives_no_other (all_ended ps e)) _
+    (or_both (some_own ps ps) (some_lasting ps ps) (some_own (all_ended ps e) (all_ended ps e)) (some_lasting (all_ended ps e) (all_ended ps e))
     (λ h. own-ended ps (all_ended ps e) e ∙ own-same ps ps (all_ended ps e) (λ x. beside-ended x ps e) ∙ h)
+    (λ h. lasting-among (all_ended ps e) ps (all_ended ps e) (ended-kept ps e).never (lasting-ended ps ps e h)))
     (give-ended a ps e)
+
+-- ---- steps before others
+
+may-before : (b : Bool) (xs ys : List Step) → may_give true b (pipe (xs ++ ys)) ≡ true → may_give true b (pipe xs) ≡ true
+may-before b [] ys h = refl
+may-before b (x ∷ xs) ys h = and_both (step_apart x || gives_alone true x) (may_give true (stays_behind b x) (pipe (xs ++ ys))) (step_apart x || gives_alone true x) (may_give true (stays_behind b x) (pipe xs)) (λ h. h) (may-before (stays_behind b x) xs ys) h
+
+may-identity : (b : Bool) (xs : List Step) → may_give true b (pipe xs) ≡ true → may_give true b (pipe_or_identity xs) ≡ true
+may-identity b [] h = refl
+may-identity b (x ∷ xs) h = h
 
 -- ---- the rules
 
@@ -163,7 +207,7 @@ module _ (m : Model) (c : Customs) where
   pub identity-stay : KeepsStay m c drop_identity
   identity-stay S before Step.Identity ss ss' e =
       subst (λ l. StaySteps (Pipe.Then Step.Identity (pipe ss)) (pipe l)) (then_some-parts (before || is_nonempty ss) ss ss' e).1
-      (same-front (Pipe.Then Step.Identity (pipe ss)) (pipe ss) refl go)
+      (same-front (Pipe.Then Step.Identity (pipe ss)) (pipe ss) refl (λ h. h) go)
     where
       go : (a b : Bool) → may_give a b (Pipe.Then Step.Identity (pipe ss)) ≡ true → may_give a b (pipe ss) ≡ true
       go a true h = h
@@ -175,14 +219,14 @@ module _ (m : Model) (c : Customs) where
       let x = Step.Filter (Expr.Binary BinOp.And a b) in
       let made = Step.Filter a ∷ Step.Filter b ∷ ss in
       subst (λ l. StaySteps (Pipe.Then x (pipe ss)) (pipe l)) (then_some-parts (is_sure m S b) made ss' e).1
-      (same-front (Pipe.Then x (pipe ss)) (pipe made) refl (λ y z h. stay-filter y z a (Pipe.Then (Step.Filter b) (pipe ss)) ∙ stay-filter y z b (pipe ss) ∙ sym (stay-filter y z (Expr.Binary BinOp.And a b) (pipe ss)) ∙ h))
+      (same-front (Pipe.Then x (pipe ss)) (pipe made) refl (λ h. h) (λ y z h. stay-filter y z a (Pipe.Then (Step.Filter b) (pipe ss)) ∙ stay-filter y z b (pipe ss) ∙ sym (stay-filter y z (Expr.Binary BinOp.And a b) (pipe ss)) ∙ h))
   split-stay S before s ss ss' e = none_or ss' e
 
   pub true-stay : KeepsStay m c drop_true
   true-stay S before (Step.Filter (Expr.Bool' true)) ss ss' e =
       let x = Step.Filter (Expr.Bool' true) in
       subst (λ l. StaySteps (Pipe.Then x (pipe ss)) (pipe l)) (some_value e)
-      (same-front (Pipe.Then x (pipe ss)) (Pipe.Then Step.Identity (pipe ss)) refl go)
+      (same-front (Pipe.Then x (pipe ss)) (Pipe.Then Step.Identity (pipe ss)) refl (λ h. h) go)
     where
       go : (a b : Bool) → may_give a b (Pipe.Then (Step.Filter (Expr.Bool' true)) (pipe ss)) ≡ true → may_give a b (Pipe.Then Step.Identity (pipe ss)) ≡ true
       go a true h = h
@@ -209,7 +253,7 @@ module _ (m : Model) (c : Customs) where
       let x = Step.Concat ps in
       let into : Expr → Step = λ b. concat (map (λ p. ended p (Step.Filter b)) (branches ps)) in
       taking-stay m (after m c S x) (λ b. list_all (λ p. is_some_and (λ S'. has_kind is_boolean_kind m S' b) (steps_shape m c S p)) (branches ps)) x into ss ss' refl refl e
-      (λ b. refl) (λ b. refl) (λ a b. gives-ended a ps b) (λ b. concat-apart ps _ (ended-kept ps b))
+      (λ b. refl) (λ b. refl) (λ a b. gives-ended a ps b) (λ b. concat-apart ps _ (ended-kept ps b)) (λ b. (refl, λ p. refl))
   branches-stay S before s ss ss' e = none_or ss' e
 
   pub join-stay : KeepsStay m c pass_join
@@ -223,7 +267,7 @@ module _ (m : Model) (c : Customs) where
   related-stay S before (Step.Join false n a T) ss ss' e =
       let x = Step.Join false n a T in
       taking-stay m (after m c S x) (λ b. is_nonempty (paths b) && list_all (begins a) (paths b)) x (λ b. Step.Join false n a (ended_inner T (Step.Filter (with_paths (drop 1) b)))) ss ss' refl refl e
-      (λ b. refl) (λ b. refl) (λ a b h. h) (λ b h. apart-ended_inner T (with_paths (drop 1) b) ∙ h)
+      (λ b. refl) (λ b. refl) (λ a b. and_both a (inner_gives T) a (inner_gives (ended_inner T (Step.Filter (with_paths (drop 1) b)))) (λ h. h) (λ h. inner-ended T (with_paths (drop 1) b) ∙ h)) (λ b h. apart-ended_inner T (with_paths (drop 1) b) ∙ h) (λ b. (refl, λ p. refl))
   related-stay S before s ss ss' e = none_or ss' e
 
   pub outer_join-stay : KeepsStay m c pass_outer_join
@@ -237,7 +281,7 @@ module _ (m : Model) (c : Customs) where
   aggregate-stay S before (Step.OrderBy items) (Step.Aggregate as' ∷ ss) ss' e =
       let made = Step.Aggregate as' ∷ ss in
       subst (λ l. StaySteps (Pipe.Then (Step.OrderBy items) (pipe made)) (pipe l)) (then_some-parts (order_sure m S items) made ss' e).1
-      (soft-front (Step.OrderBy items) (pipe made) (pipe made) refl refl go)
+      (soft-front (Step.OrderBy items) (pipe made) (pipe made) refl refl (record { ends = λ h. cc; kind = λ k h g. cc }) go)
     where
       go : (a b : Bool) → may_give a b (Pipe.Then (Step.OrderBy items) (Pipe.Then (Step.Aggregate as') (pipe ss))) ≡ true → may_give a b (Pipe.Then (Step.Aggregate as') (pipe ss)) ≡ true
       go a true h = h
@@ -250,7 +294,7 @@ module _ (m : Model) (c : Customs) where
       let b = chained (λ k. then_some (expr_same t.expr u.expr) (Step.TopBy (record t { limit = Limit.Count (min a.0 k) }) ∷ ss)) (top_count u.bottom u.limit) ss' a.2 in
       let both = record t { limit = Limit.Count (min a.0 b.0) } in
       subst (λ l. StaySteps (Pipe.Then (Step.TopBy t) (Pipe.Then (Step.TopBy u) (pipe ss))) (pipe l)) (then_some-parts (expr_same t.expr u.expr) (Step.TopBy both ∷ ss) ss' b.2).1
-      (soft-front (Step.TopBy t) (Pipe.Then (Step.TopBy u) (pipe ss)) (Pipe.Then (Step.TopBy both) (pipe ss)) refl refl (go both))
+      (soft-front (Step.TopBy t) (Pipe.Then (Step.TopBy u) (pipe ss)) (Pipe.Then (Step.TopBy both) (pipe ss)) refl refl (record { ends = λ h. refl; kind = λ k h g. g }) (go both))
     where
       go : (v : TopStep) (a b : Bool) → may_give a b (Pipe.Then (Step.TopBy t) (Pipe.Then (Step.TopBy u) (pipe ss))) ≡ true → may_give a b (Pipe.Then (Step.TopBy v) (pipe ss)) ≡ true
       go v a true h = h
@@ -267,7 +311,7 @@ module _ (m : Model) (c : Customs) where
       let N = chained (λ N. if is_nodes (rollup_part (group_keys ks)) && grouping_quiet m c S ks T then node_taken m c S ks T ss N else None) (node_shape m c ks) ss' e in
       let q = if_else-parts (is_nodes (rollup_part (group_keys ks)) && grouping_quiet m c S ks T) (node_taken m c S ks T ss N.0) ss' N.2 in
       taking-stay m (after m c S x) (node_test m c S ks T N.0) x (λ b. Step.GroupBy (ended_keys (Step.Filter (on_node (N.0).1 b)) ks) T) ss ss' refl refl q.1
-      (λ b. refl) (λ b. refl) (λ a b h. h) (λ b h. ap (λ z. z && inner_apart T) (apart-ended_keys ks (on_node (N.0).1 b)) ∙ h)
+      (λ b. refl) (λ b. refl) (λ a b h. ap (λ z. a && (z && inner_gives T)) (keys-ended ks (on_node (N.0).1 b)) ∙ h) (λ b h. ap (λ z. z && inner_apart T) (apart-ended_keys ks (on_node (N.0).1 b)) ∙ h) (λ b. (refl, λ p. refl))
   nodes-stay S before s ss ss' e = none_or ss' e
 
   pub idle-stay : KeepsStay m c drop_idle
@@ -277,8 +321,10 @@ module _ (m : Model) (c : Customs) where
       let v = then_some-parts (is_some_and (λ S'. is_idle m S' p t.0) (steps_shape m c S (pipe (all_but_last T)))) (made ∷ ss) ss' t.2 in
       let whole : T ≡ pipe (all_but_last T ++ t.0 ∷ []) = sym (pipe-steps T) ∙ ap pipe (last-split (steps T) t.0 t.1) in
       subst (λ l. StaySteps (Pipe.Then (Step.Climb up h p T d keep) (pipe ss)) (pipe l)) v.1
-      (soft-front (Step.Climb up h p T d keep) (pipe ss) (Pipe.Then made (pipe ss)) refl refl
-      (λ a b. with-first (Step.Climb up h p T d keep) made (pipe ss) (pipe ss) a b refl refl (λ h. h)
+      (soft-front (Step.Climb up h p T d keep) (pipe ss) (Pipe.Then made (pipe ss)) refl refl (record { ends = λ h. refl; kind = λ k h g. g })
+      (λ a b. with-first (Step.Climb up h p T d keep) made (pipe ss) (pipe ss) a b refl refl
+      (and_both a (may_give true true T) a (may_give true true (pipe_or_identity (all_but_last T))) (λ z. z)
+      (λ z. may-identity true (all_but_last T) (may-before true (all_but_last T) (t.0 ∷ []) (sym (ap (may_give true true) whole) ∙ z))))
       (λ z. apart-identity (all_but_last T) ∙ (and_parts (stays_apart (pipe (all_but_last T))) _ (sym (ap stays_apart whole ∙ apart-appended (all_but_last T) (t.0 ∷ [])) ∙ z)).0)
       (λ y h. h)))
   idle-stay S before s ss ss' e = none_or ss' e

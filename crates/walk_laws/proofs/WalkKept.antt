@@ -34,11 +34,11 @@ module _ (w : Rules) (m : Model) (c : Customs) where
   abbrev KeysAtRest : Keys → Type 0
   KeysAtRest ks = (r : Rule) → Contains (rules_of w) r → keys_results r m c ks ≡ []
 
-  abbrev StepAtRest : Shape → Step → Type 0
+  abbrev pub StepAtRest : Shape → Step → Type 0
   StepAtRest S s = (r : Rule) → Contains (rules_of w) r → step_results r m c S s ≡ []
 
   -- nor at the step itself
-  abbrev NothingHere : Shape → Step → Type 0
+  abbrev pub NothingHere : Shape → Step → Type 0
   NothingHere S s = (before : Bool) × (ss : List Step) × ((r : Rule) → Contains (rules_of w) r → r m c S before s ss ≡ None)
 
 -- a climb's pipeline is settled as it stands, from its steps behind the front
@@ -58,7 +58,7 @@ module _ (w : Rules) (m : Model) (c : Customs) where
   mutual
     unfolding pipe_results put_steps steps_shape
 
-    pipe_rest : (p : Pipe) (S S' : Shape) (before : Bool) (g : Segment) (gs : List Segment) → steps_shape m c S p ≡ Some S' → AtRest w m c S before p → starts_idle w m c p ≡ false → EndsBare w m c g ⊎ EndsAt w m c S g p → Kept w m c S (g ∷ gs) p
+    pub pipe_rest : (p : Pipe) (S S' : Shape) (before : Bool) (g : Segment) (gs : List Segment) → steps_shape m c S p ≡ Some S' → AtRest w m c S before p → starts_idle w m c p ≡ false → EndsBare w m c g ⊎ EndsAt w m c S g p → Kept w m c S (g ∷ gs) p
     pipe_rest Pipe.End S S' before g gs e rest idle ends = sym (append-nil (all_steps (g ∷ gs)))
     pipe_rest (Pipe.Then Step.Identity q) S S' before g gs e rest idle ends = cc
     pipe_rest (Pipe.Then (Step.Filter x) q) S S' before g gs e rest idle ends =
@@ -116,7 +116,7 @@ module _ (w : Rules) (m : Model) (c : Customs) where
         (key_rest k S (and-left (key_typed m c S k) (keys_typed m c S ks) e) (λ r l. map-none (λ k'. Keys.MoreKeys k' ks) _ (append-none (map (λ k'. Keys.MoreKeys k' ks) (key_results r m c k)) (map (Keys.MoreKeys k) (keys_results r m c ks)) (rest r l)).0) i)
         (keys_rest ks S (and-right (key_typed m c S k) (keys_typed m c S ks) e) (λ r l. map-none (Keys.MoreKeys k) _ (append-none (map (λ k'. Keys.MoreKeys k' ks) (key_results r m c k)) (map (Keys.MoreKeys k) (keys_results r m c ks)) (rest r l)).1) i)
 
-    step_rest : (s : Step) (S S' : Shape) → step_shape m c S s ≡ Some S' → StepAtRest w m c S s → NothingHere w m c S s → settled_step w m c S s [] ≡ s
+    pub step_rest : (s : Step) (S S' : Shape) → step_shape m c S s ≡ Some S' → StepAtRest w m c S s → NothingHere w m c S s → settled_step w m c S s [] ≡ s
     step_rest (Step.GroupBy ks T) S S' e rest here =
         let t = if_else-parts (keys_typed m c S ks) (option_and_then (grouped_shape m S (group_keys ks)) (inner_shape m c S no_shape T)) S' e in
         let v = chained (grouped_shape m S (group_keys ks)) (inner_shape m c S no_shape T) S' t.1 in

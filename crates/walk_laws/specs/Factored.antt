@@ -2,7 +2,7 @@
 use Rattle.std.specs.Prelude.{Bool, true, false, ◌&&◌, ◌||◌, List, [], ◌∷◌, ◌++◌, drop, map, slice_get, if◌then◌else◌}
 use Rattle.std.specs.List.{list_all, list_any}
 use Rattle.edm_values.specs.Lists.{is_some_and}
-use Rattle.apply_ast.specs.Trees.{Expr, Named, Pipe, Pipes, Step, is_long}
+use Rattle.apply_ast.specs.Trees.{Expr, Key, Keys, Named, OptPipe, Pipe, Pipes, Step, is_long}
 use Rattle.apply_ast.specs.declared.expressions.BinOp.TheVariants as BinOp
 use Rattle.rewrite_laws.specs.Rewrites.{concat, is_among, paths, pipe_or_identity}
 use Rattle.rewrite_laws.specs.TreeEquality.{step_same}
@@ -105,3 +105,44 @@ abbrev mutual
 -- a pipeline, with the steps that come out of branches before the concatenations
 abbrev pub factored : Pipe → Pipe
 factored p = pipe_or_identity (factored_steps p)
+
+-- ---- the same in joins, groupings and climbs too
+
+abbrev mutual
+  -- steps, with those before each concatenation that come out of its branches
+  pub inside_steps : Pipe → List Step
+  inside_steps Pipe.End = []
+  inside_steps (Pipe.Then s p) = inside_step s ++ inside_steps p
+
+  -- the same of branches
+  pub inside_branches : Pipes → List (List Step)
+  inside_branches Pipes.NoPipes = []
+  inside_branches (Pipes.MorePipes p ps) = inside_steps p ∷ inside_branches ps
+
+  -- the same of an inner pipeline
+  pub inside_inner : OptPipe → OptPipe
+  inside_inner OptPipe.NoPipe = OptPipe.NoPipe
+  inside_inner (OptPipe.SomePipe p) = OptPipe.SomePipe (pipe_or_identity (inside_steps p))
+
+  -- the same of what chooses the nodes of a key
+  pub inside_key : Key → Key
+  inside_key (Key.Recursive h p T) = Key.Recursive h p (inside_inner T)
+  inside_key k = k
+
+  -- the same of keys
+  pub inside_keys : Keys → Keys
+  inside_keys Keys.NoKeys = Keys.NoKeys
+  inside_keys (Keys.MoreKeys k ks) = Keys.MoreKeys (inside_key k) (inside_keys ks)
+
+  -- the same of a step; `identity` leaves none
+  pub inside_step : Step → List Step
+  inside_step Step.Identity = []
+  inside_step (Step.Concat ps) = before_concat (inside_branches ps)
+  inside_step (Step.GroupBy ks T) = Step.GroupBy (inside_keys ks) (inside_inner T) ∷ []
+  inside_step (Step.Join outer n a T) = Step.Join outer n a (inside_inner T) ∷ []
+  inside_step (Step.Climb up h p T d keep) = Step.Climb up h p (pipe_or_identity (inside_steps T)) d keep ∷ []
+  inside_step s = s ∷ []
+
+-- a pipeline, with the steps that come out of branches before the concatenations, in joins, groupings and climbs too
+abbrev pub factored_inside : Pipe → Pipe
+factored_inside p = pipe_or_identity (inside_steps p)

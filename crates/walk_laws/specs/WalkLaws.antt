@@ -9,7 +9,7 @@ use Rattle.context_typing.specs.Typing.{Customs}
 use Rattle.rewrite_laws.specs.RewriteLaws.{IsTypedFrom, MayStandFor}
 use Rattle.rewrite_laws.specs.Rewrites.{IsPlanOf, first_rewrite, next, rewritten, rules}
 use Rattle.walk_laws.specs.Apart.{stays_apart}
-use Rattle.walk_laws.specs.Factored.{factored, pipe_rests}
+use Rattle.walk_laws.specs.Factored.{factored, factored_inside, pipe_rests}
 use Rattle.walk_laws.specs.FiltersOut.{gives_anywhere, gives_at_front}
 use Rattle.walk_laws.specs.Walks.{Rules, All, Early, is_unbranched, rules_of, walk}
 
@@ -44,17 +44,17 @@ pub record IsRound (m : Model) (c : Customs) (S S' : Shape) (p q : Pipe) : Type 
   pub gives : IsTrue (gives_anywhere q)
   pub plan : (r : Pipe) → IsPlanOf m c S q r → IsPlanOf m c S p r
 
--- where each concatenation of a typed pipeline begins apart for good or gives filters alone, the walk by all rules makes one with its plan
+-- where each concatenation of a typed pipeline begins apart for good or gives filters alone, in joins, groupings and climbs too, the walk by all rules makes one with its plan
 abbrev pub WalkKeepsPlan : Type 0
 WalkKeepsPlan = (m : Model) (c : Customs) (S S' : Shape) (p : Pipe) → IsTypedFrom m c S S' p → IsTrue (gives_anywhere p) → IsRound m c S S' p (walk All m c S p)
 
 -- and so do the filters that come out of it then
 abbrev pub FactoringKeepsPlan : Type 0
-FactoringKeepsPlan = (m : Model) (c : Customs) (S S' : Shape) (p : Pipe) → IsTypedFrom m c S S' p → IsTrue (gives_anywhere p) → IsRound m c S S' p (factored (walk All m c S p))
+FactoringKeepsPlan = (m : Model) (c : Customs) (S S' : Shape) (p : Pipe) → IsTypedFrom m c S S' p → IsTrue (gives_anywhere p) → IsRound m c S S' p (factored_inside (walk All m c S p))
 
 -- where nothing comes out of it then, no rule applies to it
 abbrev pub UnfactoredIsSettled : Type 0
-UnfactoredIsSettled = (m : Model) (c : Customs) (S S' : Shape) (p : Pipe) → IsTypedFrom m c S S' p → IsTrue (gives_anywhere p) → factored (walk All m c S p) ≡ walk All m c S p → next m c S (walk All m c S p) ≡ None
+UnfactoredIsSettled = (m : Model) (c : Customs) (S S' : Shape) (p : Pipe) → IsTypedFrom m c S S' p → IsTrue (gives_anywhere p) → factored_inside (walk All m c S p) ≡ walk All m c S p → next m c S (walk All m c S p) ≡ None
 
 -- a typed pipeline, settled in one walk by the first eight rules, is what it becomes by them
 abbrev pub EarlyWalkIsPlan : Type 0

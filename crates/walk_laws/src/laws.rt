@@ -19,7 +19,7 @@ pub fn given_walk_is_plan()
 {}
 
 /// What the walk by all rules makes of a typed pipeline has its plan, where each concatenation begins apart for good or gives filters
-/// alone.
+/// alone, in joins and groupings too.
 pub fn walk_keeps_plan()
     ensures law { WalkKeepsPlan }
 {}

@@ -6,8 +6,8 @@
 //! whose filters rest, so that none of the first eight rules moves one, and the steps that come out of all their concatenations at
 //! once.
 //! `specs/Apart` defines pipelines in whose concatenations two branches begin with different steps for good, or with steps of different
-//! kinds, and `specs/FiltersOut` those out of whose other concatenations nothing but filters comes, anywhere or where these stay before them. `specs/WalkLaws` has
-//! the laws as statements, and `laws` a function for each.
+//! kinds, and `specs/FiltersOut` those out of whose other concatenations nothing but filters comes, anywhere, in the pipelines inside
+//! steps too, or where these stay before them. `specs/WalkLaws` has the laws as statements, and `laws` a function for each.
 //!
 //! The crate stands on `rewrite_laws` for the rules and for what a plan is, and has no code but its laws. It promises that the walk
 //! by all rules makes the plan of every typed pipeline without a concatenation, or whose branches stay so apart; that it does of one
@@ -24,9 +24,11 @@
 //! `proofs/FilterRest` has pipelines whose filters rest, `FactoredSame` what the ninth rule makes of them, by trees that are told
 //! the same as themselves (`SameItself`), and `Factoring` the law. `ApartSteps`, `ApartRules` and `ApartPlaces` have branches that
 //! stay apart, and `ApartPlan` the law. `StayRules` and `StayPlaces` have what keeps filters before the concatenation that gives them,
-//! `SegmentTails`, `GivenFilters` and `GivenPlaces` what the ninth rule makes there, `FactoredLeft` pipelines of which it makes
-//! nothing, and `GivenPlan` the law. `OutPlaces` has filters that come out anywhere, `OutWalk` that the walk comes to the same before
-//! and behind, and `OutPlan` the two laws, by the measure that all rewrites lower (`LowerPipes`).
+//! `SegmentTails`, `GivenFilters` and `GivenPlaces` what the ninth rule makes there, `FactoredLeft` and `InsideLeft` pipelines of which it
+//! makes nothing, and `GivenPlan` the law. `Holes` has joins, groupings and climbs by what stands around a pipeline inside them,
+//! `HeldFamilies` lists of segments that differ in one such step, and `IdleWalk` what is left of a climb's pipeline. `OutPlaces` has
+//! filters that come out anywhere, `OutWalk` and `WithinWalk` that the walk comes to the same before and behind, and `OutPlan` the two
+//! laws, by the measure that all rewrites lower (`LowerPipes`).
 #![tactic(auto)]
 
 mod laws;
