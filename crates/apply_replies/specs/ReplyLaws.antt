@@ -1,5 +1,5 @@
 -- Laws of replies and of their costs, by which they answer the lines of a stream: every line has a reply, and lines that are too long have the same and cost the same.
-use Rattle.std.proofs.Common.{◌≡◌, ℕ, ◌<◌, ◌≤◌, List, length, refl, true, false, arith, Bool}
+use Rattle.std.proofs.Common.{◌≡◌, ℕ, ◌<◌, List, length, refl, true, false, arith, Bool}
 use Rattle.std.specs.Prelude.{nat_lt}
 use Rattle.std.proofs.lemmas.Bool.Decides.{nat_tests}
 use Rattle.edm_data.specs.Worlds.{World}

@@ -1,5 +1,5 @@
 -- From what was done in a mode to what a run says.
-use Rattle.std.proofs.Common.{◌≡◌, ℕ, Bool, List, None, Some, refl, sym, subst, inl, inr}
+use Rattle.std.proofs.Common.{◌≡◌, ℕ, Bool, None, Some, refl, sym, subst, inl, inr}
 use Rattle.std.specs.declared.option.Option.{Option}
 use Rattle.serve_options.specs.Options.{Mode, Settings, Serve, Check, Gen}
 use Rattle.serve_options.specs.Command.{settings_in}

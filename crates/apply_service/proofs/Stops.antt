@@ -1,5 +1,5 @@
 -- One stop is no other, and none where the stream was read to its end.
-use Rattle.std.proofs.Common.{◌≡◌, Err, Ok}
+use Rattle.std.proofs.Common.{Err, Ok}
 use Rattle.std.specs.Prelude.{IsErrOf}
 use Rattle.apply_service.specs.declared.stream.Stop.{Stop}
 use Rattle.apply_service.specs.declared.stream.Stop.TheVariants.{Read, Write, Limit}

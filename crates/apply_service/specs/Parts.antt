@@ -18,7 +18,7 @@ use Rattle.apply_service.specs.Runs.{SourceSeen, SinkSeen, StepsSeen}
 use Rattle.apply_service.specs.Outcomes.{read_limit}
 use Rattle.apply_service.specs.Samples.{sample_lines}
 use Rattle.apply_service.specs.declared.status.Status.{Status}
-use Rattle.apply_service.specs.declared.status.Status.TheVariants.{Served, Usage, ModelRefused, DataRefused, ReadFault, WriteFault, Memory, InputLimit}
+use Rattle.apply_service.specs.declared.status.Status.TheVariants.{Served, ModelRefused, DataRefused, ReadFault, WriteFault, Memory, InputLimit}
 
 -- of files that make no world, where the line of a refused one was written, or the writing broke off in it
 pub data StopSays (o : SinkSeen) (same_output : Type 0) : LoadStop → Status → Type 0 where

@@ -1,5 +1,5 @@
 -- What a method gives on the values of groups that are told by numbers.
-use Rattle.std.proofs.Common.{◌≡◌, ◌∙◌, ℕ, ◌+◌, ◌<◌, List, [], ◌∷◌, ap, arith, get_or, length, map, refl, sym}
+use Rattle.std.proofs.Common.{◌≡◌, ◌∙◌, ℕ, List, [], ◌∷◌, ap, arith, length, map, refl, sym}
 use Rattle.std.specs.Prelude.{All}
 use Rattle.std.proofs.lemmas.List.{get_or_default, length-map}
 use Rattle.edm_values.specs.declared.Method.{Method}
@@ -12,7 +12,7 @@ use Rattle.apply_ast.specs.Trees.{Expr}
 use Rattle.apply_meaning.specs.Aggregates.{aggregate}
 use Rattle.apply_meaning.specs.Instances.{Instance}
 use Rattle.apply_meaning.specs.Meaning.{key_list, values}
-use Rattle.value_codes.specs.Codes.{AreCodes, CodeList}
+use Rattle.value_codes.specs.Codes.{CodeList}
 use Rattle.numbered_groups.specs.Numbered.{AreKeyCodes, AreNumbered, Numbering, no_codes, numbered_group, places_with}
 use Rattle.custom_agg.specs.CustomValues.{group_results, results_at}
 use Rattle.custom_agg.proofs.GroupResults.{results-of_groups, values-at_places}

@@ -1,5 +1,5 @@
 -- The entity of a set that has a key is the only one on which a test of the key is true.
-use Rattle.std.proofs.Common.{◌≡◌, ℕ, zero, suc, ◌<◌, ◌≤◌, refl, sym, ◌∙◌, ap, Bool, true, false, List, [], ◌∷◌, ◌++◌, length, map, cond, get_or, Less, Equal, Greater, arith, subst, IsTrue, Option, Some, None, ⊎_elim}
+use Rattle.std.proofs.Common.{◌≡◌, ℕ, zero, suc, ◌<◌, ◌≤◌, refl, sym, ◌∙◌, ap, Bool, true, false, List, [], ◌∷◌, ◌++◌, map, cond, get_or, Less, Equal, Greater, arith, subst, IsTrue, Option, Some, None, ⊎_elim}
 use Rattle.std.specs.Prelude.{ℤ, filter, nat_eq, option_map, position, slice_get, unwrap_or}
 use Rattle.std.specs.List.{list_any}
 use Rattle.std.specs.Ordering.{is_eq, ordering_then}
@@ -14,7 +14,7 @@ use Rattle.edm_values.specs.Lists.{places}
 use Rattle.edm_values.specs.Literals.{is_of_kind}
 use Rattle.edm_values.specs.Names.{Path}
 use Rattle.edm_values.specs.OrderLaws.{same_value_is, same_value_itself}
-use Rattle.edm_values.specs.Values.{equal, is_beyond, is_null, is_value, number_cmp, same_value, value_in}
+use Rattle.edm_values.specs.Values.{equal, is_beyond, is_value, number_cmp, same_value, value_in}
 use Rattle.edm_values.proofs.OptionFacts.{mapped, same_bool, some_value}
 use Rattle.edm_model.specs.LookUps.{IsSet, key_at, key_of, properties_of, property_at, set_type}
 use Rattle.edm_model.specs.Models.{Model, Part, Property}

@@ -1,8 +1,7 @@
 -- Joins on frames: what several runs returned, and what is still to be made of it.
-use Rattle.std.proofs.Common.{◌≡◌, ◌+◌, ◌≤◌, ◌<◌, ◌∙◌, ℕ, zero, suc, ap, refl, sym, subst, List, [], ◌∷◌, ◌++◌, map, length, get_or, Option, Some, None, Bool, IsTrue, arith}
+use Rattle.std.proofs.Common.{◌≡◌, ◌+◌, ◌∙◌, ℕ, ap, refl, sym, List, [], ◌∷◌, ◌++◌, map, length, Option, Some, None, IsTrue, arith}
 use Rattle.std.specs.Prelude.{if◌then◌else◌, option_map, sum}
-use Rattle.std.specs.declared.result.Result.TheVariants.{Ok, Err}
-use Rattle.std.specs.Global.{Vec}
+use Rattle.std.specs.declared.result.Result.TheVariants.{Err}
 use Rattle.std.proofs.lemmas.List.{length-map, map-append}
 use Rattle.edm_values.specs.declared.refusals.Refused.{Refused}
 use Rattle.edm_values.specs.declared.refusals.Refused.TheVariants.{Range, Memory}

@@ -1,9 +1,9 @@
 -- Groups by the first values of key lists, told by numbers, are those by the levels of a rollup.
-use Rattle.std.proofs.Common.{◌≡◌, ◌∙◌, ℕ, zero, suc, ◌+◌, ◌-◌, ◌<◌, ◌≤◌, Bool, true, false, if◌then◌else◌, List, [], ◌∷◌, ◌++◌, ap, arith, length, length-append, map, refl, reverse, subst, sym, take, Some}
+use Rattle.std.proofs.Common.{◌≡◌, ◌∙◌, ℕ, zero, suc, ◌+◌, ◌-◌, ◌<◌, ◌≤◌, Bool, true, false, if◌then◌else◌, List, [], ◌∷◌, ◌++◌, ap, arith, length, length-append, map, reverse, subst, sym, take, Some}
 use Rattle.std.specs.Prelude.{All, Option, get_or, slice_get}
 use Rattle.std.specs.List.{range_with_len}
 use Rattle.std.proofs.Math.Seq.{take-append-add}
-use Rattle.std.proofs.lemmas.List.{append-nil, get_or_default, length-map, length-reverse, map-append, reverse-append}
+use Rattle.std.proofs.lemmas.List.{append-nil, get_or_default, length-map, length-reverse, reverse-append}
 use Rattle.std.proofs.lemmas.List.FromFn.{length-range_with_len}
 use Rattle.std.proofs.lemmas.Option.{slice_get-get_or, slice_get_within}
 use Rattle.edm_values.specs.declared.Value.{Value}
@@ -11,9 +11,9 @@ use Rattle.edm_values.specs.Names.{Path}
 use Rattle.edm_values.specs.Values.{value_in}
 use Rattle.edm_data.specs.Worlds.{World}
 use Rattle.context_typing.specs.Typing.{RollupPart}
-use Rattle.apply_meaning.specs.Instances.{Instance, lookup}
+use Rattle.apply_meaning.specs.Instances.{Instance}
 use Rattle.apply_meaning.specs.Meaning.{key_list, level_paths}
-use Rattle.value_codes.specs.Codes.{AreCodes, CodeList}
+use Rattle.value_codes.specs.Codes.{CodeList}
 use Rattle.numbered_groups.specs.Numbered.{AreKeyCodes, AreNumbered, AreNumberedLevels, Numbering, no_codes, no_numbering}
 use Rattle.group_rollup.specs.NumberedBy.{AreNumberedByEach}
 use Rattle.group_rollup.proofs.LevelLemmas.{fronts-of_rows, range-last, downward-next}

@@ -1,5 +1,5 @@
 -- Rows that fit a shape have entities of the world, and a lawful shape has columns of different paths.
-use Rattle.std.proofs.Common.{◌≡◌, ℕ, ◌<◌, true, ◌==◌, ◌&&◌, List, Option, Some, None, length, map, refl, ap}
+use Rattle.std.proofs.Common.{◌≡◌, ℕ, ◌<◌, true, ◌==◌, ◌&&◌, List, Option, Some, None, length, map, refl}
 use Rattle.std.specs.Prelude.{IsTrue, nat_lt, slice_index_or, is_some}
 use Rattle.std.specs.List.{list_all}
 use Rattle.std.proofs.lemmas.Bool.{and_parts, false≢true}

@@ -1,5 +1,5 @@
 -- The run of a recursive rollup with plain keys whose groups an aggregation makes one row each.
-use Rattle.std.proofs.Common.{◌≡◌, ℕ, ◌+◌, ◌≤◌, sym, ◌∙◌, ap, arith, Option, Ok, Err, None, Some, List, [], ◌∷◌, ◌++◌, length, true}
+use Rattle.std.proofs.Common.{◌≡◌, ℕ, ◌+◌, ◌≤◌, sym, ◌∙◌, ap, arith, Option, Ok, Err, None, Some, List, [], ◌∷◌, ◌++◌, length}
 use Rattle.std.specs.Prelude.{option_map}
 use Rattle.std.specs.declared.result.Result as result
 use Rattle.std.specs.Global.{Vec}

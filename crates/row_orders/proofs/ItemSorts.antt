@@ -33,7 +33,7 @@ use Rattle.apply_meaning.specs.Meaning.{order_before, order_values, refused_at_b
 use Rattle.apply_meaning.specs.RowViews.{is_of}
 use Rattle.apply_meaning.specs.Running.{Gives, all_of}
 use Rattle.row_orders.proofs.OrderLemmas.{beyond-values, item_cmp_total, sorted-by_values, values-before, values_cmp_total}
-use Rattle.row_orders.specs.Orders.{RankedRow, before, first_value, has_beyond, item_cmp, item_values, values_cmp}
+use Rattle.row_orders.specs.Orders.{before, first_value, has_beyond, item_cmp, item_values, values_cmp}
 
 -- ---- a sort by a second order and then by a first
 

@@ -1,6 +1,6 @@
 -- Places sorted by the values of an item are the places of the instances in its order.
-use Rattle.std.proofs.Common.{◌≡◌, ◌∙◌, ℕ, zero, suc, ◌+◌, ◌<◌, List, [], ◌∷◌, ◌++◌, length, map, drop, get_or, refl, sym, ap, subst, IsTrue, true, false, arith}
-use Rattle.std.specs.Prelude.{not, Some, None, Err, nat_lt, slice_get}
+use Rattle.std.proofs.Common.{◌≡◌, ◌∙◌, ℕ, zero, suc, ◌+◌, List, [], ◌∷◌, length, map, drop, get_or, refl, sym, ap, true, false, arith}
+use Rattle.std.specs.Prelude.{not, Some, None, Err, nat_lt}
 use Rattle.std.specs.Bool.{then_some}
 use Rattle.std.specs.List.{cons_option, list_all, list_any}
 use Rattle.std.specs.List.Sorted.{IsSortedBy, IsStableBy}

@@ -1,6 +1,5 @@
 -- What is kept of the values of each group, and when it stands for a list of values.
 use Rattle.std.specs.Prelude.{◌≡◌, ℕ, ◌≤◌, ◌<◌, List, ◌++◌, length, filter, get_or, nat_eq}
-use Rattle.std.specs.List.{All}
 
 -- the number of each place's group, how many groups there are, how many values were added, what is kept of no values, and what is
 -- kept of each group's

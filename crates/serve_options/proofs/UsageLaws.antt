@@ -1,5 +1,5 @@
 -- What is told of wrong words, and that it can be shown.
-use Rattle.std.proofs.Common.{◌≡◌, List, [], ℕ, Option, None, Some, IsUtf8, codes, chars, refl, ap, sym, ◌∙◌}
+use Rattle.std.proofs.Common.{◌≡◌, List, [], ℕ, None, Some, IsUtf8, codes, chars, refl, ap, sym, ◌∙◌}
 use Rattle.std.proofs.lemmas.Str.{chars-nil}
 use Rattle.edm_values.proofs.OptionFacts.{some_value}
 use Rattle.quoted_text.specs.Quoted.{IsPrintable}

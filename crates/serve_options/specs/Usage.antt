@@ -1,10 +1,10 @@
 -- What is told of words that name no run.
-use Rattle.std.specs.Prelude.{◌≡◌, List, ℕ, [], ◌++◌, ◌-◌, ◌^◌, if◌then◌else◌, codes, chars, decimal, Option, Some, None, unwrap_or}
+use Rattle.std.specs.Prelude.{◌≡◌, List, ℕ, ◌++◌, ◌-◌, ◌^◌, if◌then◌else◌, codes, chars, decimal, Option, Some, None, unwrap_or}
 use Rattle.std.specs.Option.{option_or}
 use Rattle.edm_values.specs.Lists.{same_text}
 use Rattle.quoted_text.specs.Quoted.{quote, show_all}
 use Rattle.serve_options.specs.Command.{option_values}
-use Rattle.serve_options.specs.Options.{OptionValues, both_files, mode_named, number_within, plan_named}
+use Rattle.serve_options.specs.Options.{OptionValues, both_files, number_within, plan_named}
 
 -- the line of a problem
 abbrev pub usage_line : List ℕ → List ℕ

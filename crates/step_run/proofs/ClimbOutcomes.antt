@@ -1,5 +1,5 @@
 -- What a climb and a traversal give is the instances at places.
-use Rattle.std.proofs.Common.{◌≡◌, ℕ, ◌<◌, refl, ◌∙◌, ap, Bool, true, List, [], ◌∷◌, ◌++◌, Option, Some, None, map, length, IsTrue, arith}
+use Rattle.std.proofs.Common.{◌≡◌, ℕ, ◌<◌, refl, ◌∙◌, ap, Bool, true, List, [], ◌∷◌, ◌++◌, Option, Some, None, map, IsTrue, arith}
 use Rattle.std.specs.Prelude.{IfOk, IfSome, filter, is_some, nat_lt, option_map, slice_get, if◌then◌else◌}
 use Rattle.std.specs.Global.{Vec}
 use Rattle.std.specs.List.{All, cons_option, list_all}

@@ -1,5 +1,5 @@
 -- Values of items on a whole list, and those that stand at places of it.
-use Rattle.std.proofs.Common.{◌≡◌, ℕ, zero, suc, ◌+◌, ◌<◌, true, refl, sym, ◌∙◌, ap, subst, List, [], ◌∷◌, ◌++◌, Option, Some, None, length, map, drop, drop-cons, get_or, add-one, append_assoc, arith, IsTrue}
+use Rattle.std.proofs.Common.{◌≡◌, ℕ, zero, suc, ◌+◌, ◌<◌, refl, sym, ◌∙◌, ap, subst, List, [], ◌∷◌, ◌++◌, Option, Some, None, length, map, drop, drop-cons, get_or, add-one, append_assoc, arith, IsTrue}
 use Rattle.std.specs.Global.{Vec}
 use Rattle.std.specs.Prelude.{nat_lt, option_map, slice_get}
 use Rattle.std.specs.List.{cons_option, list_all}

@@ -1,5 +1,5 @@
 -- The frame of what is kept of the groups of a level, and those of all levels.
-use Rattle.std.proofs.Common.{◌≡◌, ℕ, ◌+◌, ◌<◌, false, sym, ◌∙◌, ap, subst, arith, List, Option, Some, None, Ok, Err, get_or, inl, length, map, IsTrue}
+use Rattle.std.proofs.Common.{◌≡◌, ℕ, ◌<◌, false, sym, ◌∙◌, ap, subst, arith, List, Option, Some, None, Ok, Err, get_or, inl, length, map, IsTrue}
 use Rattle.std.specs.Prelude.{nat_lt, option_map, slice_get}
 use Rattle.std.specs.List.{list_all, zip}
 use Rattle.std.proofs.lemmas.List.{length-map}
@@ -25,7 +25,7 @@ use Rattle.row_frames.specs.Columned.{widened}
 use Rattle.row_frames.specs.Frames.{GivesFrame}
 use Rattle.row_frames.specs.Keys.{key_columns}
 use Rattle.step_run.proofs.KeptRows.{made-differ, widened-differ, widened-rows}
-use Rattle.step_run.specs.Conditions.{GroupRuns, LevelsRun}
+use Rattle.step_run.specs.Conditions.{GroupRuns}
 use Rattle.step_run.specs.Contexts.{Context}
 use Rattle.step_run.specs.KeptGroups.{GivesKept, GivesLevelsMade, kept_rows}
 use Rattle.step_run.specs.Levels.{AreKeys, LevelKeys, level_made, level_on, levels_of, part_of}

@@ -1,5 +1,5 @@
 -- Transformations that only keep some of the instances, or put them in order, on places of a list.
-use Rattle.std.proofs.Common.{◌≡◌, ℕ, zero, suc, ◌+◌, ◌<◌, Bool, true, false, refl, sym, ◌∙◌, ap, subst, arith, List, [], ◌∷◌, ◌++◌, ◌||◌, Option, Some, None, Ok, Err, get_or, length, map, drop, take, IsTrue}
+use Rattle.std.proofs.Common.{◌≡◌, ℕ, ◌+◌, ◌<◌, Bool, true, false, refl, sym, ◌∙◌, ap, subst, arith, List, [], ◌∷◌, ◌++◌, ◌||◌, Option, Some, Ok, Err, get_or, length, map, drop, take, IsTrue}
 use Rattle.std.specs.Prelude.{IfOk, filter, nat_lt, not, option_map, slice_get, unwrap_or, if◌then◌else◌}
 use Rattle.std.specs.Bool.{then_some}
 use Rattle.std.specs.Global.{Vec}

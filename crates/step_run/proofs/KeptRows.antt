@@ -1,5 +1,5 @@
 -- The instances that an inner pipeline keeps of each group, with the columns of the groups' keys.
-use Rattle.std.proofs.Common.{◌≡◌, ℕ, zero, suc, ◌+◌, ◌<◌, true, refl, sym, ◌∙◌, ap, subst, arith, List, [], ◌∷◌, ◌++◌, Option, Some, None, get_or, length, map, IsTrue}
+use Rattle.std.proofs.Common.{◌≡◌, ℕ, zero, suc, ◌+◌, ◌<◌, true, refl, sym, ◌∙◌, ap, arith, List, [], ◌∷◌, ◌++◌, Some, None, get_or, length, map, IsTrue}
 use Rattle.std.specs.Prelude.{nat_lt, option_map, slice_get}
 use Rattle.std.specs.List.{cons_option, list_all, zip}
 use Rattle.std.proofs.lemmas.Bool.{and_parts, ltb-true}
@@ -9,7 +9,6 @@ use Rattle.std.proofs.lemmas.Simd.{map-map}
 use Rattle.edm_values.proofs.EachLemmas.{map-agree}
 use Rattle.edm_values.proofs.ListFacts.{all-append, all-at, all-map}
 use Rattle.edm_values.proofs.OptionFacts.{some_value}
-use Rattle.edm_values.proofs.TopPlaces.{length-places}
 use Rattle.edm_values.specs.declared.Value.{Value}
 use Rattle.edm_values.specs.Lists.{at_places, places}
 use Rattle.edm_values.specs.Names.{Path}
@@ -17,7 +16,7 @@ use Rattle.edm_data.specs.Worlds.{World}
 use Rattle.apply_meaning.specs.Instances.{Instance, extended, lookup, no_instance}
 use Rattle.apply_meaning.specs.Meaning.{Outcome, joined, key_list, keyed}
 use Rattle.apply_meaning.specs.RowViews.{columns_differ}
-use Rattle.row_frames.specs.Columned.{row_across, widened}
+use Rattle.row_frames.specs.Columned.{widened}
 use Rattle.row_frames.specs.Keys.{key_at, key_column, key_columns}
 use Rattle.step_run.proofs.GroupLemmas.{joined-some}
 use Rattle.step_run.proofs.GroupTotalLaws.{length-placed, placed-at}

@@ -1,5 +1,5 @@
 -- A grouping without a recursive rollup is what its inner pipeline makes of the groups of its levels.
-use Rattle.std.proofs.Common.{◌≡◌, ℕ, Bool, true, false, refl, sym, ◌∙◌, ap, subst, List, [], Option, Some, None, Ok, Err, map, inl, inr}
+use Rattle.std.proofs.Common.{◌≡◌, ℕ, Bool, true, false, refl, ◌∙◌, ap, subst, List, [], Option, None, Ok, Err, map, inl, inr}
 use Rattle.std.specs.declared.result.Result as result
 use Rattle.edm_values.specs.declared.refusals.Refused.{Refused}
 use Rattle.edm_values.specs.declared.refusals.Refused.TheVariants.{Range, Memory}
@@ -19,7 +19,7 @@ use Rattle.step_run.proofs.LevelLemmas.{levels-mean, levels-refused, levels-run}
 use Rattle.step_run.specs.Conditions.{LevelsReady, LevelsRun, StepRunsFrom}
 use Rattle.step_run.specs.Contexts.{Context}
 use Rattle.step_run.specs.KeptGroups.{GivesLevelsMade}
-use Rattle.step_run.specs.Levels.{Level, level_made, level_on, levels_of, levels_on}
+use Rattle.step_run.specs.Levels.{level_made, level_on, levels_of, levels_on}
 use Rattle.step_run.specs.RecursiveKeys.{are_flat_keys}
 
 module _ (x : Context) (root : Option ℕ) (ks : Keys) (T : Pipe) (flat : are_flat_keys ks ≡ true) (l : List Instance) (s : Step) (is : s ≡ Step.GroupBy ks (OptPipe.SomePipe T)) (S S' : Shape) (run : StepRunsFrom x root S S' s l) where

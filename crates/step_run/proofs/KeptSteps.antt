@@ -1,5 +1,5 @@
 -- Runs on places, from one transformation to the next and from one group to the next.
-use Rattle.std.proofs.Common.{◌≡◌, ℕ, zero, suc, ◌+◌, ◌<◌, ◌≤◌, Bool, true, false, refl, sym, ◌∙◌, ap, subst, arith, List, [], ◌∷◌, ◌++◌, Option, Some, None, Err, get_or, length, map, drop, IsTrue, nat_eq}
+use Rattle.std.proofs.Common.{◌≡◌, ℕ, zero, suc, ◌+◌, ◌<◌, ◌≤◌, true, refl, sym, ◌∙◌, ap, subst, arith, List, [], ◌∷◌, ◌++◌, Option, Some, None, Err, get_or, length, map, drop, IsTrue, nat_eq}
 use Rattle.std.specs.Prelude.{All, nat_lt, option_map, slice_get}
 use Rattle.std.specs.Global.{Vec}
 use Rattle.std.specs.List.{list_all}

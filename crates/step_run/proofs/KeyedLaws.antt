@@ -1,12 +1,11 @@
 -- Recursive rollups with plain keys: the keys of each node, found on one instance of each key and node, and what an aggregation makes of them.
-use Rattle.std.proofs.Common.{◌≡◌, ℕ, zero, suc, ◌+◌, ◌<◌, ◌≤◌, Bool, true, false, cond, not, ◌&&◌, ◌||◌, refl, sym, ◌∙◌, ap, subst, arith, List, [], ◌∷◌, ◌++◌, Option, Some, None, get_or, length, map, filter, take, nat_eq, IsTrue}
-use Rattle.std.specs.Prelude.{All, flat_map, nat_lt, option_map, slice_get, sum}
+use Rattle.std.proofs.Common.{◌≡◌, ℕ, zero, suc, ◌+◌, ◌<◌, Bool, true, false, cond, not, ◌&&◌, ◌||◌, refl, sym, ◌∙◌, ap, arith, List, [], ◌∷◌, ◌++◌, Some, get_or, length, map, filter, take, nat_eq}
+use Rattle.std.specs.Prelude.{All, option_map, slice_get}
 use Rattle.std.specs.List.{list_all, list_any}
 use Rattle.std.proofs.lemmas.Bool.{and_parts}
 use Rattle.std.proofs.lemmas.Bool.Decides.{nat_tests}
 use Rattle.std.proofs.lemmas.List.{get_or-map, length-map}
 use Rattle.std.proofs.lemmas.List.Elements.{All-get_or}
-use Rattle.std.proofs.lemmas.Option.{slice_get-get_or, slice_get-map}
 use Rattle.std.proofs.lemmas.Simd.{map-map}
 use Rattle.edm_values.proofs.OptionFacts.{some_value}
 use Rattle.edm_values.proofs.PlaceFacts.{map-agree_places}
@@ -28,7 +27,7 @@ use Rattle.par_stages.specs.Placed.{placed}
 use Rattle.par_stages.proofs.Passing.{filter-map, passing}
 use Rattle.aggregate_ops.proofs.FrontLemmas.{distinct-images}
 use Rattle.group_rollup.proofs.GroupLemmas.{group-at_places}
-use Rattle.group_rollup.specs.Groupings.{groups, places_in}
+use Rattle.group_rollup.specs.Groupings.{places_in}
 use Rattle.group_rollup.specs.NumberedBy.{AreNumberedBy}
 use Rattle.numbered_groups.specs.Numbered.{Numbering, numbered_group, places_with}
 use Rattle.step_run.proofs.GroupTotalLaws.{firsts-within, group-at, groups-are, length-placed, placed-at, size}

@@ -1,5 +1,5 @@
 -- What is kept of the instances of each key of a recursive rollup: their values, their nodes, and what is known at each node.
-use Rattle.std.proofs.Common.{◌≡◌, ℕ, ◌+◌, ◌<◌, ◌≤◌, true, refl, sym, ◌∙◌, ap, subst, arith, List, [], ◌∷◌, ◌++◌, Option, Some, None, get_or, length, length-append, map, filter, drop, nat_eq, ⊎_elim, IsTrue}
+use Rattle.std.proofs.Common.{◌≡◌, ℕ, ◌+◌, ◌<◌, ◌≤◌, refl, sym, ◌∙◌, ap, subst, arith, List, [], ◌∷◌, ◌++◌, Option, Some, None, get_or, length, length-append, map, filter, drop, nat_eq, ⊎_elim, IsTrue}
 use Rattle.std.specs.Prelude.{All, nat_lt, option_map, slice_get}
 use Rattle.std.specs.Global.{Vec}
 use Rattle.std.specs.declared.result.Result.TheVariants.{Err}

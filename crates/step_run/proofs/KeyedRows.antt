@@ -1,5 +1,5 @@
 -- The rows of a recursive rollup with plain keys, and what they are made of.
-use Rattle.std.proofs.Common.{◌≡◌, ℕ, zero, suc, ◌+◌, ◌-◌, ◌<◌, ◌≤◌, Bool, true, false, cond, ◌&&◌, ◌||◌, refl, sym, ◌∙◌, ap, subst, arith, List, [], ◌∷◌, ◌++◌, Option, Some, None, get_or, length, map, filter, take, drop, append_assoc, IsTrue}
+use Rattle.std.proofs.Common.{◌≡◌, ℕ, ◌+◌, ◌-◌, ◌<◌, ◌≤◌, Bool, true, false, cond, ◌&&◌, ◌||◌, refl, sym, ◌∙◌, ap, subst, arith, List, [], ◌∷◌, ◌++◌, Option, Some, get_or, length, map, filter, take, drop, append_assoc, IsTrue}
 use Rattle.std.specs.Prelude.{All, flat_map, nat_lt, option_map, slice_get, sum}
 use Rattle.std.specs.List.{list_all, list_any}
 use Rattle.std.proofs.lemmas.Bool.{and_parts}
@@ -11,7 +11,7 @@ use Rattle.edm_values.proofs.EachLemmas.{map-agree}
 use Rattle.edm_values.proofs.ListFacts.{all-at}
 use Rattle.edm_values.proofs.Reorderings.{Reorders, filter-swapped}
 use Rattle.edm_values.specs.declared.Value.{Value}
-use Rattle.edm_values.specs.Lists.{at_places, distinct, is_nonempty, sorted}
+use Rattle.edm_values.specs.Lists.{at_places, is_nonempty, sorted}
 use Rattle.edm_values.specs.Names.{Path}
 use Rattle.edm_values.specs.Values.{is_beyond}
 use Rattle.edm_model.specs.LookUps.{HierarchyPlace}
@@ -43,7 +43,6 @@ use Rattle.step_run.proofs.KeyedLaws.{firsts-keys, keys-own, keys-thinned, passi
 use Rattle.step_run.proofs.LevelLemmas.{IsPlaced, levels-cost, levels-mean, typed-apart}
 use Rattle.step_run.proofs.NodeLevels.{filter-both, found-is, keyed-last, nodes-lists, nodes-made}
 use Rattle.step_run.proofs.PlacedRuns.{part-within, placed-part, run-reorders}
-use Rattle.step_run.proofs.RunLevels.{sum-append}
 use Rattle.step_run.proofs.TotalLaws.{alone, alone-mean, made_of}
 use Rattle.step_run.specs.Conditions.{KeysReady, StepRunsFrom}
 use Rattle.step_run.specs.Contexts.{Context}

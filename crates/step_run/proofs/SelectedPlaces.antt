@@ -1,6 +1,6 @@
 -- The places that a selection takes are places of its values.
-use Rattle.std.proofs.Common.{arith, ℕ, ◌≤◌, ◌≡◌, ◌∙◌, ap, sym, Bool, IsTrue, List, length, map, filter, true, false}
-use Rattle.std.specs.Prelude.{IfOk, None, Some, nat_eq, nat_lt, if◌then◌else◌}
+use Rattle.std.proofs.Common.{arith, ℕ, ◌∙◌, ap, sym, Bool, IsTrue, List, length, filter}
+use Rattle.std.specs.Prelude.{IfOk, Some, nat_eq, nat_lt}
 use Rattle.std.specs.Global.{Vec}
 use Rattle.std.specs.List.{list_all, list_any}
 use Rattle.std.specs.declared.result.Result as result

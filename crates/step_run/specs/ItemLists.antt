@@ -1,5 +1,5 @@
 -- The values of the items of an aggregation on a whole list, of which each group takes those at its places.
-use Rattle.std.specs.Prelude.{◌≡◌, ℕ, List, Option, Some, None, map, slice_get}
+use Rattle.std.specs.Prelude.{◌≡◌, ℕ, List, Option, Some, None, slice_get}
 use Rattle.std.specs.Global.{Vec}
 use Rattle.edm_values.specs.declared.Value.{Value}
 use Rattle.edm_data.specs.Worlds.{World}

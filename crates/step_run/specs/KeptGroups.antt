@@ -16,7 +16,7 @@ use Rattle.apply_meaning.specs.Instances.{Instance, extended, no_instance}
 use Rattle.apply_meaning.specs.Meaning.{Outcome, joined, key_list, keyed, values}
 use Rattle.group_rollup.specs.Groupings.{has_beyond_key}
 use Rattle.row_frames.specs.Keys.{seen_columns}
-use Rattle.step_run.specs.Levels.{Level, level_made, level_on, levels_of}
+use Rattle.step_run.specs.Levels.{level_made, level_on, levels_of}
 use Rattle.step_run.specs.declared.kept_groups.Kept.{Kept}
 
 -- a transformation that only keeps some of the instances, or puts them in order

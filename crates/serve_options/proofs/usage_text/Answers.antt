@@ -3,7 +3,7 @@ use Rattle.std.proofs.lemmas.Result.{IfOk-weaker}
 use Rattle.std.proofs.lemmas.Str.{IsUtf8-string_bytes}
 use Rattle.quoted_text.specs.Quoted.{IsPrintable}
 use Rattle.serve_options.specs.Command.{texts_of}
-use Rattle.serve_options.proofs.UsageLaws.{command_told, none_printable, rule_told, usage_printable}
+use Rattle.serve_options.proofs.UsageLaws.{none_printable, rule_told, usage_printable}
 use Rattle.serve_options.proofs.usage_text.Goals as goal
 
 pub returns-in-Ok-check_values-clause-printable : goal.returns-in-Ok-check_values-clause-printable

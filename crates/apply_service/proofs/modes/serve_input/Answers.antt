@@ -1,4 +1,4 @@
-use Rattle.std.proofs.Common.{◌≡◌, ap, Err, arith}
+use Rattle.std.proofs.Common.{ap, Err, arith}
 use Rattle.apply_service.proofs.modes.serve_input.Goals as goal
 
 pub returns-in-Ok-clause-says : goal.returns-in-Ok-clause-says

@@ -1,4 +1,4 @@
-use Rattle.std.proofs.Common.{◌+◌, ◌≤◌, ◌∙◌, ap, arith, length}
+use Rattle.std.proofs.Common.{◌∙◌, ap, arith, length}
 use Rattle.frame_run.specs.HeldRows.{owed}
 use Rattle.frame_run.proofs.HeldLemmas.{first-long}
 use Rattle.frame_run.proofs.held.made_rows.Goals as goal

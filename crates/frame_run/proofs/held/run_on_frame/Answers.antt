@@ -1,4 +1,4 @@
-use Rattle.std.proofs.Common.{◌≡◌, ◌∙◌, [], ap, sym, subst, map, IsTrue, Some, arith}
+use Rattle.std.proofs.Common.{◌∙◌, [], ap, sym, subst, map, IsTrue, Some, arith}
 use Rattle.std.proofs.lemmas.Result.{err_from_is_err_and}
 use Rattle.apply_ast.specs.Views.{agg_of, expr_of, item_of, named_of, step_of, top_of, traverse_of}
 use Rattle.apply_ast.proofs.ViewEquations.{step_of-Aggregate, step_of-Compute, step_of-Filter, step_of-Identity, step_of-OrderBy, step_of-Skip, step_of-Top, step_of-TopBy, step_of-Traverse}

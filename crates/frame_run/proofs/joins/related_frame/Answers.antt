@@ -1,7 +1,7 @@
-use Rattle.std.proofs.Common.{◌≡◌, ◌∙◌, ap, map, List}
-use Rattle.std.specs.Prelude.{IfOk, get_or}
+use Rattle.std.proofs.Common.{◌≡◌, ◌∙◌, ap, map}
+use Rattle.std.specs.Prelude.{get_or}
 use Rattle.std.proofs.lemmas.Result.{IfOk-weaker}
-use Rattle.apply_meaning.specs.Instances.{Instance, entity_instance, no_instance}
+use Rattle.apply_meaning.specs.Instances.{entity_instance, no_instance}
 use Rattle.apply_meaning.specs.Meaning as meaning
 use Rattle.edm_model.specs.LookUps.{navigation_on}
 use Rattle.edm_data.specs.Worlds.{World}

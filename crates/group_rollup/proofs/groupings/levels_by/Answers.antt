@@ -1,4 +1,4 @@
-use Rattle.std.proofs.Common.{◌+◌, ◌-◌, ◌∙◌, length}
+use Rattle.std.proofs.Common.{◌+◌, ◌-◌, ◌∙◌}
 use Rattle.apply_meaning.specs.Instances.{lookup}
 use Rattle.aggregate_ops.proofs.ColumnKeys.{as-many, keys-right, long-enough}
 use Rattle.group_rollup.specs.Groupings.{front_groups}

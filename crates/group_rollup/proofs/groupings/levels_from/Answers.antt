@@ -3,7 +3,6 @@ use Rattle.std.specs.Prelude.{All}
 use Rattle.edm_values.specs.declared.Value.{Value}
 use Rattle.aggregate_ops.specs.Columns.{key_rows}
 use Rattle.aggregate_ops.proofs.ColumnKeys.{length-rows, rows-wide}
-use Rattle.group_rollup.specs.Groupings.{front_groups}
 use Rattle.group_rollup.proofs.GroupLemmas.{groups-long}
 use Rattle.group_rollup.proofs.LevelLemmas.{front_groups-finest, front_groups-none}
 use Rattle.group_rollup.proofs.groupings.levels_from.Goals as goal

@@ -1,4 +1,4 @@
-use Rattle.std.proofs.Common.{rules, ◌≡◌, ◌∙◌, sym}
+use Rattle.std.proofs.Common.{rules, ◌∙◌, sym}
 use Rattle.group_rollup.proofs.ColumnLemmas.{any-across}
 use Rattle.group_rollup.proofs.numbered.list_codes.Goals as goal
 

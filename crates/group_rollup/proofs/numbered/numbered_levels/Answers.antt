@@ -1,7 +1,5 @@
-use Rattle.std.proofs.Common.{rules, ◌≡◌, ◌∙◌, ◌+◌, ◌++◌, Bool, List, ap, arith, if◌then◌else◌, length, map, subst, sym}
+use Rattle.std.proofs.Common.{rules, ◌≡◌, ◌∙◌, ◌+◌, ◌++◌, ap, arith, length, map, subst, sym}
 use Rattle.std.proofs.lemmas.List.{length-map}
-use Rattle.edm_values.specs.Names.{Path}
-use Rattle.value_codes.specs.Codes.{CodeList}
 use Rattle.apply_meaning.specs.Meaning.{key_list}
 use Rattle.numbered_groups.specs.Numbered.{AreKeyCodes, AreNumberedLevels}
 use Rattle.group_rollup.specs.Groupings.{has_beyond_key}

@@ -1,7 +1,7 @@
-use Rattle.std.proofs.Common.{◌≡◌, ◌∙◌, ap, false, map, refl, subst, sym}
-use Rattle.std.specs.Prelude.{if◌then◌else◌, slice_index_or}
+use Rattle.std.proofs.Common.{◌∙◌, ap, false, map, subst, sym}
+use Rattle.std.specs.Prelude.{slice_index_or}
 use Rattle.edm_values.specs.Lists.{places}
-use Rattle.edm_data.specs.Hierarchies.{ancestor_rows, descendant_rows, rows_whose}
+use Rattle.edm_data.specs.Hierarchies.{rows_whose}
 use Rattle.edm_data.specs.References.{count}
 use Rattle.row_frames.specs.Related.{placed}
 use Rattle.hier_rows.specs.HierRows.{AreNodesBelow, AreOptionsBelow}

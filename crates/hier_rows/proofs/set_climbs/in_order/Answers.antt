@@ -1,6 +1,5 @@
-use Rattle.std.proofs.Common.{◌≡◌, ◌∙◌, ap, false, get_or, sym}
-use Rattle.std.specs.Prelude.{IfOk, filter, nat_eq}
-use Rattle.std.specs.List.{list_any}
+use Rattle.std.proofs.Common.{◌∙◌, ap, false, get_or}
+use Rattle.std.specs.Prelude.{filter}
 use Rattle.edm_values.specs.Lists.{places}
 use Rattle.std.proofs.lemmas.Result.{IfOk-weaker}
 use Rattle.hier_rows.proofs.SetLaws.{marks-read}

@@ -7,7 +7,7 @@ use Rattle.std.specs.List.{list_all}
 use Rattle.edm_values.specs.Lists.{at_places, sorted, all_some}
 use Rattle.edm_values.specs.declared.Value.{Value}
 use Rattle.edm_data.specs.Worlds.{World}
-use Rattle.apply_meaning.specs.Instances.{Instance, extended, val}
+use Rattle.apply_meaning.specs.Instances.{Instance, extended}
 use Rattle.apply_meaning.specs.Meaning.{Outcome, joined, keyed, mean, order_before, order_values, refused_at_beyond, step_mean, inner_mean, shown_of}
 use Rattle.apply_meaning.specs.MeaningLaws.{IsLoaded}
 use Rattle.apply_meaning.specs.RowViews.{columns_differ}

@@ -1,17 +1,13 @@
-use Rattle.std.proofs.Common.{rules, ◌≡◌, ◌∙◌, [], ◌∷◌, ap, sym, subst, length, map, Some, List, true, false}
-use Rattle.std.specs.Prelude.{IfSome, nat_lt}
-use Rattle.std.specs.List.{list_all, list_any}
+use Rattle.std.proofs.Common.{rules, ◌≡◌, [], ◌∷◌, subst, false}
+use Rattle.std.specs.Prelude.{IfSome}
+use Rattle.std.specs.List.{list_any}
 use Rattle.std.proofs.lemmas.Result.{err_from_is_err_and}
-use Rattle.edm_values.specs.declared.Value.{Value}
-use Rattle.edm_values.specs.Lists.{at_places, sorted}
+use Rattle.edm_values.specs.Lists.{sorted}
 use Rattle.edm_values.specs.Values.{is_beyond}
-use Rattle.edm_data.specs.Worlds.{World}
 use Rattle.apply_ast.specs.Views.{item_of}
-use Rattle.apply_meaning.specs.Instances.{Instance}
 use Rattle.apply_meaning.specs.Meaning.{order_before, values}
-use Rattle.row_orders.specs.Orders.{RankedPlace}
 use Rattle.row_orders.specs.Places.{numbered}
-use Rattle.row_orders.proofs.PlaceSorts.{item-sure, ordered-places, ordered-within, order-refused}
+use Rattle.row_orders.proofs.PlaceSorts.{ordered-places, ordered-within, order-refused}
 use Rattle.row_orders.proofs.places.item_places.Goals as goal
 
 pub returns-in-Some-clause-value : goal.returns-in-Some-clause-value

@@ -1,4 +1,4 @@
-use Rattle.std.proofs.Common.{rules, ◌≡◌, ◌∙◌, ap, map}
+use Rattle.std.proofs.Common.{rules, ◌∙◌, ap, map}
 use Rattle.apply_ast.specs.Views.{item_of}
 use Rattle.row_orders.specs.Orders.{RankedPlace}
 use Rattle.row_orders.proofs.ItemSorts.{sorted-by_item}

@@ -1,4 +1,4 @@
-use Rattle.std.proofs.Common.{rules, ◌≡◌, ◌∙◌, IfSome, ap, map, subst}
+use Rattle.std.proofs.Common.{rules, ◌∙◌, IfSome, ap, map, subst}
 use Rattle.edm_values.specs.Values.{seen_value}
 use Rattle.value_codes.specs.Codes.{AreCodes}
 use Rattle.row_frames.specs.Keys.{key_column}

@@ -1,4 +1,4 @@
-use Rattle.std.proofs.Common.{ap, sym, subst, IsTrue, Some}
+use Rattle.std.proofs.Common.{sym, subst, IsTrue}
 use Rattle.apply_meaning.specs.Running.{all_of}
 use Rattle.step_run.proofs.item_lists.list_of.Goals as goal
 

@@ -1,4 +1,4 @@
-use Rattle.std.proofs.Common.{rules, ◌≡◌, ◌∙◌, ◌+◌, ◌<◌, [], ap, sym, subst, refl, drop, length, map, Some, Err, List, IsTrue, arith}
+use Rattle.std.proofs.Common.{rules, ◌∙◌, ◌+◌, ap, subst, drop, map, arith}
 use Rattle.std.specs.Prelude.{option_and_then}
 use Rattle.std.proofs.Math.ListN.{drop_of_length-le}
 use Rattle.std.proofs.lemmas.Result.{err_from_is_err_and}
@@ -12,7 +12,7 @@ use Rattle.apply_meaning.specs.Meaning.{mean, step_mean}
 use Rattle.apply_meaning.specs.MeaningLaws.{IsLoaded}
 use Rattle.row_frames.specs.Keys.{seen_columns}
 use Rattle.step_run.proofs.KeptSteps.{keeping-at, order-err, read-step}
-use Rattle.step_run.specs.Conditions.{RunsFrom, StepRunsFrom}
+use Rattle.step_run.specs.Conditions.{StepRunsFrom}
 use Rattle.step_run.proofs.kept_groups.kept_places.Goals as goal
 
 pub next_ready-requires-clause-ready : goal.next_ready-requires-clause-ready

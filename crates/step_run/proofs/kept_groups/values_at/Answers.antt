@@ -1,4 +1,4 @@
-use Rattle.std.proofs.Common.{rules, ◌≡◌, ◌++◌, ◌∷◌, []}
+use Rattle.std.proofs.Common.{rules}
 use Rattle.step_run.proofs.KeptPlaces.{more-seen}
 use Rattle.step_run.proofs.kept_groups.values_at.Goals as goal
 

@@ -1,8 +1,6 @@
-use Rattle.std.proofs.Common.{◌≡◌, ◌∙◌, ◌∷◌, [], Some, ap, arith, length, length-append, map}
+use Rattle.std.proofs.Common.{◌∙◌, ◌∷◌, [], ap, arith, length, length-append, map}
 use Rattle.std.specs.Prelude.{is_some, slice_get}
-use Rattle.std.specs.Option.{option_map}
 use Rattle.edm_values.specs.Lists.{at_places}
-use Rattle.edm_values.specs.Values.{seen_value}
 use Rattle.apply_ast.specs.Views.{agg_of}
 use Rattle.context_typing.specs.Readings.{readings}
 use Rattle.context_typing.specs.Typing.{item_column}

@@ -1,4 +1,4 @@
-use Rattle.std.proofs.Common.{Option, ◌≡◌, ◌∙◌, ap, sym, map}
+use Rattle.std.proofs.Common.{Option, ◌∙◌, ap, sym, map}
 use Rattle.std.specs.Prelude.{IfSome}
 use Rattle.std.proofs.lemmas.Result.{err_from_is_err_and}
 use Rattle.apply_ast.proofs.ViewEquations.{keys_of-is}

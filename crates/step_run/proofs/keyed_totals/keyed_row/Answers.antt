@@ -1,14 +1,11 @@
-use Rattle.std.proofs.Common.{◌≡◌, ◌∙◌, ◌-◌, ◌<◌, ◌≤◌, ◌∷◌, [], ◌++◌, ℕ, List, ap, sym, subst, refl, arith, length, map, drop, take, IsTrue}
+use Rattle.std.proofs.Common.{◌∙◌, ◌-◌, ◌<◌, ◌∷◌, [], ◌++◌, ℕ, List, ap, sym, subst, refl, arith, length, map, drop, take, IsTrue}
 use Rattle.std.specs.Prelude.{nat_lt}
 use Rattle.std.specs.List.{list_all}
-use Rattle.edm_values.specs.declared.Value.TheVariants.{Null}
 use Rattle.edm_values.specs.Lists.{at_places}
 use Rattle.apply_ast.specs.Views.{agg_of}
 use Rattle.context_typing.specs.Readings.{readings}
 use Rattle.apply_meaning.specs.Instances.{no_instance}
-use Rattle.apply_meaning.specs.Meaning.{item_value, keyed}
 use Rattle.apply_meaning.specs.RowViews.{IsRow, columns_differ}
-use Rattle.step_run.specs.Conditions.{ItemsRun}
 use Rattle.step_run.specs.KeyedTotals.{AreKeyRows, KeyRowsState, keyed_row}
 use Rattle.step_run.specs.Totals.{AreKnownAt, AreNodesOf}
 use Rattle.step_run.proofs.GroupTotalLaws.{length-placed}

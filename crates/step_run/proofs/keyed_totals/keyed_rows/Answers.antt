@@ -1,12 +1,11 @@
-use Rattle.std.proofs.Common.{◌≡◌, ◌+◌, ◌≤◌, ◌++◌, ◌∷◌, ◌<◌, [], ℕ, Option, sym, subst, ◌∙◌, ap, arith, Err, List, length, map, refl, IsTrue, get_or}
+use Rattle.std.proofs.Common.{◌≡◌, ◌+◌, ◌++◌, ◌∷◌, ◌<◌, [], ℕ, Option, sym, subst, ◌∙◌, ap, arith, Err, List, length, map, IsTrue, get_or}
 use Rattle.std.specs.Prelude.{All, IfSome, flat_map, nat_lt}
-use Rattle.std.specs.List.{list_all, list_any}
+use Rattle.std.specs.List.{list_all}
 use Rattle.std.specs.Global.{Vec}
 use Rattle.std.proofs.lemmas.List.{length-map}
 use Rattle.std.proofs.lemmas.Result.{err_from_is_err_and}
 use Rattle.edm_values.specs.declared.Value.{Value}
 use Rattle.edm_values.specs.Lists.{at_places}
-use Rattle.edm_values.specs.Values.{is_beyond}
 use Rattle.edm_data.specs.Nodes.{parents_of}
 use Rattle.edm_data.specs.References.{count}
 use Rattle.edm_data.specs.Worlds.{World}

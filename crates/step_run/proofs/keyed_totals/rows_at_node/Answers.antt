@@ -1,5 +1,5 @@
-use Rattle.std.proofs.Common.{rules, ◌≡◌, ◌∙◌, ◌<◌, ◌+◌, ◌≤◌, ◌∷◌, [], ◌++◌, ℕ, List, Some, ap, sym, subst, arith, get_or, length, map, take, append_assoc}
-use Rattle.std.specs.Prelude.{filter, option_map, slice_get}
+use Rattle.std.proofs.Common.{rules, ◌≡◌, ◌∙◌, ◌<◌, ◌+◌, ◌∷◌, [], ◌++◌, ℕ, List, Some, ap, sym, subst, arith, get_or, length, map, take, append_assoc}
+use Rattle.std.specs.Prelude.{filter, slice_get}
 use Rattle.std.proofs.lemmas.List.{map-append, take_all, take_more}
 use Rattle.std.proofs.lemmas.Option.{slice_get-get_or}
 use Rattle.edm_values.specs.declared.Value.{Value}

@@ -1,4 +1,4 @@
-use Rattle.std.proofs.Common.{append_assoc, ◌≡◌, ◌∙◌, ◌+◌, ◌≤◌, ◌++◌, ◌∷◌, [], ℕ, List, ap, sym, subst, arith, drop, get_or, length, length-append, map}
+use Rattle.std.proofs.Common.{append_assoc, ◌∙◌, ◌+◌, ◌++◌, ℕ, List, ap, sym, subst, arith, drop, length, length-append, map}
 use Rattle.std.specs.Prelude.{flat_map}
 use Rattle.std.proofs.Math.ListN.{drop_of_length-le}
 use Rattle.std.proofs.lemmas.List.{append-nil}

@@ -1,4 +1,4 @@
-use Rattle.std.proofs.Common.{◌≡◌, ◌∙◌, ap, length, sym, subst, IsTrue}
+use Rattle.std.proofs.Common.{◌∙◌, ap, length, sym, subst, IsTrue}
 use Rattle.std.specs.Prelude.{nat_lt}
 use Rattle.std.specs.List.{list_all}
 use Rattle.edm_values.specs.Lists.{at_places}

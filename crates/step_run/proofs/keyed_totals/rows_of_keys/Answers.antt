@@ -2,10 +2,7 @@ use Rattle.std.proofs.Common.{◌≡◌, ◌∙◌, ◌∷◌, ◌<◌, [], ℕ,
 use Rattle.std.specs.Prelude.{All, IfSome, nat_lt}
 use Rattle.std.specs.List.{list_all}
 use Rattle.std.proofs.lemmas.List.{get_or-map}
-use Rattle.std.proofs.lemmas.List.Elements.{All-get_or}
 use Rattle.apply_ast.specs.Views.{agg_of}
-use Rattle.step_run.specs.Conditions.{ItemsReady}
-use Rattle.edm_values.specs.Lists.{at_places}
 use Rattle.step_run.specs.KeyedTotals.{AreKeyRows, KeyRowsState}
 use Rattle.step_run.proofs.KeyedParts.{each-next, each-none, read-long}
 use Rattle.step_run.proofs.keyed_totals.rows_of_keys.Goals as goal

@@ -1,6 +1,5 @@
-use Rattle.std.proofs.Common.{◌≡◌, ◌∙◌, ◌<◌, ◌+◌, ◌≤◌, [], ℕ, ap, get_or, refl, sym, subst, arith, length, map, IsTrue}
-use Rattle.std.specs.Prelude.{All, IfOk, IfSome, flat_map, nat_lt}
-use Rattle.std.specs.List.{list_all}
+use Rattle.std.proofs.Common.{◌≡◌, ◌∙◌, ◌<◌, [], ℕ, ap, get_or, refl, sym, subst, arith, length, map}
+use Rattle.std.specs.Prelude.{All, IfOk, IfSome, flat_map}
 use Rattle.edm_values.specs.declared.Value.TheVariants.{Null}
 use Rattle.edm_values.specs.Lists.{at_places, places}
 use Rattle.apply_ast.specs.Views.{agg_of}

@@ -1,9 +1,5 @@
 use Rattle.std.proofs.Common.{◌∙◌, ◌∷◌, [], ap, arith, length, length-append, map}
-use Rattle.std.specs.Prelude.{option_map, slice_get}
-use Rattle.std.specs.Global.{Vec}
-use Rattle.std.proofs.lemmas.List.{length-map}
-use Rattle.edm_values.specs.declared.Seen.{Seen}
-use Rattle.edm_values.specs.Values.{seen_value}
+use Rattle.std.specs.Prelude.{slice_get}
 use Rattle.apply_ast.specs.Views.{agg_of}
 use Rattle.step_run.proofs.ItemLists.{read-list}
 use Rattle.step_run.proofs.KeyedParts.{seen-next, seen-none}

@@ -1,9 +1,8 @@
 use Rattle.std.proofs.Common.{true, false, Bool, List, map, subst, sym}
 use Rattle.edm_values.specs.Values.{Number, reaches_sum, seen_value, top_places}
 use Rattle.edm_values.specs.declared.Value.{Value}
-use Rattle.apply_ast.specs.Views.{limit_of, number_literal_of}
+use Rattle.apply_ast.specs.Views.{number_literal_of}
 use Rattle.apply_ast.specs.declared.items.Limit.TheVariants as code
-use Rattle.apply_meaning.specs.Meaning.{reaches}
 use Rattle.top_family.specs.Selections.{Takes}
 use Rattle.step_run.proofs.TakenRows.{limit-is, sum-reaches}
 use Rattle.step_run.proofs.selections.taken_places.Goals as goal

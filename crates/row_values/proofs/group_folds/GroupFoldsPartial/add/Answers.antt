@@ -1,4 +1,4 @@
-use Rattle.std.proofs.Common.{◌+◌, ◌++◌, ◌∷◌, [], arith, get_or, refl, set, subst, sym}
+use Rattle.std.proofs.Common.{arith, get_or, refl, subst, sym}
 use Rattle.std.proofs.lemmas.Result.{on_ok_weaker}
 use Rattle.row_values.specs.GroupFolds.{AreFoldsOf}
 use Rattle.row_values.proofs.GroupFoldLemmas.{one-added}

@@ -1,4 +1,4 @@
-use Rattle.std.proofs.Common.{◌≡◌, List, [], length}
+use Rattle.std.proofs.Common.{◌≡◌, [], length}
 use Rattle.std.specs.List.{All}
 use Rattle.row_values.proofs.group_folds.GroupFoldsPartial.fresh.Given as goal
 

@@ -1,6 +1,6 @@
-use Rattle.std.proofs.Common.{◌≡◌, ◌∙◌, ◌+◌, ◌<◌, ◌≤◌, ◌++◌, ap, arith, get_or, length, subst, sym}
+use Rattle.std.proofs.Common.{◌∙◌, ◌+◌, ◌<◌, ◌≤◌, ◌++◌, ap, arith, length, subst, sym}
 use Rattle.std.specs.List.{All}
-use Rattle.row_values.specs.GroupFolds.{AreFoldsOf, AreMergedTo, FoldsState, IsFold}
+use Rattle.row_values.specs.GroupFolds.{AreFoldsOf, AreMergedTo, IsFold}
 use Rattle.row_values.proofs.GroupFoldLemmas.{all-merged, few-together, fold-merged, left-read, left-rest, left-there, merged-next, merged-none, merged-old}
 use Rattle.row_values.proofs.group_folds.GroupFoldsPartial.merge.Goals as goal
 
