@@ -1,5 +1,15 @@
 -- Values that are read of items, where these are folded.
-use Rattle.std.proofs.Common.{◌≡◌, ◌∙◌, ℕ, ◌+◌, ◌<◌, arith, List, [], ◌∷◌, length, map, get_or, refl, sym, ap, subst}
+use Rattle.std.proofs.Common.{◌≡◌, ◌∙◌, ℕ, zero, suc, ◌+◌, ◌-◌, ◌<◌, ◌≤◌, arith, List, [], ◌∷◌, Option, Some, None, drop, length, map, get_or, refl, sym, ap, subst, take}
+use Rattle.std.specs.Prelude.{IfSome, option_map, unwrap_or}
+use denote.Ref.{Bor}
+use Rattle.std.proofs.Math.Seq.{drop-cons}
+use Rattle.std.proofs.lemmas.Option.{slice_get-get_or, slice_get-map}
+use Rattle.edm_values.specs.declared.Value.{Value}
+use Rattle.edm_values.specs.Values.{value_in}
+use Rattle.edm_values.proofs.TopPlaces.{element-there}
+use Rattle.row_frames.specs.Folded.{IsSlice}
+use Rattle.row_frames.specs.Runs.{rows_from}
+use Rattle.row_frames.specs.declared.tables.Pick.{Pick}
 use Rattle.std.specs.List.{All}
 use Rattle.std.proofs.lemmas.List.{get_or-map, length-map}
 use Rattle.std.proofs.lemmas.List.Elements.{All-tail}
@@ -26,3 +36,20 @@ read-there f xs k x lt is = ap f is ∙ sym (get_or-map f xs k x (f x) lt)
 pub read-same : {X Y : Type 0} (P : X → Type 0) (f g : X → Y) (xs : List X) → All P xs → ((x : X) → P x → f x ≡ g x) → map f xs ≡ map g xs
 read-same P f g [] h e = refl
 read-same P f g (x ∷ xs) h e = λ i. e x (h 0 x (omega arith)) i ∷ read-same P f g xs (All-tail P x xs h) e i
+
+-- what stands in a list at the places of rows that stand one behind the other
+pub slice-read : {A : Type 0} (g : A → Value) (list : List A) (a n : ℕ) → a + n ≤ length list → map (λ (x : Pick). value_in (map g list) x.row) (rows_from a n) ≡ map g (take n (drop a list))
+slice-read g list a zero h = refl
+slice-read g list a (suc n) h =
+    let less : a < length list = omega (arith, h) in
+    let d = (element-there list a less).0 in
+    let head : value_in (map g list) a ≡ g (get_or list a d) = ap (λ o. unwrap_or o Value.Null) (slice_get-map g list a ∙ ap (option_map g) (slice_get-get_or list a d less)) in
+    (λ i. head i ∷ slice-read g list (suc a) n (omega (arith, h)) i) ∙ ap (λ l. map g (take (suc n) l)) (sym (drop-cons list a d less))
+
+-- the elements at the places of a run are what is read there
+pub slice-given : {A : Type 0} (g : A → Value) (list : List A) (from to : ℕ) (read : List Value) (o : Option (Bor (List A))) → IfSome o (λ part. IsSlice list from to part.now)
+    → read ≡ map (λ (x : Pick). value_in (map g list) x.row) (rows_from from (to - from)) → IfSome o (λ part. map g part.now ≡ read)
+slice-given g list from to read None h e = tt
+slice-given g list from to read (Some part) h e =
+    let all : from + (to - from) ≤ length list = let a = h.order in let b = h.within in omega (arith, a, b) in
+    ap (map g) h.elements ∙ sym (slice-read g list from (to - from) all) ∙ sym e

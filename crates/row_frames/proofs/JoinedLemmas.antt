@@ -84,3 +84,8 @@ joined-within n m k xs ys both e f h g =
 
 pub joined-tables : (ts us all : List Table) → all ≡ ts ++ us → All IsTable ts → All IsTable us → All IsTable all
 joined-tables ts us all e h g = All-same IsTable all (ts ++ us) e (All-append IsTable ts us h g)
+
+-- nothing stands before
+pub none-before : {X : Type 0} (xs ys : List X) → length xs ≡ 0 → ys ≡ xs ++ ys
+none-before [] ys none = refl
+none-before (x ∷ xs) ys none = absurd (omega (arith, none))

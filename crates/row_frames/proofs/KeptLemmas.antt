@@ -1,10 +1,10 @@
 -- The picks whose answers are true.
-use Rattle.std.proofs.Common.{◌≡◌, ◌∙◌, ℕ, ◌+◌, ◌<◌, Bool, true, false, List, [], ◌∷◌, ◌++◌, Option, Some, None, add-one, ap, drop, get_or, length, map, refl, sym, append_assoc}
+use Rattle.std.proofs.Common.{◌≡◌, ◌∙◌, ℕ, ◌+◌, ◌<◌, Bool, true, false, List, [], ◌∷◌, ◌++◌, Option, Some, None, add-one, ap, arith, drop, get_or, length, map, refl, subst, sym, append_assoc}
 use Rattle.std.proofs.Math.Seq.{drop-cons}
 use Rattle.std.specs.Prelude.{filter, if◌then◌else◌, is_none, not, ◌||◌, IfOk}
 use Rattle.std.specs.Bool.{then_some}
 use Rattle.std.specs.Global.{Vec}
-use Rattle.std.specs.List.{All, list_any}
+use Rattle.std.specs.List.{All, AllZip, flat_map, list_any}
 use Rattle.std.specs.declared.result.Result as result
 use Rattle.std.specs.declared.result.Result.TheVariants.{Ok, Err}
 use Rattle.std.proofs.lemmas.List.Elements.{All-cons, All-head, All-nil, All-same, All-tail}
@@ -18,6 +18,9 @@ use Rattle.row_frames.specs.declared.tables.Table.{Table}
 use Rattle.row_frames.specs.declared.tables.Pick.{Pick}
 use Rattle.row_frames.specs.Answers.{answer_of, kept_by, Keeps}
 use Rattle.row_frames.specs.Frames.{all_picked, picked, GivesPicks}
+use Rattle.row_frames.specs.PartKeeps.{HasPast}
+use Rattle.row_frames.specs.Parts.{IsWhole}
+use Rattle.std.proofs.lemmas.List.{append-nil}
 
 -- what is kept of the picks before a place, and that each of these has an answer
 pub record KeptUpto (bs : List (Option Bool)) (xs : List Pick) (n : ℕ) (kept : List Pick) : Type 0 where
@@ -102,3 +105,95 @@ answers-are g f (x ∷ xs) (i ∷ l) h =
     let head : g x ≡ f i = cc in
     let rest : map g xs ≡ map f l = cc in
     λ j. answer_of (head j) ∷ answers-are g f xs l rest j
+
+-- ---- some rows behind others
+
+-- what is kept so far, and that each row so far has an answer
+pub record KeptSoFar (f : Pick → Option Bool) (whole rest found : List Pick) : Type 0 where
+  pub picks : found ++ kept_by (map f rest) rest ≡ kept_by (map f whole) whole
+  pub sure : list_any is_none (map f whole) ≡ list_any is_none (map f rest)
+
+module _ (f : Pick → Option Bool) where
+  abbrev kept : List Pick → List Pick
+  kept xs = kept_by (map f xs) xs
+
+  abbrev past : List Pick → Bool
+  past xs = list_any is_none (map f xs)
+
+  both-kept : (xs ys : List Pick) → kept (xs ++ ys) ≡ kept xs ++ kept ys
+  both-kept [] ys = refl
+  both-kept (x ∷ xs) ys = go (f x) (both-kept xs ys)
+    where
+      go : (o : Option Bool) → kept (xs ++ ys) ≡ kept xs ++ kept ys → kept_by (o ∷ map f (xs ++ ys)) (x ∷ (xs ++ ys)) ≡ kept_by (o ∷ map f xs) (x ∷ xs) ++ kept ys
+      go None e = e
+      go (Some true) e = ap (λ l. x ∷ l) e
+      go (Some false) e = e
+
+  both-past : (xs ys : List Pick) → past (xs ++ ys) ≡ (past xs || past ys)
+  both-past [] ys = refl
+  both-past (x ∷ xs) ys = go (f x) (both-past xs ys)
+    where
+      go : (o : Option Bool) → past (xs ++ ys) ≡ (past xs || past ys) → (is_none o || past (xs ++ ys)) ≡ ((is_none o || past xs) || past ys)
+      go None e = refl
+      go (Some b) e = e
+
+  pub none-so-far : (whole : List Pick) → KeptSoFar f whole whole []
+  none-so-far whole = record { picks = refl; sure = refl }
+
+  -- one block more
+  pub more-so-far : (whole rest block behind found found' more : List Pick) → block ++ behind ≡ rest → more ≡ kept block → past block ≡ false → found' ≡ found ++ more → KeptSoFar f whole rest found → KeptSoFar f whole behind found'
+  more-so-far whole rest block behind found found' more all is sure made K = record {
+    picks = ap (λ l. l ++ kept behind) (made ∙ ap (λ l. found ++ l) is)
+        ∙ append_assoc found (kept block) (kept behind)
+        ∙ ap (λ l. found ++ l) (sym (both-kept block behind) ∙ ap kept all)
+        ∙ K.picks;
+    sure = K.sure ∙ ap past (sym all) ∙ both-past block behind ∙ ap (λ b. b || past behind) sure;
+  }
+
+  -- a block with a row without an answer
+  pub past-so-far : (whole rest block behind found : List Pick) → block ++ behind ≡ rest → past block ≡ true → KeptSoFar f whole rest found → past whole ≡ true
+  past-so-far whole rest block behind found all bad K = K.sure ∙ ap past (sym all) ∙ both-past block behind ∙ ap (λ b. b || past behind) bad
+
+  -- all blocks
+  pub all-so-far : (whole rest found : List Pick) → length rest ≡ 0 → KeptSoFar f whole rest found → (found ≡ kept whole) × (past whole ≡ false)
+  all-so-far whole [] found none K = (sym (append-nil found) ∙ K.picks, K.sure)
+  all-so-far whole (x ∷ rest) found none K = absurd (omega (arith, none))
+
+  -- ---- parts, side by side
+
+  abbrev KeepsThese : {C : Type 0} → (C → List Pick) → C → result.Result (Vec Pick) Refused → Type 0
+  KeepsThese rows c r = Keeps (map f (rows c)) (rows c) r
+
+  parts-kept : {C : Type 0} (rows : C → List Pick) (cs : List C) (ls : List (Vec Pick)) → AllZip (KeepsThese rows) cs (map Ok ls) → (flat_map (λ l. l.items) ls ≡ kept (flat_map rows cs)) × (past (flat_map rows cs) ≡ false)
+  parts-kept rows [] [] p = (refl, refl)
+  parts-kept rows [] (l ∷ ls) p = absurd p
+  parts-kept rows (c ∷ cs) [] p = absurd p
+  parts-kept rows (c ∷ cs) (l ∷ ls) p =
+      let later = parts-kept rows cs ls p.1 in (
+        (λ i. p.0.0 i ++ later.0 i) ∙ sym (both-kept (rows c) (flat_map rows cs)),
+        both-past (rows c) (flat_map rows cs) ∙ ap (λ b. b || past (flat_map rows cs)) p.0.1 ∙ later.1,
+      )
+
+  parts-past : {C : Type 0} (rows : C → List Pick) (cs : List C) (ls : List (Vec Pick)) (rest : List (result.Result (Vec Pick) Refused)) → AllZip (KeepsThese rows) cs (map Ok ls ++ Err Range ∷ rest) → past (flat_map rows cs) ≡ true
+  parts-past rows [] [] rest p = absurd p
+  parts-past rows [] (l ∷ ls) rest p = absurd p
+  parts-past rows (c ∷ cs) [] rest p = both-past (rows c) (flat_map rows cs) ∙ ap (λ b. b || past (flat_map rows cs)) p.0
+  parts-past rows (c ∷ cs) (l ∷ ls) rest p = both-past (rows c) (flat_map rows cs) ∙ (λ i. p.0.1 i || parts-past rows cs ls rest p.1 i)
+
+  -- what is kept of all parts is kept of the whole
+  pub whole-in-parts : {C : Type 0} (rows : C → List Pick) (cs : List C) (xs : List Pick) (rs : List (result.Result (Vec Pick) Refused)) (all : List Pick) → flat_map rows cs ≡ xs → AllZip (KeepsThese rows) cs rs → IsWhole rs all → (all ≡ kept xs) × (past xs ≡ false)
+  whole-in-parts rows cs xs rs all whole each is =
+      let both = parts-kept rows cs is.0 (subst (AllZip (KeepsThese rows) cs) (sym is.1) each) in
+      (is.2 ∙ both.0 ∙ ap kept whole, ap past (sym whole) ∙ both.1)
+
+  pub past-in-parts : {C : Type 0} (rows : C → List Pick) (cs : List C) (xs : List Pick) (rs : List (result.Result (Vec Pick) Refused)) → flat_map rows cs ≡ xs → AllZip (KeepsThese rows) cs rs → HasPast rs → past xs ≡ true
+  past-in-parts rows cs xs rs whole each h = ap past (sym whole) ∙ parts-past rows cs h.0 h.1 (subst (AllZip (KeepsThese rows) cs) h.2 each)
+
+  -- what is refused
+  pub bad-block : (xs : List Pick) (e : Refused) → Keeps (map f xs) xs (Err e) → e ≡ Range → past xs ≡ true
+  bad-block xs Range k h = k
+  bad-block xs Memory k h = absurd (cc)
+
+  pub err-keeps : (xs : List Pick) (r : result.Result (Vec Pick) Refused) (e : Refused) → r ≡ Err e → (e ≡ Range → past xs ≡ true) → Keeps (map f xs) xs r
+  err-keeps xs r Range is h = subst (Keeps (map f xs) xs) (sym is) (h refl)
+  err-keeps xs r Memory is h = subst (Keeps (map f xs) xs) (sym is) tt

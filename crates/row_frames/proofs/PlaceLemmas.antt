@@ -8,7 +8,7 @@ use Rattle.std.proofs.lemmas.List.Elements.{All-cons, All-nil, All-get_or}
 use Rattle.std.proofs.lemmas.Option.{slice_get-get_or, slice_get-map}
 use Rattle.edm_values.specs.Lists.{at_places}
 use Rattle.edm_values.proofs.ListFacts.{all-at}
-use Rattle.apply_meaning.specs.Instances.{no_instance}
+use Rattle.apply_meaning.specs.Instances.{Instance, no_instance}
 use Rattle.row_frames.specs.declared.tables.Table.{Table}
 use Rattle.row_frames.specs.declared.tables.Pick.{Pick}
 use Rattle.row_frames.specs.Frames.{all_picked, picked}
@@ -64,6 +64,10 @@ at-within P (x ∷ l) (k ∷ ks) all h =
 -- places among the picks are places among what is picked
 pub places-picked : (ts : List Table) (xs : List Pick) (ks : List ℕ) → IsTrue (list_all (λ k. nat_lt k (length (all_picked ts xs))) ks) → IsTrue (list_all (λ k. nat_lt k (length xs)) ks)
 places-picked ts xs ks h = subst (λ n. IsTrue (list_all (λ k. nat_lt k n) ks)) (length-map xs (picked ts)) h
+
+-- and so are places among the instances that it is seen as
+pub places-seen : (ts : List Table) (xs : List Pick) (l : List Instance) (ks : List ℕ) → all_picked ts xs ≡ l → IsTrue (list_all (λ k. nat_lt k (length l)) ks) → IsTrue (list_all (λ k. nat_lt k (length xs)) ks)
+places-seen ts xs l ks seen h = places-picked ts xs ks (subst (λ (m : List Instance). IsTrue (list_all (λ k. nat_lt k (length m)) ks)) (sym seen) h)
 
 -- the one at a place
 pub one-picked : (ts : List Table) (xs : List Pick) (k : ℕ) (x : Pick) → k < length (all_picked ts xs) → x ≡ get_or xs k x → picked ts x ≡ get_or (all_picked ts xs) k no_instance

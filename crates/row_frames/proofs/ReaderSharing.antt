@@ -14,6 +14,7 @@ use Rattle.edm_values.specs.contracts.Seen as seen_type
 use Rattle.edm_data.specs.contracts.linked_places.LinkedPlaces as links_type
 use Rattle.edm_data.specs.contracts.property_values.PropertyValues as values_type
 use Rattle.row_frames.proofs.Sharing.{column-sync, data-sync, path-sync, relation-sync, text-sync}
+use Rattle.row_frames.specs.contracts.picks.Part as part_type
 use Rattle.row_frames.specs.contracts.tables.Table as table_type
 use Rattle.row_frames.specs.contracts.told.TextValues as told_type
 use Rattle.row_frames.specs.contracts.readers.Leaf as leaf_type
@@ -54,3 +55,6 @@ bound-sync a = record { shared = λ x b o κ. subst (λ s. Keyless (s b o κ)) (
 
 pub reader-sync : (a : NamedLft) → IsSync (reader_type.the_row a)
 reader-sync a = declared_sync (reader_type.the_type a) (search (sendable, crosses, maps.crosses, as_row_sync, data-sync, table-sync, bound-sync) depth 60)
+
+pub part-sync : (a : NamedLft) → IsSync (part_type.the_row a)
+part-sync a = search (sendable, crosses, maps.crosses) depth 60 fits 20000

@@ -3,6 +3,7 @@ use Rattle.std.specs.Prelude.{◌≡◌, ℕ, ◌≤◌, List, Option, None, Som
 use Rattle.edm_values.specs.declared.Value.{Value}
 use Rattle.edm_values.specs.Values.{value_in}
 use Rattle.edm_data.specs.LinkLists.{LinkList, link_in}
+use Rattle.edm_data.specs.NumberedTexts.{NumberedList, numbered_values}
 use Rattle.row_frames.specs.Frames.{place_in, value_at}
 use Rattle.row_frames.specs.declared.tables.Pick.{Pick}
 use Rattle.row_frames.specs.declared.tables.Table.{Table}
@@ -20,3 +21,7 @@ place_behind (Some links) k = link_in links k
 -- the value of the property in a row of a table, of the values of a set's entities
 abbrev pub value_there : Table → List Value → Option LinkList → Pick → Value
 value_there t values links x = value_at values (place_behind links (place_in t.roots x.row))
+
+-- the number of the text in a row of a table, or of null
+abbrev pub IsCodeThere : Table → NumberedList → Option LinkList → Pick → ℕ → Type 0
+IsCodeThere t texts links x = IsTextCode texts.pool (value_there t (numbered_values texts) links x)

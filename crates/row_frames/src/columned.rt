@@ -6,8 +6,8 @@ ghost use Rattle.apply_meaning.specs.RowViews.{columns_differ};
 ghost use Rattle.row_frames.specs.Columned.{given, row_across};
 ghost use Rattle.row_frames.specs.Frames as spec;
 
-use crate::picks::set_picks;
-use crate::tables::{Column, Pick, Roots, Table, one_table};
+use crate::picks::Picks;
+use crate::tables::{Column, Roots, Table, one_table};
 use apply_ast::Path;
 use edm_values::Value;
 use std::alloc::{AllocError, Global};
@@ -65,11 +65,11 @@ pub(crate) fn columned_tables(
 }
 
 /// The first `n` rows of the first table. An error also where they are more than 2^32.
-pub(crate) fn row_picks(alloc: Global, n: usize) -> Result<Vec<Pick>, AllocError>
-    ensures { IfOk result (λ xs. xs.items ≡ map spec.first_pick (all_places n)) }
+pub(crate) fn row_picks(n: usize) -> Result<Picks, AllocError>
+    ensures { IfOk result (λ xs. xs ≡ map spec.first_pick (all_places n)) }
 {
     match u32::try_from(n) {
-        Ok(n) => set_picks(alloc, n),
+        Ok(n) => Ok(Picks::of_first(n)),
         Err(_) => Err(AllocError),
     }
 }

@@ -7,9 +7,11 @@ ghost use Rattle.apply_ast.specs.Views.{expr_of};
 ghost use Rattle.apply_meaning.specs.Meaning.{values};
 ghost use Rattle.apply_meaning.specs.Running.{all_of};
 ghost use Rattle.row_frames.specs.Frames as spec;
+ghost use Rattle.row_frames.specs.Runs.{run_rows};
 ghost use Rattle.row_frames.specs.Gathered.{AreComputed, AreInOrder, IsComputed, IsGathered, at_row as spec_at_row, in_order as ordered};
 
 use crate::gathered::{gathered, widened};
+use crate::picks::{Part, Picks, Run};
 use crate::tables::{Column, Pick, Table};
 use crate::values::values_of;
 use apply_ast::Named;
@@ -27,7 +29,7 @@ fn new_column<R: Threads + Sync>(
     store: &Data,
     tables: &[Table],
     item: &Named,
-    picks: &[Pick],
+    picks: &Picks,
     workers: u32,
 ) -> Result<Column, AllocError>
     requires tables { All spec.IsTable tables.now }
@@ -50,7 +52,7 @@ pub(crate) fn new_columns<R: Threads + Sync>(
     store: &Data,
     tables: &[Table],
     items: &[Named],
-    picks: &[Pick],
+    picks: &Picks,
     workers: u32,
 ) -> Result<Vec<Column>, AllocError>
     requires tables { All spec.IsTable tables.now }
@@ -65,8 +67,8 @@ pub(crate) fn new_columns<R: Threads + Sync>(
     Ok(columns)
 }
 
-/// Whether row k belongs to pick k, for each.
-fn are_in_order(picks: &[Pick]) -> bool
+/// Whether row k belongs to pick k, for each of a list.
+fn are_listed_in_order(picks: &[Pick]) -> bool
     ensures { OnTrue result (AreInOrder picks.now) }
 {
     for (k, pick) in picks.iter().enumerate() {
@@ -75,6 +77,16 @@ fn are_in_order(picks: &[Pick]) -> bool
         }
     }
     true
+}
+
+/// Whether row k belongs to pick k, for each.
+fn are_in_order(picks: &Picks) -> bool
+    ensures { OnTrue result (AreInOrder picks.now) }
+{
+    match picks.as_part() {
+        Part::Run(run) => run.from == 0,
+        Part::List(list) => are_listed_in_order(list),
+    }
 }
 
 /// The numbers of the rows that are picked.
@@ -145,23 +157,35 @@ fn gathered_in_order(
 pub(crate) fn rows_in_order(
     alloc: Global,
     tables: Vec<Table>,
-    picks: Vec<Pick>,
-) -> Result<(Vec<Table>, Vec<Pick>), AllocError>
+    picks: Picks,
+) -> Result<(Vec<Table>, Picks), AllocError>
     requires tables { All spec.IsTable tables.items }
-    requires within { All (λ x. x.table < length tables.items) picks.items }
+    requires within { All (λ x. x.table < length tables.items) picks }
     ensures tables { IfOk result (λ made. All spec.IsTable made.0.items) }
-    ensures within { IfOk result (λ made. All (λ x. x.table < length made.0.items) made.1.items) }
-    ensures order { IfOk result (λ made. AreInOrder made.1.items) }
-    ensures picked { IfOk result (λ made. spec.all_picked made.0.items made.1.items ≡ spec.all_picked tables.items picks.items) }
+    ensures within { IfOk result (λ made. All (λ x. x.table < length made.0.items) made.1) }
+    ensures order { IfOk result (λ made. AreInOrder made.1) }
+    ensures picked { IfOk result (λ made. spec.all_picked made.0.items made.1 ≡ spec.all_picked tables.items picks) }
 {
-    if are_in_order(picks.as_slice()) {
+    if are_in_order(&picks) {
         return Ok((tables, picks));
     }
-    gathered_in_order(alloc, tables.as_slice(), picks.as_slice())
+    let list = picks.into_list(alloc)?;
+    let (made, rows) = gathered_in_order(alloc, tables.as_slice(), list.as_slice())?;
+    Ok((made, Picks::of_list(rows)))
 }
 
-/// Whether a row of table n is picked.
-fn has_pick(picks: &[Pick], n: usize) -> bool
+/// Whether a row of table n is in a run.
+fn run_has_pick(run: Run, n: usize) -> bool
+    ensures { result ≡ list_any (λ x. x.table == n) (run_rows run) }
+{
+    if n == 0 {
+        return run.len() > 0;
+    }
+    false
+}
+
+/// Whether a row of table n is in a list.
+fn list_has_pick(picks: &[Pick], n: usize) -> bool
     ensures { result ≡ list_any (λ x. x.table == n) picks.now }
 {
     picks.iter().any(
@@ -171,12 +195,22 @@ fn has_pick(picks: &[Pick], n: usize) -> bool
     )
 }
 
+/// Whether a row of table n is picked.
+fn has_pick(picks: &Picks, n: usize) -> bool
+    ensures { result ≡ list_any (λ x. x.table == n) picks.now }
+{
+    match picks.as_part() {
+        Part::Run(run) => run_has_pick(run, n),
+        Part::List(list) => list_has_pick(list, n),
+    }
+}
+
 /// Table n with these columns behind its own, where a row of it is picked.
 fn computed_table(
     alloc: Global,
     table: Table,
     n: usize,
-    picks: &[Pick],
+    picks: &Picks,
     columns: &[Column],
 ) -> Result<Table, AllocError>
     ensures { IfOk result (IsComputed picks.now columns.now n table) }
@@ -191,7 +225,7 @@ fn computed_table(
 pub(crate) fn computed_tables(
     alloc: Global,
     tables: Vec<Table>,
-    picks: &[Pick],
+    picks: &Picks,
     columns: &[Column],
 ) -> Result<Vec<Table>, AllocError>
     ensures { IfOk result (λ made. AreComputed picks.now columns.now 0 tables.items made.items) }

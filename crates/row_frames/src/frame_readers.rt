@@ -10,9 +10,10 @@ ghost use Rattle.par_stages.specs.Placed.{placed};
 ghost use Rattle.row_frames.specs.Frames as spec;
 
 use crate::folded::fold_read;
+use crate::picks::Picks;
 use crate::readers::{TableReader, readers_of, value_of};
 use crate::seen::all_seen;
-use crate::tables::{Pick, Table};
+use crate::tables::Table;
 use apply_ast::Expr;
 use edm_data::Data;
 use edm_values::Seen;
@@ -26,7 +27,7 @@ use std::thread::Threads;
 #[derive(Drop)]
 pub struct FrameReader<'a> {
     readers: Vec<TableReader<'a>>,
-    picks: &'a [Pick],
+    picks: &'a Picks,
 }
 
 impl<'a> Model for FrameReader<'a> {
@@ -48,7 +49,7 @@ pub(crate) fn reader_over<'a>(
     store: &'a Data,
     tables: &'a [Table],
     e: &'a Expr,
-    picks: &'a [Pick],
+    picks: &'a Picks,
 ) -> Result<FrameReader<'a>, AllocError>
     requires tables { All spec.IsTable tables.now }
     requires within { All (λ x. x.table < length tables.now) picks.now }
@@ -72,7 +73,7 @@ impl<'a> FrameReader<'a> {
         requires there { k < length self.now }
         ensures value { seen_value result ≡ get_or self.now k Value'.Null }
     {
-        value_of(self.readers.as_slice(), self.picks[k])
+        value_of(self.readers.as_slice(), self.picks.at(k))
     }
 
     /// All values, which borrow their texts. They may be read in so many parts, each by a thread of its own.
@@ -103,6 +104,7 @@ impl<'a> FrameReader<'a> {
     {
         fold_read(
             rt,
+            *self.readers.allocator(),
             self.readers.as_slice(),
             self.picks,
             workers,

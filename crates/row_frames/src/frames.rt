@@ -21,24 +21,23 @@ ghost use Rattle.row_frames.specs.Own.{IsOwn};
 ghost use Rattle.row_frames.specs.Related.{placed, related_to};
 ghost use Rattle.value_codes.specs.Codes.{AreCodes};
 
-use crate::chosen::picks_at;
 use crate::codes::codes_of;
 use crate::columned::{columned_tables, given_columns, row_picks};
 use crate::computed::{computed_tables, new_columns, rows_in_order};
 use crate::frame_readers::{FrameReader, reader_over};
-use crate::joined::{copied_picks, joined_picks, joined_tables, shared_tables};
+use crate::joined::{joined_picks, joined_tables, shared_tables};
 use crate::joins::{alias_prefix, beside_tables, repeated_picks};
 use crate::kept::kept_picks;
 use crate::keys::{key_columns_of, key_lists_of};
 use crate::own::property_of;
-use crate::picks::{first_picks, later_picks, picked_rows, place_picks, set_picks};
+use crate::picks::{Picks, picked_rows, place_picks};
 use crate::placed::{
-    placed_columns, placed_keys, placed_root, placed_row, placed_rows, placed_values,
+    picks_at, placed_columns, placed_keys, placed_root, placed_row, placed_rows, placed_values,
 };
 use crate::related::{are_of_set, picked_places, related_picks};
 use crate::root_places::{RootPlaces, root_places_of};
 use crate::shown::{FrameRows, shown_rows};
-use crate::tables::{Pick, Table, one_table, set_table};
+use crate::tables::{Table, one_table, set_table};
 use crate::values::{seen_of, values_of};
 use apply_ast::{Expr, Name, Named, Path};
 use apply_meaning::{Row, RunRefused, Steps};
@@ -55,7 +54,7 @@ use value_codes::Codes;
 #[derive(Debug, Drop)]
 pub struct Frame {
     tables: Vec<Table>,
-    picks: Vec<Pick>,
+    picks: Picks,
 }
 
 impl Model for Frame {
@@ -66,9 +65,9 @@ impl Model for Frame {
 
     ghost Value = { List Instance };
 
-    ghost view = { λ f. all_picked f.tables.items f.picks.items };
+    ghost view = { λ f. all_picked f.tables.items f.picks };
 
-    ghost invariant = { λ f. All IsTable f.tables.items × All (λ x. x.table < length f.tables.items) f.picks.items };
+    ghost invariant = { λ f. All IsTable f.tables.items × All (λ x. x.table < length f.tables.items) f.picks };
 }
 
 impl Frame {
@@ -77,7 +76,7 @@ impl Frame {
         ensures value { IfOk result (λ f. f ≡ meaning.rows store.now set) }
     {
         let tables = one_table(alloc, set_table(alloc, set))?;
-        let picks = set_picks(alloc, store.count(set))?;
+        let picks = Picks::of_first(store.count(set));
         Ok(Frame { tables, picks })
     }
 
@@ -86,7 +85,7 @@ impl Frame {
         ensures value { IfOk result (λ f. f ≡ map (placed set) (places n)) }
     {
         let tables = one_table(alloc, set_table(alloc, set))?;
-        let picks = set_picks(alloc, n)?;
+        let picks = Picks::of_first(n);
         Ok(Frame { tables, picks })
     }
 
@@ -95,7 +94,8 @@ impl Frame {
         ensures value { IfOk result (λ f. f ≡ map (placed set) at.now) }
     {
         let tables = one_table(alloc, set_table(alloc, set))?;
-        let picks = place_picks(alloc, at)?;
+        let list = place_picks(alloc, at)?;
+        let picks = Picks::of_list(list);
         Ok(Frame { tables, picks })
     }
 
@@ -110,7 +110,8 @@ impl Frame {
         ensures grown { steps.old ≤ steps.new }
     {
         let Frame { tables, picks } = self;
-        picked_rows(alloc, tables.as_slice(), picks.as_slice(), steps)
+        let list = picks.into_list(alloc)?;
+        picked_rows(alloc, tables.as_slice(), list.as_slice(), steps)
     }
 
     /// The values of an expression on the instances. These may be cut into so many parts, each for a thread of its own.
@@ -127,7 +128,7 @@ impl Frame {
         ensures value { IfOk result (λ vs. vs.items ≡ values store.now (expr_of e.now) self.now) }
     {
         let tables = self.tables.as_slice();
-        values_of(rt, alloc, store, tables, e, self.picks.as_slice(), workers)
+        values_of(rt, alloc, store, tables, e, &self.picks, workers)
     }
 
     /// The values of an expression on the instances, which borrow their texts. The instances may be cut into so many parts, each
@@ -145,7 +146,7 @@ impl Frame {
         ensures value { IfOk result (λ vs. map (λ v. seen_value v) vs.items ≡ values store.now (expr_of e.now) self.now) }
     {
         let tables = self.tables.as_slice();
-        seen_of(rt, alloc, store, tables, e, self.picks.as_slice(), workers)
+        seen_of(rt, alloc, store, tables, e, &self.picks, workers)
     }
 
     /// The values of an expression on the instances, of which none is read yet.
@@ -158,13 +159,7 @@ impl Frame {
         requires of { IsTrue (all_of store.now self.now) }
         ensures value { IfOk result (λ r. r ≡ values store.now (expr_of e.now) self.now) }
     {
-        reader_over(
-            alloc,
-            store,
-            self.tables.as_slice(),
-            e,
-            self.picks.as_slice(),
-        )
+        reader_over(alloc, store, self.tables.as_slice(), e, &self.picks)
     }
 
     /// The values of an expression on the instances at these places.
@@ -180,7 +175,7 @@ impl Frame {
         ensures value { IfOk result (λ vs. vs.items ≡ values store.now (expr_of e.now) (at_places self.now places.now)) }
     {
         let tables = self.tables.as_slice();
-        placed_values(alloc, store, tables, e, self.picks.as_slice(), places)
+        placed_values(alloc, store, tables, e, &self.picks, places)
     }
 
     /// The values of the paths on the instances, which borrow their texts: a list for each path. The instances may be cut into so
@@ -198,7 +193,7 @@ impl Frame {
         ensures value { IfOk result (λ cs. seen_columns cs.items ≡ key_columns store.now paths.now self.now) }
     {
         let tables = self.tables.as_slice();
-        let picks = self.picks.as_slice();
+        let picks = &self.picks;
         key_columns_of(rt, alloc, store, tables, paths, picks, workers)
     }
 
@@ -215,7 +210,7 @@ impl Frame {
         ensures value { IfOk result (λ cs. seen_columns cs.items ≡ key_columns store.now paths.now (at_places self.now places.now)) }
     {
         let tables = self.tables.as_slice();
-        placed_columns(alloc, store, tables, paths, self.picks.as_slice(), places)
+        placed_columns(alloc, store, tables, paths, &self.picks, places)
     }
 
     /// The key list of each instance by the paths. The instances may be cut into so many parts, each for a thread of its own.
@@ -232,7 +227,7 @@ impl Frame {
         ensures value { IfOk result (λ lists. map (λ k. k.items) lists.items ≡ map (key_list store.now paths.now) self.now) }
     {
         let tables = self.tables.as_slice();
-        let picks = self.picks.as_slice();
+        let picks = &self.picks;
         key_lists_of(rt, alloc, store, tables, paths, picks, workers)
     }
 
@@ -249,7 +244,7 @@ impl Frame {
         ensures value { IfOk result (λ lists. map (λ k. k.items) lists.items ≡ map (key_list store.now paths.now) (at_places self.now places.now)) }
     {
         let tables = self.tables.as_slice();
-        placed_keys(alloc, store, tables, paths, self.picks.as_slice(), places)
+        placed_keys(alloc, store, tables, paths, &self.picks, places)
     }
 
     /// The instances at these places as rows: one step each.
@@ -265,7 +260,7 @@ impl Frame {
         ensures grown { steps.old ≤ steps.new }
     {
         let tables = self.tables.as_slice();
-        placed_rows(alloc, tables, self.picks.as_slice(), places, steps)
+        placed_rows(alloc, tables, &self.picks, places, steps)
     }
 
     /// Instance k as a row, counted from 0: one step.
@@ -281,14 +276,14 @@ impl Frame {
         ensures grown { steps.old ≤ steps.new }
     {
         let tables = self.tables.as_slice();
-        placed_row(alloc, tables, self.picks.as_slice(), k, steps)
+        placed_row(alloc, tables, &self.picks, k, steps)
     }
 
     /// The instances, each of which is read where it stands. No row is made.
     pub fn shown(&self) -> FrameRows<'_>
         ensures value { result ≡ self.now }
     {
-        shown_rows(self.tables.as_slice(), self.picks.as_slice())
+        shown_rows(self.tables.as_slice(), self.picks.as_part())
     }
 
     /// The entity at the empty prefix of instance k, counted from 0.
@@ -296,7 +291,7 @@ impl Frame {
         requires there { k < length self.now }
         ensures value { result ≡ root_of (get_or self.now k no_instance) }
     {
-        placed_root(self.tables.as_slice(), self.picks.as_slice(), k)
+        placed_root(self.tables.as_slice(), &self.picks, k)
     }
 
     /// The places, in their set, of the entities at the empty prefix of the instances, of which none is kept: where all instances are of
@@ -304,7 +299,7 @@ impl Frame {
     pub fn root_places(&self) -> Option<RootPlaces<'_>>
         ensures value { IfSome result (λ r. map (λ i. option_map (λ e. e.at) (root_of i)) self.now ≡ map (λ k. Some k) r) }
     {
-        root_places_of(self.tables.as_slice(), self.picks.as_slice())
+        root_places_of(self.tables.as_slice(), &self.picks)
     }
 
     /// The property that the path is, of the entity of each instance, and the set of these entities: where all instances stand at
@@ -337,7 +332,7 @@ impl Frame {
             alloc,
             store,
             self.tables.as_slice(),
-            self.picks.as_slice(),
+            &self.picks,
             path,
             workers,
         )
@@ -359,7 +354,8 @@ impl Frame {
     {
         let Frame { tables, picks } = self;
         let own = tables.as_slice();
-        let picks = kept_picks(rt, alloc, store, own, e, picks.as_slice(), workers)?;
+        let kept = kept_picks(rt, alloc, store, own, e, &picks, workers)?;
+        let picks = Picks::of_list(kept);
         Ok(Frame { tables, picks })
     }
 
@@ -380,9 +376,9 @@ impl Frame {
     {
         let Frame { tables, picks } = self;
         let own = tables.as_slice();
-        let columns = new_columns(rt, alloc, store, own, items, picks.as_slice(), workers)?;
+        let columns = new_columns(rt, alloc, store, own, items, &picks, workers)?;
         let (tables, picks) = rows_in_order(alloc, tables, picks)?;
-        let tables = computed_tables(alloc, tables, picks.as_slice(), columns.as_slice())?;
+        let tables = computed_tables(alloc, tables, &picks, columns.as_slice())?;
         Ok(Frame { tables, picks })
     }
 
@@ -399,7 +395,7 @@ impl Frame {
         let Frame { tables, picks } = self;
         let columns = given_columns(alloc, columns)?;
         let (tables, picks) = rows_in_order(alloc, tables, picks)?;
-        let tables = computed_tables(alloc, tables, picks.as_slice(), columns.as_slice())?;
+        let tables = computed_tables(alloc, tables, &picks, columns.as_slice())?;
         Ok(Frame { tables, picks })
     }
 
@@ -408,7 +404,7 @@ impl Frame {
         ensures value { result ≡ take n self }
     {
         let Frame { tables, picks } = self;
-        let picks = first_picks(n, picks);
+        let picks = picks.first(n);
         Frame { tables, picks }
     }
 
@@ -417,7 +413,7 @@ impl Frame {
         ensures value { result ≡ drop n self }
     {
         let Frame { tables, picks } = self;
-        let picks = later_picks(n, picks);
+        let picks = picks.later(n);
         Frame { tables, picks }
     }
 
@@ -427,7 +423,19 @@ impl Frame {
         ensures value { IfOk result (λ f. f ≡ at_places self places.now) }
     {
         let Frame { tables, picks } = self;
-        let picks = picks_at(alloc, picks.as_slice(), places)?;
+        let list = picks_at(alloc, &picks, places)?;
+        let picks = Picks::of_list(list);
+        Ok(Frame { tables, picks })
+    }
+
+    /// The instances at these places, in the order of the places. No row is made, and no list of a table is copied.
+    pub fn picked(&self, alloc: Global, places: &[usize]) -> Result<Frame, AllocError>
+        requires within { IsTrue (list_all (λ k. nat_lt k (length self.now)) places.now) }
+        ensures value { IfOk result (λ f. f ≡ at_places self.now places.now) }
+    {
+        let tables = shared_tables(alloc, self.tables.as_slice())?;
+        let list = picks_at(alloc, &self.picks, places)?;
+        let picks = Picks::of_list(list);
         Ok(Frame { tables, picks })
     }
 
@@ -446,7 +454,7 @@ impl Frame {
     {
         Frame {
             tables: Vec::new(alloc),
-            picks: Vec::new(alloc),
+            picks: Picks::of_list(Vec::new(alloc)),
         }
     }
 
@@ -464,7 +472,7 @@ impl Frame {
             return Ok(Frame::none(alloc));
         }
         let tables = columned_tables(alloc, columns)?;
-        let picks = row_picks(alloc, count)?;
+        let picks = row_picks(count)?;
         Ok(Frame { tables, picks })
     }
 
@@ -473,7 +481,7 @@ impl Frame {
         ensures value { IfOk result (λ f. f ≡ self.now) }
     {
         let tables = shared_tables(alloc, self.tables.as_slice())?;
-        let picks = copied_picks(alloc, self.picks.as_slice())?;
+        let picks = self.picks.copy(alloc)?;
         Ok(Frame { tables, picks })
     }
 
@@ -488,13 +496,20 @@ impl Frame {
     pub fn append(self, other: Frame) -> Result<Frame, AllocError>
         ensures value { IfOk result (λ f. f ≡ self ++ other) }
     {
+        if self.len() == 0 {
+            return Ok(other);
+        }
         let Frame { tables, picks } = self;
         let Frame {
             tables: more,
             picks: others,
         } = other;
-        let picks = joined_picks(tables.as_slice().len(), picks, others.as_slice())?;
+        let alloc = *tables.allocator();
+        let first = picks.into_list(alloc)?;
+        let behind = others.into_list(alloc)?;
+        let list = joined_picks(tables.as_slice().len(), first, behind.as_slice())?;
         let tables = joined_tables(tables, more)?;
+        let picks = Picks::of_list(list);
         Ok(Frame { tables, picks })
     }
 }
@@ -515,7 +530,8 @@ impl Frame {
         let model = store.model();
         let set = model.type_set(model.nav_target(nav));
         let tables = one_table(alloc, set_table(alloc, set))?;
-        let picks = related_picks(alloc, store, nav, of)?;
+        let list = related_picks(alloc, store, nav, of)?;
+        let picks = Picks::of_list(list);
         Ok(Frame { tables, picks })
     }
 
@@ -527,7 +543,7 @@ impl Frame {
         if !are_of_set(self.tables.as_slice(), set) {
             return Ok(None);
         }
-        let picks = self.picks.as_slice();
+        let picks = &self.picks;
         Ok(Some(picked_places(alloc, self.tables.as_slice(), set, picks)?))
     }
 
@@ -546,8 +562,9 @@ impl Frame {
         ensures value { IfOk result (λ f. f ≡ bound_rows outer alias.now self (map (λ l. map (placed set) l.items) inner.now)) }
     {
         let Frame { tables, picks } = self;
-        let picks = repeated_picks(alloc, outer, picks.as_slice(), inner)?;
-        let (tables, picks) = rows_in_order(alloc, tables, picks)?;
+        let list = picks.into_list(alloc)?;
+        let repeated = repeated_picks(alloc, outer, list.as_slice(), inner)?;
+        let (tables, picks) = rows_in_order(alloc, tables, Picks::of_list(repeated))?;
         let prefix = alias_prefix(alloc, outer, alias, set, inner)?;
         let tables = beside_tables(alloc, tables, &prefix)?;
         Ok(Frame { tables, picks })

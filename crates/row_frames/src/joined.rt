@@ -64,15 +64,6 @@ pub(crate) fn shared_tables(alloc: Global, tables: &[Table]) -> Result<Vec<Table
     Ok(made)
 }
 
-/// The same picks.
-pub(crate) fn copied_picks(alloc: Global, picks: &[Pick]) -> Result<Vec<Pick>, AllocError>
-    ensures { IfOk result (λ made. made.items ≡ picks.now) }
-{
-    let mut made = Vec::with_capacity(alloc, picks.len())?;
-    made.extend_from_slice(picks)?;
-    Ok(made)
-}
-
 /// The tables of both lists.
 pub(crate) fn joined_tables(first: Vec<Table>, others: Vec<Table>) -> Result<Vec<Table>, AllocError>
     ensures { IfOk result (λ all. all.items ≡ first.items ++ others.items) }

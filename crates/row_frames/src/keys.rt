@@ -7,6 +7,7 @@ ghost use Rattle.apply_meaning.specs.Running.{all_of};
 ghost use Rattle.row_frames.specs.Frames as spec;
 ghost use Rattle.row_frames.specs.Keys as keys;
 
+use crate::picks::Picks;
 use crate::readers::path_readers_of;
 use crate::seen::{all_seen, seen_in_turn};
 use crate::tables::{Pick, Table};
@@ -60,7 +61,7 @@ fn key_column<'a, R: Threads + Sync>(
     store: &'a Data,
     tables: &'a [Table],
     path: &'a Path,
-    picks: &[Pick],
+    picks: &Picks,
     workers: u32,
 ) -> Result<Vec<Seen<'a>>, AllocError>
     requires tables { All spec.IsTable tables.now }
@@ -79,7 +80,7 @@ pub(crate) fn key_columns_of<'a, R: Threads + Sync>(
     store: &'a Data,
     tables: &'a [Table],
     paths: &'a [Path],
-    picks: &[Pick],
+    picks: &Picks,
     workers: u32,
 ) -> Result<Vec<Vec<Seen<'a>>>, AllocError>
     requires tables { All spec.IsTable tables.now }
@@ -146,7 +147,7 @@ pub(crate) fn key_lists_of<'a, R: Threads + Sync>(
     store: &'a Data,
     tables: &'a [Table],
     paths: &'a [Path],
-    picks: &[Pick],
+    picks: &Picks,
     workers: u32,
 ) -> Result<Vec<Vec<Value>>, AllocError>
     requires tables { All spec.IsTable tables.now }

@@ -2,7 +2,9 @@
 ghost use Rattle.std.specs.Prelude.{◌≡◌, ◌<◌, Ok, IfOk, map};
 ghost use Rattle.std.specs.List.{flat_map};
 ghost use Rattle.row_frames.specs.Parts.{IsWhole};
+ghost use Rattle.row_frames.specs.Runs.{part_rows};
 
+use crate::picks::{Part, Picks};
 use std::alloc::{AllocError, Global};
 
 /// The least number of elements that a thread is started for.
@@ -27,6 +29,26 @@ pub(crate) fn part_len(n: usize, workers: u32) -> usize
     n.div_ceil(part_count(n, workers)).max(1)
 }
 
+/// The rows in parts of so many, of which the last may have fewer.
+pub(crate) fn parts_of(
+    alloc: Global,
+    picks: &Picks,
+    len: usize,
+) -> Result<Vec<Part<'_>>, AllocError>
+    requires { 0 < len }
+    ensures { IfOk result (λ parts. flat_map part_rows parts.items ≡ picks.now) }
+{
+    let mut parts = Vec::new(alloc);
+    let mut rest = picks.as_part();
+    while rest.len() > 0 {
+        let front = rest.first(len);
+        let behind = rest.later(len);
+        parts.push(front)?;
+        rest = behind;
+    }
+    Ok(parts)
+}
+
 /// All results, or that memory was wanting for one of them.
 fn all_ok<T: Drop>(alloc: Global, results: Vec<Result<T, AllocError>>) -> Result<Vec<T>, AllocError>
     ensures { IfOk result (λ found. map Ok found.items ≡ results.items) }
@@ -39,7 +61,11 @@ fn all_ok<T: Drop>(alloc: Global, results: Vec<Result<T, AllocError>>) -> Result
 }
 
 /// The lists, one behind the other.
-fn joined<T: Drop>(alloc: Global, n: usize, lists: Vec<Vec<T>>) -> Result<Vec<T>, AllocError>
+pub(crate) fn joined<T: Drop>(
+    alloc: Global,
+    n: usize,
+    lists: Vec<Vec<T>>,
+) -> Result<Vec<T>, AllocError>
     ensures { IfOk result (λ all. all.items ≡ flat_map (λ l. l.items) lists.items) }
 {
     let mut all = Vec::with_capacity(alloc, n)?;

@@ -10,7 +10,7 @@ ghost use Rattle.row_frames.specs.Frames as spec;
 ghost use Rattle.row_frames.specs.Keys.{key_columns, seen_columns};
 
 use crate::keys::{columns_in_turn, lists_in_turn};
-use crate::picks::{picked_root, picked_row, picked_rows};
+use crate::picks::{Picks, picked_root, picked_row, picked_rows};
 use crate::tables::{Pick, Table};
 use crate::values::values_alone;
 use apply_ast::{Expr, Path};
@@ -20,14 +20,18 @@ use edm_values::{Seen, Value};
 use std::alloc::{AllocError, Global};
 use std::sync::ledger::Ledger;
 
-/// The picks at these places.
-fn picks_at(alloc: Global, picks: &[Pick], places: &[usize]) -> Result<Vec<Pick>, AllocError>
+/// The picks at these places, in the order of the places.
+pub(crate) fn picks_at(
+    alloc: Global,
+    picks: &Picks,
+    places: &[usize],
+) -> Result<Vec<Pick>, AllocError>
     requires { IsTrue (list_all (λ k. nat_lt k (length picks.now)) places.now) }
     ensures { IfOk result (λ xs. xs.items ≡ at_places picks.now places.now) }
 {
     let mut found = Vec::with_capacity(alloc, places.len())?;
     for at in places {
-        found.push(picks[*at])?;
+        found.push(picks.at(*at))?;
     }
     Ok(found)
 }
@@ -36,7 +40,7 @@ fn picks_at(alloc: Global, picks: &[Pick], places: &[usize]) -> Result<Vec<Pick>
 fn placed_picks(
     alloc: Global,
     tables: &[Table],
-    picks: &[Pick],
+    picks: &Picks,
     places: &[usize],
 ) -> Result<Vec<Pick>, AllocError>
     requires within { All (λ x. x.table < length tables.now) picks.now }
@@ -54,7 +58,7 @@ pub(crate) fn placed_values<'a>(
     store: &'a Data,
     tables: &'a [Table],
     e: &'a Expr,
-    picks: &[Pick],
+    picks: &Picks,
     places: &[usize],
 ) -> Result<Vec<Value>, AllocError>
     requires tables { All spec.IsTable tables.now }
@@ -73,7 +77,7 @@ pub(crate) fn placed_columns<'a>(
     store: &'a Data,
     tables: &'a [Table],
     paths: &'a [Path],
-    picks: &[Pick],
+    picks: &Picks,
     places: &[usize],
 ) -> Result<Vec<Vec<Seen<'a>>>, AllocError>
     requires tables { All spec.IsTable tables.now }
@@ -92,7 +96,7 @@ pub(crate) fn placed_keys<'a>(
     store: &'a Data,
     tables: &'a [Table],
     paths: &'a [Path],
-    picks: &[Pick],
+    picks: &Picks,
     places: &[usize],
 ) -> Result<Vec<Vec<Value>>, AllocError>
     requires tables { All spec.IsTable tables.now }
@@ -109,7 +113,7 @@ pub(crate) fn placed_keys<'a>(
 pub(crate) fn placed_rows<L: Ledger>(
     alloc: Global,
     tables: &[Table],
-    picks: &[Pick],
+    picks: &Picks,
     places: &[usize],
     steps: &mut Steps<L>,
 ) -> Result<Vec<Row>, AllocError>
@@ -128,7 +132,7 @@ pub(crate) fn placed_rows<L: Ledger>(
 pub(crate) fn placed_row<L: Ledger>(
     alloc: Global,
     tables: &[Table],
-    picks: &[Pick],
+    picks: &Picks,
     k: usize,
     steps: &mut Steps<L>,
 ) -> Result<Row, AllocError>
@@ -139,15 +143,15 @@ pub(crate) fn placed_row<L: Ledger>(
     ensures steps { steps.new ≤ steps.old + 1 }
     ensures grown { steps.old ≤ steps.new }
 {
-    picked_row(alloc, tables, picks[k], steps)
+    picked_row(alloc, tables, picks.at(k), steps)
 }
 
 /// The entity at the empty prefix of the row at place k.
-pub(crate) fn placed_root(tables: &[Table], picks: &[Pick], k: usize) -> Option<EntityRef>
+pub(crate) fn placed_root(tables: &[Table], picks: &Picks, k: usize) -> Option<EntityRef>
     requires tables { All spec.IsTable tables.now }
     requires within { All (λ x. x.table < length tables.now) picks.now }
     requires there { k < length (spec.all_picked tables.now picks.now) }
     ensures { result ≡ root_of (get_or (spec.all_picked tables.now picks.now) k no_instance) }
 {
-    picked_root(tables, picks[k])
+    picked_root(tables, picks.at(k))
 }

@@ -10,6 +10,7 @@ ghost use Rattle.context_typing.specs.Paths.{is_none_or};
 ghost use Rattle.row_frames.specs.Frames as spec;
 ghost use Rattle.row_frames.specs.Related.{IsOfSet, placed, related_to};
 
+use crate::picks::Picks;
 use crate::tables::{Pick, Table, place_in, roots_set};
 use edm_data::{Data, EntityRef};
 use edm_model::{NavId, SetId};
@@ -101,15 +102,15 @@ pub(crate) fn picked_places(
     alloc: Global,
     tables: &[Table],
     set: SetId,
-    picks: &[Pick],
+    picks: &Picks,
 ) -> Result<Vec<u32>, AllocError>
     requires of { All (IsOfSet set) tables.now }
     requires within { All (λ x. x.table < length tables.now) picks.now }
     ensures { IfOk result (λ ks. map (placed set) ks.items ≡ spec.all_picked tables.now picks.now) }
 {
     let mut places = Vec::with_capacity(alloc, picks.len())?;
-    for pick in picks {
-        places.push(picked_place(tables, set, *pick))?;
+    for k in 0..picks.len() {
+        places.push(picked_place(tables, set, picks.at(k)))?;
     }
     Ok(places)
 }

@@ -4,14 +4,15 @@ ghost use Rattle.std.specs.List.{All};
 ghost use Rattle.apply_meaning.specs.Instances.{root_of};
 ghost use Rattle.row_frames.specs.Frames as spec;
 
-use crate::tables::{Pick, Roots, Table, place_in, roots_set};
+use crate::picks::Picks;
+use crate::tables::{Roots, Table, place_in, roots_set};
 use std::marker::Model;
 
 /// The places, in their set, of the entities at the empty prefix of a frame's instances: each is read where it is asked for.
 #[derive(Drop)]
 pub struct RootPlaces<'a> {
     roots: &'a Roots,
-    picks: &'a [Pick],
+    picks: &'a Picks,
 }
 
 impl<'a> Model for RootPlaces<'a> {
@@ -38,12 +39,12 @@ impl<'a> RootPlaces<'a> {
         requires there { k < length self.now }
         ensures value { result ≡ get_or self.now k 0 }
     {
-        place_in(self.roots, self.picks[k].row)
+        place_in(self.roots, self.picks.at(k).row)
     }
 }
 
 /// The places of the entities at the empty prefix of the rows that are picked, where all are of one table whose rows have one.
-pub(crate) fn root_places_of<'a>(tables: &'a [Table], picks: &'a [Pick]) -> Option<RootPlaces<'a>>
+pub(crate) fn root_places_of<'a>(tables: &'a [Table], picks: &'a Picks) -> Option<RootPlaces<'a>>
     requires tables { All spec.IsTable tables.now }
     requires within { All (λ x. x.table < length tables.now) picks.now }
     ensures { IfSome result (λ r. map (λ i. option_map (λ e. e.at) (root_of i)) (spec.all_picked tables.now picks.now) ≡ map (λ k. Some k) r) }

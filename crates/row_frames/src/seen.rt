@@ -4,15 +4,16 @@ ghost use Rattle.std.specs.Bool.{OnTrue};
 ghost use Rattle.std.specs.List.{All, AllZip};
 ghost use Rattle.edm_values.specs.declared.Value.{Value as Value'};
 ghost use Rattle.edm_values.specs.Values.{seen_value};
-ghost use Rattle.rayon.specs.Lists.{chunks_of};
 ghost use Rattle.row_frames.specs.Answers.{answer_of};
 ghost use Rattle.row_frames.specs.Blocks.{block_values};
 ghost use Rattle.row_frames.specs.Folded.{dec_of, int_of};
 ghost use Rattle.row_frames.specs.Frames as spec;
+ghost use Rattle.row_frames.specs.Runs.{part_rows, run_rows};
 
 use crate::blocks::{has_operator, read_block, seen_of_block};
 use crate::folded::{row_decs, row_ints};
-use crate::parts::{is_one_part, part_len, whole};
+use crate::parts::{is_one_part, part_len, parts_of, whole};
+use crate::picks::{Part, Picks, Run};
 use crate::readers::{TableReader, dec_at, int_at, value_of};
 use crate::tables::Pick;
 use crate::typed_blocks::Block;
@@ -22,7 +23,7 @@ use std::alloc::{AllocError, Global};
 use std::thread::Threads;
 
 /// The most rows of a block: the values in so many rows stay in the processor's first caches.
-const BLOCK: usize = 1024;
+pub(crate) const BLOCK: usize = 1024;
 
 /// The rows of the next block, and those behind it.
 fn next_block(picks: &[Pick]) -> (&[Pick], &[Pick])
@@ -143,46 +144,96 @@ pub(crate) fn seen_in_turn<'a>(
     Ok(found)
 }
 
-/// The same of each part of the picks, or that memory was wanting for it.
+/// The value in each row of a run, block by block.
+fn seen_in_run<'a>(
+    alloc: Global,
+    readers: &[TableReader<'a>],
+    run: Run,
+) -> Result<Vec<Seen<'a>>, AllocError>
+    requires { All (spec.IsReadable readers.now) (run_rows run) }
+    ensures { IfOk result (λ vs. spec.AreRead readers.now (run_rows run) (map (λ v. seen_value v) vs.items)) }
+{
+    let mut found = Vec::with_capacity(alloc, run.len())?;
+    let mut rest = run;
+    while rest.len() > 0 {
+        let front = rest.first(BLOCK);
+        let behind = rest.later(BLOCK);
+        let block = front.picks(alloc)?;
+        let mut values = seen_in_turn(alloc, readers, block.as_slice())?;
+        found.append(&mut values)?;
+        rest = behind;
+    }
+    Ok(found)
+}
+
+/// The value in each row of a part.
+fn seen_in_part<'a>(
+    alloc: Global,
+    readers: &[TableReader<'a>],
+    part: &Part<'_>,
+) -> Result<Vec<Seen<'a>>, AllocError>
+    requires { All (spec.IsReadable readers.now) (part_rows part.now) }
+    ensures { IfOk result (λ vs. spec.AreRead readers.now (part_rows part.now) (map (λ v. seen_value v) vs.items)) }
+{
+    match part {
+        Part::Run(run) => seen_in_run(alloc, readers, *run),
+        Part::List(list) => seen_in_turn(alloc, readers, list),
+    }
+}
+
+/// The value in each row that is picked, in one part.
+fn seen_alone<'a>(
+    alloc: Global,
+    readers: &[TableReader<'a>],
+    picks: &Picks,
+) -> Result<Vec<Seen<'a>>, AllocError>
+    requires { All (spec.IsReadable readers.now) picks.now }
+    ensures { IfOk result (λ vs. spec.AreRead readers.now picks.now (map (λ v. seen_value v) vs.items)) }
+{
+    let part = picks.as_part();
+    seen_in_part(alloc, readers, &part)
+}
+
+/// The same of each part, or that memory was wanting for it.
 fn seen_in_parts<'a, R: Threads + Sync>(
     rt: &R,
     alloc: Global,
     readers: &[TableReader<'a>],
-    picks: &[Pick],
-    len: usize,
+    parts: &[Part<'_>],
 ) -> Result<Vec<Result<Vec<Seen<'a>>, AllocError>>, AllocError>
-    requires some { 0 < len }
-    requires readable { All (spec.IsReadable readers.now) picks.now }
-    ensures { IfOk result (λ rs. AllZip (λ part r. IfOk r (λ vs. spec.AreRead readers.now part (map (λ v. seen_value v) vs.items))) (chunks_of len picks.now) rs.items) }
+    requires { All (λ p. All (spec.IsReadable readers.now) (part_rows p)) parts.now }
+    ensures { IfOk result (λ rs. AllZip (λ p r. IfOk r (λ vs. spec.AreRead readers.now (part_rows p) (map (λ v. seen_value v) vs.items))) parts.now rs.items) }
 {
-    picks
-        .par_chunks(len)
+    parts
+        .par_iter()
+        .with_min_len(1)
         .map(
-            |part: &[Pick]| -> Result<Vec<Seen>, AllocError>
-                requires { All (spec.IsReadable readers.now) part.now }
-                ensures { IfOk result (λ vs. spec.AreRead readers.entry.now part.now (map (λ v. seen_value v) vs.items)) }
-            { seen_in_turn(alloc, readers, part) },
+            |part: &Part<'_>| -> Result<Vec<Seen>, AllocError>
+                requires { All (spec.IsReadable readers.now) (part_rows part.now) }
+                ensures { IfOk result (λ vs. spec.AreRead readers.entry.now (part_rows part.now) (map (λ v. seen_value v) vs.items)) }
+            { seen_in_part(alloc, readers, part) },
         )
         .collect(rt, alloc)
 }
 
-/// The value in each row that is picked. The picks may be cut into so many parts, each for a thread of its own.
+/// The value in each row that is picked. These may be cut into so many parts, each for a thread of its own.
 pub(crate) fn all_seen<'a, R: Threads + Sync>(
     rt: &R,
     alloc: Global,
     readers: &[TableReader<'a>],
-    picks: &[Pick],
+    picks: &Picks,
     workers: u32,
 ) -> Result<Vec<Seen<'a>>, AllocError>
     requires readable { All (spec.IsReadable readers.now) picks.now }
     ensures { IfOk result (λ vs. spec.AreRead readers.now picks.now (map (λ v. seen_value v) vs.items)) }
 {
-    if is_one_part(picks.len(), workers) {
-        return seen_in_turn(alloc, readers, picks);
+    let n = picks.len();
+    if is_one_part(n, workers) {
+        return seen_alone(alloc, readers, picks);
     }
-    let len = part_len(picks.len(), workers);
-    let parts = seen_in_parts(rt, alloc, readers, picks, len)?;
-    whole(alloc, picks.len(), parts)
+    let parts = parts_of(alloc, picks, part_len(n, workers))?;
+    let found = seen_in_parts(rt, alloc, readers, parts.as_slice())?;
+    whole(alloc, n, found)
 }
 
 /// The values, with copies of their texts, behind what is there already.
@@ -235,46 +286,96 @@ pub(crate) fn values_in_turn(
     Ok(found)
 }
 
-/// The same of each part of the picks, or that memory was wanting for it.
+/// The value, with a copy of its text, in each row of a run, block by block.
+fn values_in_run(
+    alloc: Global,
+    readers: &[TableReader<'_>],
+    run: Run,
+) -> Result<Vec<Value>, AllocError>
+    requires { All (spec.IsReadable readers.now) (run_rows run) }
+    ensures { IfOk result (λ vs. spec.AreRead readers.now (run_rows run) vs.items) }
+{
+    let mut found = Vec::with_capacity(alloc, run.len())?;
+    let mut rest = run;
+    while rest.len() > 0 {
+        let front = rest.first(BLOCK);
+        let behind = rest.later(BLOCK);
+        let block = front.picks(alloc)?;
+        let mut values = values_in_turn(alloc, readers, block.as_slice())?;
+        found.append(&mut values)?;
+        rest = behind;
+    }
+    Ok(found)
+}
+
+/// The value, with a copy of its text, in each row of a part.
+fn values_in_part(
+    alloc: Global,
+    readers: &[TableReader<'_>],
+    part: &Part<'_>,
+) -> Result<Vec<Value>, AllocError>
+    requires { All (spec.IsReadable readers.now) (part_rows part.now) }
+    ensures { IfOk result (λ vs. spec.AreRead readers.now (part_rows part.now) vs.items) }
+{
+    match part {
+        Part::Run(run) => values_in_run(alloc, readers, *run),
+        Part::List(list) => values_in_turn(alloc, readers, list),
+    }
+}
+
+/// The value, with a copy of its text, in each row that is picked, in one part.
+fn values_alone(
+    alloc: Global,
+    readers: &[TableReader<'_>],
+    picks: &Picks,
+) -> Result<Vec<Value>, AllocError>
+    requires { All (spec.IsReadable readers.now) picks.now }
+    ensures { IfOk result (λ vs. spec.AreRead readers.now picks.now vs.items) }
+{
+    let part = picks.as_part();
+    values_in_part(alloc, readers, &part)
+}
+
+/// The same of each part, or that memory was wanting for it.
 fn values_in_parts<R: Threads + Sync>(
     rt: &R,
     alloc: Global,
     readers: &[TableReader<'_>],
-    picks: &[Pick],
-    len: usize,
+    parts: &[Part<'_>],
 ) -> Result<Vec<Result<Vec<Value>, AllocError>>, AllocError>
-    requires some { 0 < len }
-    requires readable { All (spec.IsReadable readers.now) picks.now }
-    ensures { IfOk result (λ rs. AllZip (λ part r. IfOk r (λ vs. spec.AreRead readers.now part vs.items)) (chunks_of len picks.now) rs.items) }
+    requires { All (λ p. All (spec.IsReadable readers.now) (part_rows p)) parts.now }
+    ensures { IfOk result (λ rs. AllZip (λ p r. IfOk r (λ vs. spec.AreRead readers.now (part_rows p) vs.items)) parts.now rs.items) }
 {
-    picks
-        .par_chunks(len)
+    parts
+        .par_iter()
+        .with_min_len(1)
         .map(
-            |part: &[Pick]| -> Result<Vec<Value>, AllocError>
-                requires { All (spec.IsReadable readers.now) part.now }
-                ensures { IfOk result (λ vs. spec.AreRead readers.entry.now part.now vs.items) }
-            { values_in_turn(alloc, readers, part) },
+            |part: &Part<'_>| -> Result<Vec<Value>, AllocError>
+                requires { All (spec.IsReadable readers.now) (part_rows part.now) }
+                ensures { IfOk result (λ vs. spec.AreRead readers.entry.now (part_rows part.now) vs.items) }
+            { values_in_part(alloc, readers, part) },
         )
         .collect(rt, alloc)
 }
 
-/// The value, with a copy of its text, in each row that is picked. The picks may be cut into so many parts, each for a thread of its own.
+/// The value, with a copy of its text, in each row that is picked. These may be cut into so many parts, each for a thread of its own.
 pub(crate) fn all_values<R: Threads + Sync>(
     rt: &R,
     alloc: Global,
     readers: &[TableReader<'_>],
-    picks: &[Pick],
+    picks: &Picks,
     workers: u32,
 ) -> Result<Vec<Value>, AllocError>
     requires readable { All (spec.IsReadable readers.now) picks.now }
     ensures { IfOk result (λ vs. spec.AreRead readers.now picks.now vs.items) }
 {
-    if is_one_part(picks.len(), workers) {
-        return values_in_turn(alloc, readers, picks);
+    let n = picks.len();
+    if is_one_part(n, workers) {
+        return values_alone(alloc, readers, picks);
     }
-    let len = part_len(picks.len(), workers);
-    let parts = values_in_parts(rt, alloc, readers, picks, len)?;
-    whole(alloc, picks.len(), parts)
+    let parts = parts_of(alloc, picks, part_len(n, workers))?;
+    let found = values_in_parts(rt, alloc, readers, parts.as_slice())?;
+    whole(alloc, n, found)
 }
 
 /// Whether a value is true; none where it is past its range.
@@ -363,46 +464,4 @@ pub(crate) fn answers_in_turn(
         found.push(answer(value_of(readers, *pick)))?;
     }
     Ok(found)
-}
-
-/// The same of each part of the picks, or that memory was wanting for it.
-fn answers_in_parts<R: Threads + Sync>(
-    rt: &R,
-    alloc: Global,
-    readers: &[TableReader<'_>],
-    picks: &[Pick],
-    len: usize,
-) -> Result<Vec<Result<Vec<Option<bool>>, AllocError>>, AllocError>
-    requires some { 0 < len }
-    requires readable { All (spec.IsReadable readers.now) picks.now }
-    ensures { IfOk result (λ rs. AllZip (λ part r. IfOk r (λ vs. spec.AreAnswers readers.now part vs.items)) (chunks_of len picks.now) rs.items) }
-{
-    picks
-        .par_chunks(len)
-        .map(
-            |part: &[Pick]| -> Result<Vec<Option<bool>>, AllocError>
-                requires { All (spec.IsReadable readers.now) part.now }
-                ensures { IfOk result (λ vs. spec.AreAnswers readers.entry.now part.now vs.items) }
-            { answers_in_turn(alloc, readers, part) },
-        )
-        .collect(rt, alloc)
-}
-
-/// Whether the value is true, and none where it is past its range, in each row that is picked. The picks may be cut into so many parts, each for a thread of its own.
-pub(crate) fn all_answers<R: Threads + Sync>(
-    rt: &R,
-    alloc: Global,
-    readers: &[TableReader<'_>],
-    picks: &[Pick],
-    workers: u32,
-) -> Result<Vec<Option<bool>>, AllocError>
-    requires readable { All (spec.IsReadable readers.now) picks.now }
-    ensures { IfOk result (λ vs. spec.AreAnswers readers.now picks.now vs.items) }
-{
-    if is_one_part(picks.len(), workers) {
-        return answers_in_turn(alloc, readers, picks);
-    }
-    let len = part_len(picks.len(), workers);
-    let parts = answers_in_parts(rt, alloc, readers, picks, len)?;
-    whole(alloc, picks.len(), parts)
 }

@@ -5,8 +5,10 @@ ghost use Rattle.edm_values.specs.Values.{seen_value};
 ghost use Rattle.edm_values.specs.declared.Value.TheVariants as value;
 ghost use Rattle.apply_meaning.specs.Instances.{no_instance};
 ghost use Rattle.row_frames.specs.Frames as spec;
+ghost use Rattle.row_frames.specs.Runs.{part_rows};
 ghost use Rattle.row_frames.specs.Shown.{column_path, prefix_set};
 
+use crate::picks::Part;
 use crate::tables::{Pick, Prefix, Roots, Table, bound_at, bound_place, root_at, value_at};
 use apply_ast::Name;
 use edm_data::EntityRef;
@@ -118,7 +120,7 @@ impl<'a> FrameRow<'a> {
 #[derive(Drop)]
 pub struct FrameRows<'a> {
     tables: &'a [Table],
-    picks: &'a [Pick],
+    picks: Part<'a>,
 }
 
 impl<'a> Model for FrameRows<'a> {
@@ -126,19 +128,20 @@ impl<'a> Model for FrameRows<'a> {
     ghost use Rattle.std.specs.List.{All};
     ghost use Rattle.apply_meaning.specs.Instances.{Instance};
     ghost use Rattle.row_frames.specs.Frames.{IsTable, all_picked};
+    ghost use Rattle.row_frames.specs.Runs.{part_rows};
 
     ghost Value = { List Instance };
 
-    ghost view = { λ r. all_picked r.tables.now r.picks.now };
+    ghost view = { λ r. all_picked r.tables.now (part_rows r.picks) };
 
-    ghost invariant = { λ r. All IsTable r.tables.now × All (λ x. x.table < length r.tables.now) r.picks.now };
+    ghost invariant = { λ r. All IsTable r.tables.now × All (λ x. x.table < length r.tables.now) (part_rows r.picks) };
 }
 
 /// The rows that are picked.
-pub(crate) fn shown_rows<'a>(tables: &'a [Table], picks: &'a [Pick]) -> FrameRows<'a>
+pub(crate) fn shown_rows<'a>(tables: &'a [Table], picks: Part<'a>) -> FrameRows<'a>
     requires tables { All spec.IsTable tables.now }
-    requires within { All (λ x. x.table < length tables.now) picks.now }
-    ensures { result ≡ spec.all_picked tables.now picks.now }
+    requires within { All (λ x. x.table < length tables.now) (part_rows picks) }
+    ensures { result ≡ spec.all_picked tables.now (part_rows picks.entry) }
 {
     FrameRows { tables, picks }
 }
@@ -174,23 +177,23 @@ fn picked_at<'a>(tables: &'a [Table], pick: Pick) -> FrameRow<'a>
 }
 
 /// The row that is picked at place k.
-fn row_at<'a>(tables: &'a [Table], picks: &'a [Pick], k: usize) -> FrameRow<'a>
-    requires within { All (λ x. x.table < length tables.now) picks.now }
-    requires there { k < length (spec.all_picked tables.now picks.now) }
-    ensures { result ≡ get_or (spec.all_picked tables.now picks.now) k no_instance }
+fn row_at<'a>(tables: &'a [Table], picks: &Part<'a>, k: usize) -> FrameRow<'a>
+    requires within { All (λ x. x.table < length tables.now) (part_rows picks.now) }
+    requires there { k < length (spec.all_picked tables.now (part_rows picks.now)) }
+    ensures { result ≡ get_or (spec.all_picked tables.now (part_rows picks.now)) k no_instance }
 {
-    picked_at(tables, picks[k])
+    picked_at(tables, picks.at(k))
 }
 
 /// The rows that are picked from place `from` to before place `to`.
-fn part_of<'a>(tables: &'a [Table], picks: &'a [Pick], from: usize, to: usize) -> FrameRows<'a>
+fn part_of<'a>(tables: &'a [Table], picks: &Part<'a>, from: usize, to: usize) -> FrameRows<'a>
     requires tables { All spec.IsTable tables.now }
-    requires within { All (λ x. x.table < length tables.now) picks.now }
+    requires within { All (λ x. x.table < length tables.now) (part_rows picks.now) }
     requires order { from ≤ to }
-    requires there { to ≤ length (spec.all_picked tables.now picks.now) }
-    ensures { result ≡ take (to - from) (drop from (spec.all_picked tables.now picks.now)) }
+    requires there { to ≤ length (spec.all_picked tables.now (part_rows picks.now)) }
+    ensures { result ≡ take (to - from) (drop from (spec.all_picked tables.now (part_rows picks.now))) }
 {
-    shown_rows(tables, &picks[from..to])
+    shown_rows(tables, picks.later(from).first(to - from))
 }
 
 /// Whether two rows that are picked are of one table, and something stands at the same prefixes.
@@ -207,14 +210,14 @@ fn are_alike(tables: &[Table], a: Pick, b: Pick) -> bool
 }
 
 /// Whether the rows that are picked at places j and k are of one table, and something stands at the same prefixes.
-fn rows_are_alike(tables: &[Table], picks: &[Pick], j: usize, k: usize) -> bool
-    requires within { All (λ x. x.table < length tables.now) picks.now }
-    requires first { j < length (spec.all_picked tables.now picks.now) }
-    requires second { k < length (spec.all_picked tables.now picks.now) }
-    ensures columns { result ≡ true → map column_path (get_or (spec.all_picked tables.now picks.now) j no_instance).columns ≡ map column_path (get_or (spec.all_picked tables.now picks.now) k no_instance).columns }
-    ensures prefixes { result ≡ true → map prefix_set (get_or (spec.all_picked tables.now picks.now) j no_instance).prefixes ≡ map prefix_set (get_or (spec.all_picked tables.now picks.now) k no_instance).prefixes }
+fn rows_are_alike(tables: &[Table], picks: &Part<'_>, j: usize, k: usize) -> bool
+    requires within { All (λ x. x.table < length tables.now) (part_rows picks.now) }
+    requires first { j < length (spec.all_picked tables.now (part_rows picks.now)) }
+    requires second { k < length (spec.all_picked tables.now (part_rows picks.now)) }
+    ensures columns { result ≡ true → map column_path (get_or (spec.all_picked tables.now (part_rows picks.now)) j no_instance).columns ≡ map column_path (get_or (spec.all_picked tables.now (part_rows picks.now)) k no_instance).columns }
+    ensures prefixes { result ≡ true → map prefix_set (get_or (spec.all_picked tables.now (part_rows picks.now)) j no_instance).prefixes ≡ map prefix_set (get_or (spec.all_picked tables.now (part_rows picks.now)) k no_instance).prefixes }
 {
-    are_alike(tables, picks[j], picks[k])
+    are_alike(tables, picks.at(j), picks.at(k))
 }
 
 impl<'a> FrameRows<'a> {
@@ -230,7 +233,7 @@ impl<'a> FrameRows<'a> {
         requires there { k < length self.now }
         ensures value { result ≡ get_or self.now k no_instance }
     {
-        row_at(self.tables, self.picks, k)
+        row_at(self.tables, &self.picks, k)
     }
 
     /// The instances from place `from` to before place `to`.
@@ -239,7 +242,7 @@ impl<'a> FrameRows<'a> {
         requires within { to ≤ length self.now }
         ensures value { result ≡ take (to - from) (drop from self.now) }
     {
-        part_of(self.tables, self.picks, from, to)
+        part_of(self.tables, &self.picks, from, to)
     }
 
     /// Whether instances j and k, counted from 0, stand in one table, and there at each prefix an entity or none in both: then they have
@@ -250,6 +253,6 @@ impl<'a> FrameRows<'a> {
         ensures columns { result ≡ true → map column_path (get_or self.now j no_instance).columns ≡ map column_path (get_or self.now k no_instance).columns }
         ensures prefixes { result ≡ true → map prefix_set (get_or self.now j no_instance).prefixes ≡ map prefix_set (get_or self.now k no_instance).prefixes }
     {
-        rows_are_alike(self.tables, self.picks, j, k)
+        rows_are_alike(self.tables, &self.picks, j, k)
     }
 }

@@ -7,6 +7,7 @@ ghost use Rattle.apply_meaning.specs.Meaning.{values};
 ghost use Rattle.apply_meaning.specs.Running.{all_of};
 ghost use Rattle.row_frames.specs.Frames as spec;
 
+use crate::picks::Picks;
 use crate::readers::readers_of;
 use crate::seen::{all_seen, all_values, values_in_turn};
 use crate::tables::{Pick, Table};
@@ -40,7 +41,7 @@ pub(crate) fn values_of<'a, R: Threads + Sync>(
     store: &'a Data,
     tables: &'a [Table],
     e: &'a Expr,
-    picks: &[Pick],
+    picks: &Picks,
     workers: u32,
 ) -> Result<Vec<Value>, AllocError>
     requires tables { All spec.IsTable tables.now }
@@ -60,7 +61,7 @@ pub(crate) fn seen_of<'a, R: Threads + Sync>(
     store: &'a Data,
     tables: &'a [Table],
     e: &'a Expr,
-    picks: &[Pick],
+    picks: &Picks,
     workers: u32,
 ) -> Result<Vec<Seen<'a>>, AllocError>
     requires tables { All spec.IsTable tables.now }

@@ -4,7 +4,7 @@ use Rattle.row_frames.proofs.TextCodeLemmas.{made-in-one, one-table, quiet-in-on
 use Rattle.row_frames.proofs.codes.table_codes.Goals as goal
 
 pub returns-clause-value : goal.returns-clause-value
-returns-clause-value c =
+returns-clause-value g c =
     let w = c.args.store.now in
     let ts = c.args.tables.now in
     let t = c.index-tables-0.result in
@@ -14,7 +14,7 @@ returns-clause-value c =
     made-in-one _ _ c.leaf_codes.result (one-table w ts t c.args.path.now c.in_ok-leaf.leaf c.args.picks.now one at c.requires.within c.in_ok-leaf.ensures) (c.leaf_codes.ensures.value w)
 
 pub returns-clause-within : goal.returns-clause-within
-returns-clause-within c =
+returns-clause-within g c =
     let w = c.args.store.now in
     let ts = c.args.tables.now in
     let t = c.index-tables-0.result in

@@ -1,5 +1,7 @@
-use Rattle.std.proofs.Common.{◌≡◌, ◌∙◌, ap, length, map, subst, sym}
-use Rattle.std.proofs.lemmas.List.{length-map}
+use Rattle.std.proofs.Common.{◌≡◌, ◌∙◌, length, map, subst, sym}
+use Rattle.std.proofs.Crossing.{crosses}
+use Rattle.std.proofs.MapsCrossing as maps
+use denote.Param.Send.{sendable}
 use Rattle.apply_ast.specs.Views.{expr_of}
 use Rattle.apply_meaning.specs.Instances.{Instance, val}
 use Rattle.row_frames.specs.declared.tables.Pick.{Pick}
@@ -9,13 +11,12 @@ use Rattle.row_frames.proofs.KeptLemmas.{answers-are, kept-given, kept-tables}
 use Rattle.row_frames.proofs.ReadLemmas.{all-read, all-readable}
 use Rattle.row_frames.proofs.kept.kept_picks.Goals as goal
 
-pub all_answers-requires-clause-readable : goal.all_answers-requires-clause-readable
-all_answers-requires-clause-readable g c κs outlives =
-    let reader = subst (IsReader c.args.store.now c.args.tables.now (expr_of c.args.e.now)) (sym c.as_slice.ensures.value) c.in_ok-readers.ensures in
-    all-readable c.args.store.now (expr_of c.args.e.now) c.args.tables.now c.as_slice.result.now c.args.picks.now reader c.requires.tables c.requires.within c.requires.of
-
-pub kept_by-requires : goal.kept_by-requires
-kept_by-requires g c = ap length (c.as_slice-2.ensures.value ∙ c.in_ok-found.ensures.answers) ∙ length-map c.args.picks.now (λ (x : Pick). answer_of (read_at c.as_slice.result.now x))
+pub kept_of-requires : goal.kept_of-requires
+kept_of-requires g c =
+    let reader = subst (IsReader c.args.store.now c.args.tables.now (expr_of c.args.e.now)) (sym c.as_slice.ensures.value) c.in_ok-readers.ensures in (
+      search (sendable, crosses, maps.crosses) depth 40,
+      all-readable c.args.store.now (expr_of c.args.e.now) c.args.tables.now c.as_slice.result.now c.args.picks.now reader c.requires.tables c.requires.within c.requires.of,
+    )
 
 pub returns : goal.returns
 returns g c =
@@ -26,9 +27,9 @@ returns g c =
     let rs = c.as_slice.result.now in
     let f = λ (i : Instance). val w i e in
     let reader = subst (IsReader w ts e) (sym c.as_slice.ensures.value) c.in_ok-readers.ensures in
-    let told : c.as_slice-2.result.now ≡ map (λ i. answer_of (f i)) (all_picked ts xs) =
-    c.as_slice-2.ensures.value ∙ c.in_ok-found.ensures.answers ∙ answers-are (read_at rs) f xs (all_picked ts xs) (all-read w e ts rs xs reader c.requires.within) in
+    let bs = map (λ (x : Pick). answer_of (read_at rs x)) xs in
+    let told : bs ≡ map (λ i. answer_of (f i)) (all_picked ts xs) = answers-are (read_at rs) f xs (all_picked ts xs) (all-read w e ts rs xs reader c.requires.within) in
     record {
-      kept = kept-given f ts xs c.as_slice-2.result.now c.kept_by.result told c.kept_by.ensures;
-      within = kept-tables (length ts) c.as_slice-2.result.now xs c.kept_by.result c.requires.within c.kept_by.ensures;
+      kept = kept-given f ts xs bs c.kept_of.result told c.kept_of.ensures;
+      within = kept-tables (length ts) bs xs c.kept_of.result c.requires.within c.kept_of.ensures;
     }

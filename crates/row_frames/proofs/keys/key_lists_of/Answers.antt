@@ -13,14 +13,14 @@ use Rattle.row_frames.proofs.keys.key_lists_of.Goals as goal
 pub lists_of-requires : goal.lists_of-requires
 lists_of-requires g c =
     let l = all_picked c.args.tables.now c.args.picks.now in
-    let size : length l ≡ length c.args.picks.now = length-map c.args.picks.now (picked c.args.tables.now) in
-    subst (λ cs. All (λ (c' : Vec Seen). length c'.items ≡ length c.args.picks.now) cs) (sym c.as_slice.ensures.value) (columns-sized c.args.store.now c.args.paths.now l (length c.args.picks.now) c.in_ok-columns.columns.items c.in_ok-columns.ensures size)
+    let size : length l ≡ c.len.result = length-map c.args.picks.now (picked c.args.tables.now) ∙ sym c.len.ensures in
+    subst (λ cs. All (λ (c' : Vec Seen). length c'.items ≡ c.len.result) cs) (sym c.as_slice.ensures.value) (columns-sized c.args.store.now c.args.paths.now l c.len.result c.in_ok-columns.columns.items c.in_ok-columns.ensures size)
 
 pub returns : goal.returns
 returns g c =
     let w = c.args.store.now in
     let ps = c.args.paths.now in
     let l = all_picked c.args.tables.now c.args.picks.now in
-    let size : length l ≡ length c.args.picks.now = length-map c.args.picks.now (picked c.args.tables.now) in
-    IfOk-weaker c.lists_of.result (λ lists. map (λ k. k.items) lists.items ≡ keys.keys_of (keys.seen_columns c.as_slice.result.now) (length c.args.picks.now)) (λ lists. map (λ k. k.items) lists.items ≡ map (key_list w ps) l)
+    let size : length l ≡ c.len.result = length-map c.args.picks.now (picked c.args.tables.now) ∙ sym c.len.ensures in
+    IfOk-weaker c.lists_of.result (λ lists. map (λ k. k.items) lists.items ≡ keys.keys_of (keys.seen_columns c.as_slice.result.now) c.len.result) (λ lists. map (λ k. k.items) lists.items ≡ map (key_list w ps) l)
     (λ lists h. h ∙ (λ i. keys.keys_of ((ap keys.seen_columns c.as_slice.ensures.value ∙ c.in_ok-columns.ensures) i) (sym size i)) ∙ keys-across w ps l) c.lists_of.ensures

@@ -1,26 +1,25 @@
-use Rattle.std.proofs.Common.{◌≡◌, ◌∙◌, ap, sym, subst, length, IsTrue}
-use Rattle.std.specs.Prelude.{nat_lt}
-use Rattle.std.specs.List.{list_all}
-use Rattle.std.proofs.lemmas.List.{length-map}
+use Rattle.std.proofs.Common.{◌∙◌, ◌<◌, ap, length}
+use Rattle.std.proofs.lemmas.List.Elements.{All-same}
 use Rattle.edm_values.specs.Lists.{at_places}
-use Rattle.row_frames.specs.Frames.{picked}
-use Rattle.row_frames.proofs.ChosenLemmas.{picked-at, within-at}
+use Rattle.row_frames.specs.Frames.{all_picked}
+use Rattle.row_frames.specs.declared.tables.Pick.{Pick}
+use Rattle.row_frames.proofs.PlaceLemmas.{at-within, picked-at, places-seen}
 use Rattle.row_frames.proofs.frames.Frame.at.Goals as goal
 
 pub picks_at-requires : goal.picks_at-requires
-picks_at-requires c =
-    let n : length c.args.self ≡ length c.as_slice.result.now = sym (ap length c.self.view_is) ∙ length-map c.self.inside.picks.items (picked c.self.inside.tables.items) ∙ ap length (sym c.as_slice.ensures.value) in
-    subst (λ m. IsTrue (list_all (λ k. nat_lt k m) c.args.places.now)) n c.requires.within
+picks_at-requires c = places-seen c.self.inside.tables.items c.self.inside.picks c.args.self c.args.places.now c.self.view_is c.requires.within
 
 pub invariant_of-result : goal.invariant_of-result
-invariant_of-result c = (
-  c.self.invariant.0,
-  within-at (length c.self.inside.tables.items) c.self.inside.picks.items c.in_ok-picks.picks.items c.args.places.now
-      (c.in_ok-picks.ensures ∙ ap (λ xs. at_places xs c.args.places.now) c.as_slice.ensures.value) c.self.invariant.1,
-)
+invariant_of-result c =
+    let there = places-seen c.self.inside.tables.items c.self.inside.picks c.args.self c.args.places.now c.self.view_is c.requires.within in
+    let W = λ (x : Pick). x.table < length c.self.inside.tables.items in (
+      c.self.invariant.0,
+      All-same W c.of_list-picks.result (at_places c.self.inside.picks c.args.places.now) (c.of_list-picks.ensures ∙ c.in_ok-list.ensures) (at-within W c.self.inside.picks c.args.places.now there c.self.invariant.1),
+    )
 
 pub returns : goal.returns
 returns c = record {
-  value = picked-at c.self.inside.tables.items c.self.inside.picks.items c.in_ok-picks.picks.items c.args.places.now (c.in_ok-picks.ensures ∙ ap (λ xs. at_places xs c.args.places.now) c.as_slice.ensures.value)
+  value = ap (all_picked c.self.inside.tables.items) (c.of_list-picks.ensures ∙ c.in_ok-list.ensures)
+      ∙ picked-at c.self.inside.tables.items c.self.inside.picks c.args.places.now
       ∙ ap (λ l. at_places l c.args.places.now) c.self.view_is;
 }

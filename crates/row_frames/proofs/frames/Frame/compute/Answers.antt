@@ -16,14 +16,14 @@ invariant_of-result g c =
     let w = c.args.store.now in
     let items = c.args.items.now in
     let ts = c.in_ok-tables.tables.items in
-    let xs = c.in_ok-tables.picks.items in
+    let xs = c.in_ok-tables.picks in
     let us = c.in_ok-tables-2.tables.items in
-    let cs = c.as_slice-3.result.now in
+    let cs = c.as_slice.result.now in
     let P = c.in_ok-tables.ensures.picked in
-    let A : all_picked c.as_slice-own.result.now c.as_slice.result.now ≡ all_picked ts xs = (λ i. all_picked (c.as_slice-own.ensures.value i) (c.as_slice.ensures.value i)) ∙ sym P in
+    let A : all_picked c.as_slice-own.result.now c.self.inside.picks ≡ all_picked ts xs = ap (λ l. all_picked l c.self.inside.picks) c.as_slice-own.ensures.value ∙ sym P in
     let e : map listed cs ≡ map (λ (x : of_named.Named). (x.name ∷ [], values w (expr_of x.expr) (all_picked ts xs))) items =
-    ap (map listed) c.as_slice-3.ensures.value ∙ c.in_ok-columns.ensures ∙ ap (λ (l : List Instance). map (λ (x : of_named.Named). (x.name ∷ [], values w (expr_of x.expr) l)) items) A in
-    let C : AreComputed xs cs 0 ts us = subst (λ (ys : List Pick). AreComputed ys cs 0 ts us) c.as_slice-2.ensures.value c.in_ok-tables-2.ensures in
+    ap (map listed) c.as_slice.ensures.value ∙ c.in_ok-columns.ensures ∙ ap (λ (l : List Instance). map (λ (x : of_named.Named). (x.name ∷ [], values w (expr_of x.expr) l)) items) A in
+    let C : AreComputed xs cs 0 ts us = c.in_ok-tables-2.ensures in
     let free : all_free w (map named_of items) (all_picked ts xs) ≡ true = ap (all_free w (map named_of items)) (P ∙ c.self.view_is) ∙ c.requires.free in (
       computed-tables w items ts us xs cs c.in_ok-tables.ensures.tables C free e,
       subst (λ n. All (λ (x : Pick). x.table < n) xs) (computed-long xs cs 0 ts us C) c.in_ok-tables.ensures.within,
@@ -34,14 +34,14 @@ returns g c =
     let w = c.args.store.now in
     let items = c.args.items.now in
     let ts = c.in_ok-tables.tables.items in
-    let xs = c.in_ok-tables.picks.items in
+    let xs = c.in_ok-tables.picks in
     let us = c.in_ok-tables-2.tables.items in
-    let cs = c.as_slice-3.result.now in
+    let cs = c.as_slice.result.now in
     let P = c.in_ok-tables.ensures.picked in
-    let A : all_picked c.as_slice-own.result.now c.as_slice.result.now ≡ all_picked ts xs = (λ i. all_picked (c.as_slice-own.ensures.value i) (c.as_slice.ensures.value i)) ∙ sym P in
+    let A : all_picked c.as_slice-own.result.now c.self.inside.picks ≡ all_picked ts xs = ap (λ l. all_picked l c.self.inside.picks) c.as_slice-own.ensures.value ∙ sym P in
     let e : map listed cs ≡ map (λ (x : of_named.Named). (x.name ∷ [], values w (expr_of x.expr) (all_picked ts xs))) items =
-    ap (map listed) c.as_slice-3.ensures.value ∙ c.in_ok-columns.ensures ∙ ap (λ (l : List Instance). map (λ (x : of_named.Named). (x.name ∷ [], values w (expr_of x.expr) l)) items) A in
-    let C : AreComputed xs cs 0 ts us = subst (λ (ys : List Pick). AreComputed ys cs 0 ts us) c.as_slice-2.ensures.value c.in_ok-tables-2.ensures in
+    ap (map listed) c.as_slice.ensures.value ∙ c.in_ok-columns.ensures ∙ ap (λ (l : List Instance). map (λ (x : of_named.Named). (x.name ∷ [], values w (expr_of x.expr) l)) items) A in
+    let C : AreComputed xs cs 0 ts us = c.in_ok-tables-2.ensures in
     record {
       value = computed-picked w items ts us xs cs C c.in_ok-tables.ensures.order c.in_ok-tables.ensures.within e
           ∙ ap (map (λ i. extended i (new_columns w (map named_of items) i))) (P ∙ c.self.view_is);

@@ -9,11 +9,11 @@ invariant_of-result c =
     let ts = c.self.inside.tables.items in
     let z = subst (λ l. AllZip IsShared l c.in_ok-tables.tables.items) c.as_slice.ensures.value c.in_ok-tables.ensures in (
       shared-all ts c.in_ok-tables.tables.items z c.self.invariant.0,
-      shared-within ts c.in_ok-tables.tables.items c.self.inside.picks.items c.in_ok-picks.picks.items z (c.in_ok-picks.ensures ∙ c.as_slice-2.ensures.value) c.self.invariant.1,
+      shared-within ts c.in_ok-tables.tables.items c.self.inside.picks c.in_ok-picks.picks z c.in_ok-picks.ensures c.self.invariant.1,
     )
 
 pub returns : goal.returns
 returns c =
     let ts = c.self.inside.tables.items in
     let z = subst (λ l. AllZip IsShared l c.in_ok-tables.tables.items) c.as_slice.ensures.value c.in_ok-tables.ensures in
-    record { value = shared-picked ts c.in_ok-tables.tables.items c.self.inside.picks.items c.in_ok-picks.picks.items z (c.in_ok-picks.ensures ∙ c.as_slice-2.ensures.value) ∙ c.self.view_is }
+    record { value = shared-picked ts c.in_ok-tables.tables.items c.self.inside.picks c.in_ok-picks.picks z c.in_ok-picks.ensures ∙ c.self.view_is }

@@ -13,10 +13,10 @@ invariant_of-result c =
     let ts = c.in_ok-tables.tables.items in
     let one = c.in_ok-tables.ensures.one in (
       c.in_ok-tables.ensures.tables,
-      All-same (λ (x : Pick). x.table < length ts) c.in_ok-picks.picks.items (map first_pick (places c.args.count)) c.in_ok-picks.ensures (first-within c.args.count (length ts) (omega (arith, one))),
+      All-same (λ (x : Pick). x.table < length ts) c.in_ok-picks.picks (map first_pick (places c.args.count)) c.in_ok-picks.ensures (first-within c.args.count (length ts) (omega (arith, one))),
     )
 
 pub returns : goal.returns
 returns c = record {
-  value = given-picked c.in_ok-tables.tables.items c.in_ok-picks.picks.items c.args.count (given c.args.columns.items) c.in_ok-picks.ensures c.in_ok-tables.ensures.rows;
+  value = given-picked c.in_ok-tables.tables.items c.in_ok-picks.picks c.args.count (given c.args.columns.items) c.in_ok-picks.ensures c.in_ok-tables.ensures.rows;
 }

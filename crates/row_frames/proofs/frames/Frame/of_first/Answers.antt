@@ -11,10 +11,10 @@ pub invariant_of-result : goal.invariant_of-result
 invariant_of-result c =
     let m = ap length c.in_ok-tables.ensures in (
       one-table c.set_table.result c.in_ok-tables.tables.items c.in_ok-tables.ensures c.set_table.ensures.table,
-      All-same (λ (x : Pick). x.table < length c.in_ok-tables.tables.items) c.in_ok-picks.picks.items (map first_pick (places c.args.n)) c.in_ok-picks.ensures (entities-within (length c.in_ok-tables.tables.items) (places c.args.n) (omega (arith, m))),
+      All-same (λ (x : Pick). x.table < length c.in_ok-tables.tables.items) c.of_first-picks.result (map first_pick (places c.args.n)) c.of_first-picks.ensures (entities-within (length c.in_ok-tables.tables.items) (places c.args.n) (omega (arith, m))),
     )
 
 pub returns : goal.returns
 returns c = record {
-  value = entities-picked c.args.set (places c.args.n) c.set_table.result c.in_ok-tables.tables.items c.in_ok-picks.picks.items c.in_ok-tables.ensures c.in_ok-picks.ensures c.set_table.ensures.rows;
+  value = entities-picked c.args.set (places c.args.n) c.set_table.result c.in_ok-tables.tables.items c.of_first-picks.result c.in_ok-tables.ensures c.of_first-picks.ensures c.set_table.ensures.rows;
 }

@@ -15,7 +15,7 @@ invariant_of-result c =
     let named = ap (λ (m : Model). option_map (λ (v : Navigation). v.target) (navigation_on m c.args.nav)) (sym c.model-model.ensures.value) ∙ c.nav_target.ensures.value in
     let v = mapped (λ (v : Navigation). v.target) (navigation_on w.model c.args.nav) c.nav_target.result named in (
       one-table c.set_table.result c.in_ok-tables.tables.items c.in_ok-tables.ensures c.set_table.ensures.table,
-      related-within (length c.in_ok-tables.tables.items) (related_to w v.0 c.args.of) c.in_ok-picks.picks.items (omega (arith, m)) (c.in_ok-picks.ensures v.0 v.1),
+      related-within (length c.in_ok-tables.tables.items) (related_to w v.0 c.args.of) c.of_list-picks.result (omega (arith, m)) (c.of_list-picks.ensures ∙ c.in_ok-list.ensures v.0 v.1),
     )
 
 pub returns : goal.returns
@@ -25,5 +25,5 @@ returns c = record {
       let named = ap (λ (m : Model). option_map (λ (v : Navigation). v.target) (navigation_on m c.args.nav)) (sym c.model-model.ensures.value) ∙ c.nav_target.ensures.value in
       let target : v.target ≡ c.nav_target.result = some_value (sym (ap (option_map (λ (v : Navigation). v.target)) h) ∙ named) in
       let set = c.type_set-set.ensures.value ∙ (λ i. set_of_type (c.model-model.ensures.value i) (sym target i)) in
-      related-picked w v c.args.of c.type_set-set.result c.set_table.result c.in_ok-tables.tables.items c.in_ok-picks.picks.items set c.in_ok-tables.ensures (c.in_ok-picks.ensures v h) c.set_table.ensures.rows;
+      related-picked w v c.args.of c.type_set-set.result c.set_table.result c.in_ok-tables.tables.items c.of_list-picks.result set c.in_ok-tables.ensures (c.of_list-picks.ensures ∙ c.in_ok-list.ensures v h) c.set_table.ensures.rows;
 }

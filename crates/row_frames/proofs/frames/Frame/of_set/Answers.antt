@@ -12,11 +12,11 @@ pub invariant_of-result : goal.invariant_of-result
 invariant_of-result c =
     let m = ap length c.in_ok-tables.ensures in (
       one-table c.set_table.result c.in_ok-tables.tables.items c.in_ok-tables.ensures c.set_table.ensures.table,
-      All-same (λ (x : Pick). x.table < length c.in_ok-tables.tables.items) c.in_ok-picks.picks.items (map first_pick (places c.count.result)) c.in_ok-picks.ensures (first-within c.count.result (length c.in_ok-tables.tables.items) (omega (arith, m))),
+      All-same (λ (x : Pick). x.table < length c.in_ok-tables.tables.items) c.of_first-picks.result (map first_pick (places c.count.result)) c.of_first-picks.ensures (first-within c.count.result (length c.in_ok-tables.tables.items) (omega (arith, m))),
     )
 
 pub returns : goal.returns
 returns c = record {
-  value = set-picked c.args.set c.count.result c.set_table.result c.in_ok-tables.tables.items c.in_ok-picks.picks.items c.in_ok-tables.ensures c.in_ok-picks.ensures c.set_table.ensures.rows
+  value = set-picked c.args.set c.count.result c.set_table.result c.in_ok-tables.tables.items c.of_first-picks.result c.in_ok-tables.ensures c.of_first-picks.ensures c.set_table.ensures.rows
       ∙ ap (λ n. map entity_instance (map (entity_at c.args.set) (places n))) c.count.ensures.value;
 }

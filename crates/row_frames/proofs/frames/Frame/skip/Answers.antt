@@ -4,6 +4,6 @@ use Rattle.row_frames.proofs.frames.Frame.skip.Goals as goal
 
 pub returns : goal.returns
 returns c = record {
-  value = skip-picked c.self.inside.tables.items c.args.n c.self.inside.picks.items c.later_picks-picks.result.items c.later_picks-picks.ensures
+  value = skip-picked c.self.inside.tables.items c.args.n c.self.inside.picks c.later-picks.result c.later-picks.ensures
       ∙ ap (drop c.args.n) c.self.view_is;
 }

@@ -4,6 +4,6 @@ use Rattle.row_frames.proofs.frames.Frame.top.Goals as goal
 
 pub returns : goal.returns
 returns c = record {
-  value = top-picked c.self.inside.tables.items c.args.n c.self.inside.picks.items c.first_picks-picks.result.items c.first_picks-picks.ensures
+  value = top-picked c.self.inside.tables.items c.args.n c.self.inside.picks c.first-picks.result c.first-picks.ensures
       ∙ ap (take c.args.n) c.self.view_is;
 }

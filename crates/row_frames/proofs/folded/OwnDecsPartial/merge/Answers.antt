@@ -1,0 +1,12 @@
+use Rattle.std.proofs.Common.{sym, subst}
+use Rattle.std.proofs.lemmas.List.{map-append}
+use Rattle.std.proofs.lemmas.Result.{on_ok_weaker}
+use Rattle.edm_values.specs.declared.Value.{Value}
+use Rattle.row_frames.specs.Folded.{own_decs}
+use Rattle.row_frames.proofs.folded.OwnDecsPartial.merge.Goals as goal
+
+pub returns-clause-merged : goal.returns-clause-merged
+returns-clause-merged g c =
+    on_ok_weaker c.merge.result (λ m xs ys h k.
+    subst (λ t. g.P.Partial.stands_for c.merge.new.self t) (sym (map-append (λ x. (Value.Dec x.0, x.1)) xs ys))
+    (m (own_decs xs) (own_decs ys) h k)) c.merge.ensures.merged
