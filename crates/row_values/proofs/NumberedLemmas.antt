@@ -1,7 +1,7 @@
 -- Aggregates of the values that have one number.
 use Rattle.std.proofs.Common.{◌≡◌, ◌∙◌, ℕ, ◌+◌, ◌<◌, ◌≤◌, Bool, true, false, List, [], ◌∷◌, ◌++◌, Some, ap, arith, cond, drop, filter, get_or, length, map, nat_eq, refl, subst, sym, ⊎_elim}
 use Rattle.std.specs.Prelude.{slice_get}
-use Rattle.std.specs.List.{cons_option}
+use Rattle.std.specs.List.{All, cons_option}
 use Rattle.std.proofs.lemmas.Bool.{cases_eq}
 use Rattle.std.proofs.lemmas.List.{get_or_append_left, get_or_default, get_or_push, length_push}
 use Rattle.std.proofs.lemmas.Option.{slice_get-get_or}
@@ -9,12 +9,12 @@ use Rattle.edm_values.specs.declared.Method.{Method}
 use Rattle.edm_values.specs.declared.Value.{Value}
 use Rattle.edm_values.specs.Lists.{at_places, places}
 use Rattle.edm_values.proofs.PlaceFacts.{map-agree_places}
-use Rattle.edm_values.proofs.TopPlaces.{map-places}
+use Rattle.edm_values.proofs.TopPlaces.{element-there, map-places}
 use Rattle.apply_meaning.specs.Aggregates.{aggregate}
 use Rattle.par_stages.specs.Placed.{placed}
 use Rattle.aggregate_ops.specs.Partials.{values}
 use Rattle.numbered_groups.specs.Numbered.{places_with}
-use Rattle.row_values.specs.GroupFolds.{AreFoldsOf, FoldsState, values_with}
+use Rattle.row_values.specs.GroupFolds.{AreFoldsOf, ArePartialsBy, FoldsState, values_with}
 use Rattle.row_values.proofs.GroupFoldLemmas.{left-read, left-rest, left-there}
 
 -- ---- the values at places that have a number
@@ -93,3 +93,34 @@ module _ {P : Type 0} (stands : P → List (Value × ℕ) → Type 0) (m : Metho
       ∙ map-agree_places (λ j. get_or found j Value.Null) (λ j. aggregate m (values (values_with s.numbers j xs))) (length found)
       (λ j lt. t.told j s.empty (values_with s.numbers j xs) (omega (arith, t.size)) (subst (λ l. stands (get_or l j s.empty) (values_with s.numbers j xs)) (sym e) (h.each j s.empty (omega (arith, h.size, long)))))
       ∙ ap (λ n. map (λ j. aggregate m (values (values_with s.numbers j xs))) (places n)) long
+
+-- ---- partials of groups
+
+-- what is kept of the groups of a list
+pub partials-by : {P K : Type 0} (kind : P → K) (stands : P → List (Value × ℕ) → Type 0) (s : FoldsState P) (vs : List Value) (numbers : List ℕ) (count : ℕ) (ps : List P) → ps ≡ s.groups → All (λ p. kind p ≡ kind s.empty) ps
+    → s.numbers ≡ numbers → s.count ≡ count → length numbers ≡ length vs → AreFoldsOf stands s (placed 0 vs) → ArePartialsBy kind stands vs numbers count ps
+partials-by kind stands s vs numbers count ps e kinds n c l h =
+    let size = ap length e ∙ h.size ∙ c in
+    record {
+      size = size;
+      of = kind s.empty;
+      kinds = λ j d lt. kinds j d (omega (arith, lt, size));
+      each = λ j d lt. (
+        values_with s.numbers j (placed 0 vs),
+        subst (λ gs. stands (get_or gs j d) (values_with s.numbers j (placed 0 vs))) (sym e) (h.each j d (omega (arith, lt, c, h.size))),
+        ap (λ ns. values (values_with ns j (placed 0 vs))) n ∙ values-numbered j numbers vs l,
+      );
+    }
+
+-- all their aggregates are found
+pub told-by : {P K : Type 0} (kind : P → K) (stands : P → List (Value × ℕ) → Type 0) (m : Method) (vs : List Value) (numbers : List ℕ) (count : ℕ) (gs : List P) (found : List Value) (n : ℕ) → length gs ≤ n → AreTold stands m gs found n
+    → ArePartialsBy kind stands vs numbers count gs → found ≡ map (λ j. aggregate m (at_places vs (places_with numbers j))) (places count)
+told-by kind stands m vs numbers count gs found n whole t h =
+    let long : length found ≡ count = omega (arith, t.size, t.few, whole, h.size) in
+    let one : (j : ℕ) → j < length found → get_or found j Value.Null ≡ aggregate m (at_places vs (places_with numbers j)) = λ j lt.
+    let p = element-there gs j (omega (arith, lt, long, h.size)) in
+    let own = h.each j p.0 (omega (arith, lt, long)) in
+    t.told j p.0 own.0 (omega (arith, lt, t.size)) own.1 ∙ ap (aggregate m) own.2 in
+    sym (map-places found Value.Null)
+    ∙ map-agree_places (λ j. get_or found j Value.Null) (λ j. aggregate m (at_places vs (places_with numbers j))) (length found) one
+    ∙ ap (λ n. map (λ j. aggregate m (at_places vs (places_with numbers j))) (places n)) long

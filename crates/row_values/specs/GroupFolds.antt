@@ -1,5 +1,9 @@
 -- What is kept of the values of each group, and when it stands for a list of values.
 use Rattle.std.specs.Prelude.{◌≡◌, ℕ, ◌≤◌, ◌<◌, List, ◌++◌, length, filter, get_or, nat_eq}
+use Rattle.edm_values.specs.declared.Value.{Value}
+use Rattle.edm_values.specs.Lists.{at_places}
+use Rattle.aggregate_ops.specs.Partials as partials
+use Rattle.numbered_groups.specs.Numbered.{places_with}
 
 -- the number of each place's group, how many groups there are, how many values were added, what is kept of no values, and what is
 -- kept of each group's
@@ -35,3 +39,10 @@ pub record AreMergedTo {P K V : Type 0} (kind : P → K) (stands_for : P → Lis
   pub kinds : (j : ℕ) → (d : P) → j < length gs → kind (get_or ms j d) ≡ kind (get_or gs j d)
   pub stands : (j : ℕ) → (d : P) → j < k → (xs ys : List (V × ℕ)) → stands_for (get_or gs j d) xs → stands_for (get_or later j d) ys → stands_for (get_or ms j d) (xs ++ ys)
   pub others : (j : ℕ) → (d : P) → k ≤ j → get_or ms j d ≡ get_or gs j d
+
+-- each of these stands for the values of a list at the places that have its number, and all are of one kind
+pub record ArePartialsBy {P K : Type 0} (kind : P → K) (stands_for : P → List (Value × ℕ) → Type 0) (vs : List Value) (numbers : List ℕ) (count : ℕ) (ps : List P) : Type 0 where
+  pub size : length ps ≡ count
+  pub of : K
+  pub kinds : (j : ℕ) → (d : P) → j < count → kind (get_or ps j d) ≡ of
+  pub each : (j : ℕ) → (d : P) → j < count → (xs : List (Value × ℕ)) × stands_for (get_or ps j d) xs × (partials.values xs ≡ at_places vs (places_with numbers j))

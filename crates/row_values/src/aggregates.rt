@@ -18,7 +18,7 @@ use aggregate_ops::{
     DistinctValues, HashedValue, MaxOf, MinOf, Seed, SumOf, aggregate_values, kind_of,
 };
 use apply_ast::Expr;
-use apply_meaning::Row;
+use apply_meaning::{Row, eval};
 use edm_data::Data;
 use edm_values::{EdmType, Method, Seen, Value};
 use par_stages::{Gate, pieces};
@@ -55,6 +55,20 @@ pub(crate) fn kind_read(values: &FrameReader<'_>) -> EdmType
 {
     for k in 0..values.len() {
         if let Some(kind) = kind_of(values.at(k)) {
+            return kind;
+        }
+    }
+    EdmType::Int
+}
+
+/// The same of the values of an expression on rows.
+pub(crate) fn kind_on(store: &Data, e: &Expr, rows: &[Row]) -> EdmType
+    requires { IsTrue (all_of store.now rows.now) }
+    ensures taken { (m : Method') → AreFoldable m (values store.now (expr_of e.now) rows.now) → IsTrue (is_some (method_kind m result)) }
+    ensures typed { (m : Method') → AreFoldable m (values store.now (expr_of e.now) rows.now) → IsTrue (list_all (is_of_kind result) (values store.now (expr_of e.now) rows.now)) }
+{
+    for row in rows {
+        if let Some(kind) = kind_of(eval(store, row, e)) {
             return kind;
         }
     }

@@ -10,9 +10,9 @@ ghost use Rattle.aggregate_ops.specs.Partials.{AreFoldable};
 ghost use Rattle.numbered_groups.specs.Numbered.{places_with};
 
 use crate::aggregates::kind_read;
-use crate::group_folds::GroupFolds;
+use crate::group_partials::partials_read;
 use crate::lists::RowList;
-use crate::numbered::{outcomes, piece_workers};
+use crate::numbered::outcomes;
 use aggregate_ops::{Aggregated, MaxOf, MinOf, SumOf};
 use apply_ast::Expr;
 use edm_data::Data;
@@ -22,7 +22,7 @@ use row_frames::FrameReader;
 use std::alloc::{AllocError, Global};
 use std::thread::Threads;
 
-/// The aggregates of values that are folded where they are read. A fold of other groups answers want of memory.
+/// The aggregates of values that are folded where they are read.
 fn fold_read<R: Threads + Sync, P: Aggregated + Sync, G: Gate>(
     rt: &R,
     alloc: Global,
@@ -39,13 +39,8 @@ fn fold_read<R: Threads + Sync, P: Aggregated + Sync, G: Gate>(
     requires size { length numbers.now ≡ length values.now }
     ensures { IfOk result (λ o. IfSome o (λ vs. vs.items ≡ map (λ j. aggregate P.method (at_places values.now (places_with numbers.now j))) (places count))) }
 {
-    let workers = piece_workers(values.len(), count, workers);
-    let folds = GroupFolds::new(alloc, numbers, count, empty);
-    let all = values.fold(rt, workers, gate, folds)?;
-    if !all.are_by(numbers, count) {
-        return Err(AllocError);
-    }
-    let found = outcomes(alloc, &all)?;
+    let own = partials_read(rt, alloc, values, empty, numbers, count, workers, gate)?;
+    let found = outcomes(alloc, own.as_slice())?;
     Ok(Some(found))
 }
 

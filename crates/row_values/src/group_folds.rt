@@ -1,5 +1,5 @@
 //! What partials over values keep of the values of each group.
-ghost use Rattle.std.specs.Prelude.{◌≡◌, [], true};
+ghost use Rattle.std.specs.Prelude.{◌≡◌, [], All, true};
 
 use edm_values::Seen;
 use par_stages::Partial;
@@ -65,6 +65,14 @@ impl<'n, P: Partial> GroupFolds<'n, P> {
         ensures value { result.now ≡ self.now.groups }
     {
         self.groups.as_slice()
+    }
+
+    /// What is kept of each group, without the rest.
+    pub(crate) fn into_groups(self) -> Vec<P>
+        ensures value { result.items ≡ self.entry.groups }
+        ensures kind { All (λ p. P.kind p ≡ P.kind self.entry.empty) result.items }
+    {
+        self.groups
     }
 }
 

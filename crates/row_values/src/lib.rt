@@ -4,10 +4,11 @@
 //! expression is true, and `compute_rows` extends rows by new columns. `RowList` is a list of instances that is read where it
 //! stands, rows or a frame, and `PlacedRows` those of a list that are told by their places, each with the values on them, owned or
 //! borrowed (`seen`), and the aggregate of these by a method (`aggregates`), which on a frame are folded where they are read: no row
-//! is copied or made, but those that `RowList::members` is asked for. `RowList::aggregates_by` has the aggregates of all groups of a
-//! list, whose instances have the number of their group (`numbered`): each value goes to what is kept of its group (`group_folds`),
-//! but for distinct values, which are counted by numbers in their place (`distincts`). Those of a frame are folded where they are
-//! read (`frame_folds`).
+//! is copied or made, but those that `RowList::members` is asked for. `RowList::partials_by` has what partials keep of the values on
+//! the instances of each group of a list, whose instances have the number of their group: each value goes to what is kept of its
+//! group (`group_folds`, `group_partials`). `RowList::aggregates_by` has the aggregates of all groups (`numbered`), also but for
+//! distinct values, which are counted by numbers in their place (`distincts`). Values on a frame are folded where they are read
+//! (`frame_folds`).
 //! `RowList::codes` and `RowList::key_codes` have numbers in place of the values of paths (`key_codes`).
 //! The rows are cut into at most as many parts as there are workers, by `rayon`, and few rows are not cut at all. Threads read the
 //! data, the rows and the expression, and write nothing that is shared. Rows are moved and made by the thread that called.
@@ -25,6 +26,7 @@ mod distincts;
 mod filters;
 mod frame_folds;
 mod group_folds;
+mod group_partials;
 mod key_codes;
 mod keys;
 mod lists;

@@ -1,11 +1,14 @@
 //! Lists of instances that are read where they stand: rows, or a frame.
-ghost use Rattle.std.specs.Prelude.{◌≡◌, ◌+◌, ◌≤◌, ◌<◌, IfOk, IfSome, IsTrue, false, flat_map, get_or, length, map, nat_lt};
+ghost use Rattle.std.specs.Prelude.{◌≡◌, ◌+◌, ◌≤◌, ◌<◌, IfOk, IfSome, IsTrue, false, flat_map, get_or, is_some, length, map, nat_lt};
 ghost use Rattle.std.specs.List.{All, list_all, list_any};
+ghost use Rattle.edm_values.specs.declared.Method.{Method as Method'};
 ghost use Rattle.edm_values.specs.Lists.{at_places, places};
+ghost use Rattle.edm_values.specs.Literals.{is_of_kind};
 ghost use Rattle.edm_values.specs.Values.{is_beyond, seen_value};
 ghost use Rattle.edm_model.specs.LookUps.{IsSet};
 ghost use Rattle.apply_ast.specs.Views.{expr_of};
 ghost use Rattle.aggregate_ops.specs.Partials.{AreFoldable};
+ghost use Rattle.context_typing.specs.Typing.{method_kind};
 ghost use Rattle.apply_meaning.specs.Aggregates.{aggregate};
 ghost use Rattle.apply_meaning.specs.Instances.{no_instance, root_of};
 ghost use Rattle.apply_meaning.specs.Meaning as spec;
@@ -14,10 +17,12 @@ ghost use Rattle.apply_meaning.specs.Running.{all_of};
 ghost use Rattle.row_frames.specs.Keys.{key_column, key_columns, seen_columns};
 ghost use Rattle.row_frames.specs.Own.{IsOwn};
 ghost use Rattle.numbered_groups.specs.Numbered.{AreKeyCodes, places_with};
+ghost use Rattle.row_values.specs.GroupFolds.{ArePartialsBy};
 ghost use Rattle.value_codes.specs.Codes.{AreCodes};
 
-use crate::aggregates::{frame_aggregate, row_aggregate};
+use crate::aggregates::{frame_aggregate, kind_on, kind_read, row_aggregate};
 use crate::distincts::distinct_of;
+use crate::group_partials::list_partials;
 use crate::key_codes::key_codes;
 use crate::keys::{key_list, key_lists};
 use crate::numbered::list_aggregates;
@@ -27,9 +32,10 @@ use apply_ast::{Expr, Path};
 use apply_meaning::{Row, Steps, lookup};
 use edm_data::{Data, EntityRef};
 use edm_model::{PropId, SetId};
-use edm_values::{Method, Seen, Value};
+use edm_values::{EdmType, Method, Seen, Value};
 use par_stages::Gate;
 use row_frames::Frame;
+use seen_partials::SeenPartial;
 use std::alloc::{AllocError, Global};
 use std::marker::Model;
 use std::sync::ledger::Ledger;
@@ -235,6 +241,46 @@ impl<'a> RowList<'a> {
     {
         list_aggregates(
             rt, alloc, store, e, method, self, numbers, count, workers, gate,
+        )
+    }
+
+    /// The type of the values of an expression on the instances, where they are of one type: that of the first that has one of its
+    /// own, and that of integers where none has.
+    pub fn kind(&self, alloc: Global, store: &Data, e: &Expr) -> Result<EdmType, AllocError>
+        requires of { IsTrue (all_of store.now self.now) }
+        ensures taken { IfOk result (λ kind. (m : Method') → AreFoldable m (values store.now (expr_of e.now) self.now) → IsTrue (is_some (method_kind m kind))) }
+        ensures typed { IfOk result (λ kind. (m : Method') → AreFoldable m (values store.now (expr_of e.now) self.now) → IsTrue (list_all (is_of_kind kind) (values store.now (expr_of e.now) self.now))) }
+    {
+        match self.source {
+            Source::Rows(rows) => Ok(kind_on(store, e, rows)),
+            Source::Frame(frame) => Ok(kind_read(&frame.reader(alloc, store, e)?)),
+        }
+    }
+
+    /// For each group of the instances, of whose numbers there are `count`, what a partial of the kind of `empty` keeps of the values
+    /// of an expression on its instances. The instances are cut into pieces, of which the gate is told and which several threads may
+    /// take. An instance whose number is none of a group's answers want of memory.
+    pub fn partials_by<R: Threads + Sync, P: SeenPartial + Sync, G: Gate>(
+        &self,
+        rt: &R,
+        alloc: Global,
+        store: &Data,
+        e: &Expr,
+        empty: P,
+        numbers: &[u32],
+        count: usize,
+        workers: u32,
+        gate: &G,
+    ) -> Result<Vec<P>, AllocError>
+        requires some { 0 < workers }
+        requires few { workers ≤ 64 }
+        requires of { IsTrue (all_of store.now self.now) }
+        requires kind { All (P.takes (P.kind empty)) (values store.now (expr_of e.now) self.now) }
+        requires size { length numbers.now ≡ length self.now }
+        ensures value { IfOk result (λ ps. ArePartialsBy P.kind P.stands_for (values store.now (expr_of e.now) self.now) numbers.now count ps.items) }
+    {
+        list_partials(
+            rt, alloc, store, e, self, empty, numbers, count, workers, gate,
         )
     }
 

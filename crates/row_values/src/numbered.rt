@@ -15,11 +15,12 @@ ghost use Rattle.apply_meaning.specs.Running.{all_of};
 ghost use Rattle.aggregate_ops.specs.Partials as partials;
 ghost use Rattle.aggregate_ops.specs.Partials.{AreFoldable, IsDistinctOf};
 ghost use Rattle.numbered_groups.specs.Numbered.{places_with};
-ghost use Rattle.row_values.specs.GroupFolds.{AreFoldsOf, values_with};
+ghost use Rattle.row_values.specs.GroupFolds.{AreFoldsOf, ArePartialsBy, values_with};
 
 use crate::distincts::distinct_by;
 use crate::frame_folds::frame_aggregates;
 use crate::group_folds::GroupFolds;
+use crate::group_partials::{partials_listed, piece_workers};
 use crate::lists::RowList;
 use aggregate_ops::{Aggregated, DistinctOf, MaxOf, MinOf, Seed, SumOf, hashed_values, kind_of};
 use apply_ast::Expr;
@@ -29,33 +30,10 @@ use par_stages::{Gate, pieces};
 use std::alloc::{AllocError, Global};
 use std::thread::Threads;
 
-/// How many rows a thread is worth: starting one takes about as long as folding these.
-const FEW: usize = 4096;
-
-/// How many values a partial of a piece is worth: to begin it and to merge it takes about as long as adding these.
-const EACH: usize = 4;
-
-/// Into how many pieces so many values of so many groups are cut. Each piece has a partial for each group.
-pub(crate) fn piece_workers(rows: usize, count: usize, workers: u32) -> u32
-    requires some { 0 < workers }
-    ensures some { 0 < result }
-    ensures most { result ≤ workers }
-{
-    if rows < FEW {
-        return workers;
-    }
-    let worth = rows / count.max(1) / EACH;
-    u32::try_from(worth).unwrap_or(workers).max(1).min(workers)
-}
-
 /// The aggregate of the values of each group.
-pub(crate) fn outcomes<P: Aggregated>(
-    alloc: Global,
-    folds: &GroupFolds<'_, P>,
-) -> Result<Vec<Value>, AllocError>
-    ensures { IfOk result (λ vs. (xs : List (Value' × ℕ)) → AreFoldsOf P.stands_for folds.now xs → vs.items ≡ map (λ j. aggregate P.method (partials.values (values_with folds.now.numbers j xs))) (places folds.now.count)) }
+pub(crate) fn outcomes<P: Aggregated>(alloc: Global, groups: &[P]) -> Result<Vec<Value>, AllocError>
+    ensures { IfOk result (λ vs. (all : List Value') (numbers : List ℕ) (count : ℕ) → ArePartialsBy P.kind P.stands_for all numbers count groups.now → vs.items ≡ map (λ j. aggregate P.method (at_places all (places_with numbers j))) (places count)) }
 {
-    let groups = folds.groups();
     let mut found = Vec::with_capacity(alloc, groups.len())?;
     for group in groups {
         found.push(group.outcome()?)?;
@@ -95,10 +73,8 @@ fn fold_listed<R: Threads + Sync, P: Aggregated + Sync, G: Gate>(
     requires size { length numbers.now ≡ length values.now }
     ensures { IfOk result (λ vs. vs.items ≡ map (λ j. aggregate P.method (at_places values.now (places_with numbers.now j))) (places count)) }
 {
-    let workers = piece_workers(values.len(), count, workers);
-    let folds = GroupFolds::new(alloc, numbers, count, empty);
-    let all = pieces(rt, values, workers, gate, &folds)?;
-    outcomes(alloc, &all)
+    let own = partials_listed(rt, alloc, values, empty, numbers, count, workers, gate)?;
+    outcomes(alloc, own.as_slice())
 }
 
 /// The counts of distinct values of one type. The tables of all groups begin with what the hashes of all values come to.
