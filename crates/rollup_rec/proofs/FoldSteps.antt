@@ -11,7 +11,7 @@ use Rattle.edm_values.specs.Lists.{at_places, places}
 use Rattle.edm_values.proofs.TopPlaces.{length-places}
 use Rattle.apply_meaning.specs.Aggregates.{aggregate}
 use Rattle.aggregate_ops.specs.Partials as partials
-use Rattle.rollup_rec.specs.NodeFolds.{AreAggregates, AreFolds, AreLasts, AreNested, AreOpen, ArePast, HasRuns, HasValues, IsLast, rows_between}
+use Rattle.rollup_rec.specs.NodeFolds.{AreAggregates, AreFolds, AreKept, AreLasts, AreNested, AreOpen, ArePast, HasRuns, HasValues, IsLast, rows_between}
 use Rattle.rollup_rec.specs.NodeRows.{row_number, rows_at}
 use Rattle.rollup_rec.proofs.NodeFoldLaws.{filter-few, has-count, has-more, has-none, has-other, rows-of-one, runs-open, value-is}
 
@@ -137,6 +137,19 @@ module _ {P K : Type 0} (kind : P → K) (stands : P → List (Value × ℕ) →
       let long = ap length e ∙ length-append rest (p ∷ []) in
       subst (HasValues kind stands k vs (rows_at numbers nodes (length nodes) j)) (ap (λ l. get_or l j d) e ∙ front-is rest p d j h) (own j d (omega (arith, h, long)))
 
+  -- the last of what is kept, and the runs behind it, of the kind of the last
+  pub next-kept : (ps rest : List P) (p : P) (first : ℕ) (runs : List (ℕ × P)) → ps ≡ rest ++ p ∷ [] → first ≡ length rest → Own ps → AreOpen kind stands k numbers lasts nodes vs (length numbers) (length ps) runs
+      → (kind p ≡ k) × HasValues kind stands (kind p) vs (rows_between numbers nodes first (first + 1)) p × AreOpen kind stands (kind p) numbers lasts nodes vs (length numbers) (first + 1) runs
+  next-kept ps rest p first runs e at own behind =
+      let kept = own-last ps rest p e own in
+      let is = kept.kind_is in
+      let long = ap length e ∙ length-append rest (p ∷ []) in
+      let next : length ps ≡ first + 1 = omega (arith, long, at) in (
+        is,
+        subst (λ n. HasValues kind stands (kind p) vs (rows_between numbers nodes n (n + 1)) p) (sym at) (subst (λ q. HasValues kind stands q vs (rows_between numbers nodes (length rest) (length rest + 1)) p) (sym is) kept),
+        subst (λ q. AreOpen kind stands q numbers lasts nodes vs (length numbers) (first + 1) runs) (sym is) (subst (λ n. AreOpen kind stands k numbers lasts nodes vs (length numbers) n runs) next behind),
+      )
+
   told-more : (n : ℕ) (found : List Value) (v : Value) → All (λ j. j < length numbers) numbers → n + 1 + length found ≡ length numbers → Told (n + 1) found
       → ((x : ℕ) → x < length numbers → slice_index numbers x ≡ n → v ≡ aggregate m (at_places vs (rows_between numbers nodes (slice_index numbers x) (slice_index lasts x + 1)))) → Told n (found ++ v ∷ [])
   told-more n found v within sum told last = λ x d hx low.
@@ -164,3 +177,16 @@ module _ {P K : Type 0} (kind : P → K) (stands : P → List (Value × ℕ) →
         let there = within x 0 hx in
         get_or-reverse found (slice_index numbers x) d (omega (arith, there, size)) ∙ ap (λ n. get_or found (n - 1 - slice_index numbers x) d) size ∙ told x d hx (omega arith);
   }
+
+-- ---- what is left, and what is found
+
+-- the numbers that are left have what is kept of their own values, the runs begin behind these, and the aggregates of the others are found, from the last
+pub record AreLeftOf {P K : Type 0} (kind : P → K) (stands : P → List (Value × ℕ) → Type 0) (k : K) (vs : List Value) (numbers lasts : List ℕ) (nodes : List (Option ℕ)) (m : Method) (ps : List P) (rs : List (ℕ × P)) (found : List Value) : Type 0 where
+  pub own : (j : ℕ) (d : P) → j < length ps → HasValues kind stands k vs (rows_at numbers nodes (length nodes) j) (get_or ps j d)
+  pub sum : length ps + length found ≡ length numbers
+  pub runs : AreOpen kind stands k numbers lasts nodes vs (length numbers) (length ps) rs
+  pub told : Told kind stands k vs numbers lasts nodes m (length ps) found
+
+-- so it is of all values of which those at first were kept
+abbrev pub AreLeft : {P K : Type 0} → (P → K) → (P → List (Value × ℕ) → Type 0) → List ℕ → List ℕ → List (Option ℕ) → Method → List P → List P → List (ℕ × P) → List Value → Type 0
+AreLeft kind stands numbers lasts nodes m all ps rs found = (kept : AreKept kind stands numbers nodes all) → AreLeftOf kind stands kept.of kept.vs numbers lasts nodes m ps rs found

@@ -29,6 +29,12 @@ pub record AreFolds {P K : Type 0} (kind : P → K) (stands : P → List (Value 
   pub size : length ps ≡ count
   pub each : (j : ℕ) (d : P) → j < count → HasValues kind stands k vs (rows_at numbers nodes n j) (get_or ps j d)
 
+-- what is kept of each number stands for the values at all rows that have it
+pub record AreKept {P K : Type 0} (kind : P → K) (stands : P → List (Value × ℕ) → Type 0) (numbers : List ℕ) (nodes : List (Option ℕ)) (ps : List P) : Type 0 where
+  pub of : K
+  pub vs : List Value
+  pub folds : AreFolds kind stands of numbers nodes vs (length numbers) (length nodes) ps
+
 -- it is the last number of the node that has a number, or 0
 abbrev pub IsLast : List ℕ → List ℕ → ℕ → ℕ → ℕ → Type 0
 IsLast numbers lasts n first last = (last ≡ 0) ⊎ ((x : ℕ) × (x < n) × (slice_index numbers x ≡ first) × (last ≡ slice_index lasts x))

@@ -40,6 +40,14 @@ impl<'a> Model for NodeValues<'a> {
 }
 
 impl<'a> NodeValues<'a> {
+    /// The values at the nodes' numbers.
+    pub(crate) fn new(numbers: &'a [u32], values: Vec<Value>) -> NodeValues<'a>
+        requires { All (λ k. k < length values.items) numbers.now }
+        ensures { result ≡ map (λ k. slice_index_or values.items k Value'.Null) numbers.now }
+    {
+        NodeValues { numbers, values }
+    }
+
     /// The value of a node.
     pub fn at(&self, node: u32) -> Seen<'_>
         requires there { node < length self.now }

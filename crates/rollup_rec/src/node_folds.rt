@@ -6,7 +6,7 @@
 ghost use Rattle.std.specs.Prelude.{◌≡◌, ℕ, ◌+◌, ◌^◌, ◌<◌, ◌≤◌, ◌∷◌, [], ◌++◌, List, All, IfOk, IfSome, MatchOption, OnOk, length, map, slice_index};
 ghost use Rattle.edm_values.specs.declared.Value.{Value as Value'};
 ghost use Rattle.edm_values.specs.Values.{seen_value};
-ghost use Rattle.rollup_rec.specs.NodeFolds.{AreAggregates, AreFolds, AreLasts, AreNested, AreOpen, ArePast, HasRuns, HasValues, IsLast, rows_between};
+ghost use Rattle.rollup_rec.specs.NodeFolds.{AreAggregates, AreFolds, AreKept, AreLasts, AreNested, AreOpen, ArePast, HasRuns, HasValues, IsLast, rows_between};
 
 use aggregate_ops::Aggregated;
 use edm_values::{Seen, Value};
@@ -22,6 +22,14 @@ pub(crate) struct NodeRowValues<'a, 'v> {
     pub lasts: &'a [u32],
     pub nodes: &'a [Option<u32>],
     pub values: &'a [Seen<'v>],
+}
+
+/// The same without values.
+#[derive(Clone, Copy, Drop)]
+pub(crate) struct NodeIntervals<'a> {
+    pub numbers: &'a [u32],
+    pub lasts: &'a [u32],
+    pub nodes: &'a [Option<u32>],
 }
 
 /// For each number the last number of the node that has it, 0 where none has it.
@@ -92,9 +100,10 @@ fn next_run<P: Partial>(runs: &mut Vec<(usize, P)>, last: u32) -> Option<P>
     Some(kept)
 }
 
-/// What is kept of a number, with what is kept of the runs that follow it up to its last one. All are of these rows.
+/// What is kept of a number, with what is kept of the runs that follow it up to its last one. All are kept of the values at these
+/// rows, of which there are some.
 fn with_runs<P: Partial<Item = Value>>(
-    rows: &NodeRowValues<'_, '_>,
+    rows: &NodeIntervals<'_>,
     own: P,
     first: usize,
     last: u32,
@@ -103,9 +112,11 @@ fn with_runs<P: Partial<Item = Value>>(
     requires few { length rows.now.nodes.now < 2 ^ 63 }
     requires nests { AreNested rows.now.numbers.now rows.now.lasts.now }
     requires last { IsLast rows.now.numbers.now rows.now.lasts.now (length rows.now.numbers.now) first last }
-    requires own { HasValues P.kind P.stands_for (P.kind own) (map (λ v. seen_value v) rows.now.values.now) (rows_between rows.now.numbers.now rows.now.nodes.now first (first + 1)) own }
-    requires runs { AreOpen P.kind P.stands_for (P.kind own) rows.now.numbers.now rows.now.lasts.now rows.now.nodes.now (map (λ v. seen_value v) rows.now.values.now) (length rows.now.numbers.now) (first + 1) runs.old.items }
-    ensures runs { IfOk result (λ all. HasRuns P.kind P.stands_for (P.kind own) rows.now.numbers.now rows.now.lasts.now rows.now.nodes.now (map (λ v. seen_value v) rows.now.values.now) first last all runs.new.items) }
+    requires kept { (vs : List Value') × HasValues P.kind P.stands_for (P.kind own) vs (rows_between rows.now.numbers.now rows.now.nodes.now first (first + 1)) own
+        × AreOpen P.kind P.stands_for (P.kind own) rows.now.numbers.now rows.now.lasts.now rows.now.nodes.now vs (length rows.now.numbers.now) (first + 1) runs.old.items }
+    ensures runs { (vs : List Value') → HasValues P.kind P.stands_for (P.kind own) vs (rows_between rows.now.numbers.now rows.now.nodes.now first (first + 1)) own
+        → AreOpen P.kind P.stands_for (P.kind own) rows.now.numbers.now rows.now.lasts.now rows.now.nodes.now vs (length rows.now.numbers.now) (first + 1) runs.old.items
+        → IfOk result (λ all. HasRuns P.kind P.stands_for (P.kind own) rows.now.numbers.now rows.now.lasts.now rows.now.nodes.now vs first last all runs.new.items) }
     ensures past { IfOk result (λ _. ArePast last runs.new.items) }
 {
     let mut all = own;
@@ -113,6 +124,36 @@ fn with_runs<P: Partial<Item = Value>>(
         all.merge(next)?;
     }
     Ok(all)
+}
+
+/// For each number the aggregate of the values at the rows whose node has it, or a number of that node's interval. For each number
+/// it is given what is kept of the values at the rows whose node has it.
+pub(crate) fn aggregates_of<P: Aggregated>(
+    alloc: Global,
+    rows: &NodeIntervals<'_>,
+    own: Vec<P>,
+) -> Result<Vec<Value>, AllocError>
+    requires few { length rows.now.nodes.now < 2 ^ 63 }
+    requires lasts { length rows.now.lasts.now ≡ length rows.now.numbers.now }
+    requires numbers { All (λ k. k < length rows.now.numbers.now) rows.now.numbers.now }
+    requires one { (x y : ℕ) → x < length rows.now.numbers.now → y < length rows.now.numbers.now → slice_index rows.now.numbers.now x ≡ slice_index rows.now.numbers.now y → x ≡ y }
+    requires nests { AreNested rows.now.numbers.now rows.now.lasts.now }
+    requires nodes { All (λ n. IfSome n (λ y. y < length rows.now.numbers.now)) rows.now.nodes.now }
+    requires kept { AreKept P.kind P.stands_for rows.now.numbers.now rows.now.nodes.now own.items }
+    ensures { IfOk result (λ found. (kept : AreKept P.kind P.stands_for rows.now.numbers.now rows.now.nodes.now own.items) → AreAggregates P.method rows.now.numbers.now rows.now.lasts.now rows.now.nodes.now kept.vs found.items) }
+{
+    let ends = lasts_by_number(alloc, rows.numbers, rows.lasts)?;
+    let mut own = own;
+    let mut runs = Vec::new(alloc);
+    let mut found = Vec::with_capacity(alloc, own.len())?;
+    while let Some(kept) = own.pop() {
+        let first = own.len();
+        let kept = with_runs(rows, kept, first, ends[first], &mut runs)?;
+        found.push(kept.outcome()?)?;
+        runs.push((first, kept))?;
+    }
+    found.reverse();
+    Ok(found)
 }
 
 /// For each number the aggregate of the values at the rows whose node has it, or a number of that node's interval.
@@ -131,16 +172,12 @@ pub(crate) fn aggregates_by_number<P: Aggregated>(
     requires kind { All (P.takes (P.kind empty.now)) (map (λ v. seen_value v) rows.now.values.now) }
     ensures { IfOk result (λ found. AreAggregates P.method rows.now.numbers.now rows.now.lasts.now rows.now.nodes.now (map (λ v. seen_value v) rows.now.values.now) found.items) }
 {
-    let ends = lasts_by_number(alloc, rows.numbers, rows.lasts)?;
-    let mut own = own_partials(alloc, rows.numbers, rows.nodes, rows.values, empty)?;
-    let mut runs = Vec::new(alloc);
-    let mut found = Vec::with_capacity(alloc, own.len())?;
-    while let Some(kept) = own.pop() {
-        let first = own.len();
-        let kept = with_runs(rows, kept, first, ends[first], &mut runs)?;
-        found.push(kept.outcome()?)?;
-        runs.push((first, kept))?;
-    }
-    found.reverse();
-    Ok(found)
+    let own = own_partials(alloc, rows.numbers, rows.nodes, rows.values, empty)?;
+    let (numbers, lasts, nodes) = (rows.numbers, rows.lasts, rows.nodes);
+    let intervals = NodeIntervals {
+        numbers,
+        lasts,
+        nodes,
+    };
+    aggregates_of(alloc, &intervals, own)
 }
