@@ -1,9 +1,11 @@
 //! What a run works with.
-ghost use Rattle.std.specs.Prelude.{◌≡◌, ◌++◌, ◌+◌, ◌<◌, ◌≤◌, All, Some, IfOk, IfSome, IsTrue, is_some, filter, length, map, nat_lt, true};
+ghost use Rattle.std.specs.Prelude.{◌≡◌, ℕ, ◌++◌, ◌+◌, ◌<◌, ◌≤◌, All, Some, IfOk, IfSome, IsTrue, is_some, filter, length, map, nat_lt, slice_index_or, true};
 ghost use Rattle.std.specs.List.{list_all};
+ghost use Rattle.edm_values.specs.declared.Value.{Value as Value'};
 ghost use Rattle.edm_values.specs.Lists.{at_places, places};
 ghost use Rattle.edm_values.specs.Values.{is_value, seen_value};
 ghost use Rattle.edm_model.specs.LookUps.{HierarchyPlace, IsCustom, IsSet};
+ghost use Rattle.edm_data.specs.Hierarchies.{rows_under};
 ghost use Rattle.edm_data.specs.Nodes.{parents_of};
 ghost use Rattle.apply_ast.specs.Views.{expr_of, hier_of, named_of};
 ghost use Rattle.context_typing.specs.Readings.{AreTypedOver, readings, typed_at};
@@ -34,7 +36,7 @@ use hier_index::Index;
 use hier_states::{HierState, Nodes, nodes_at};
 use numbered_groups::NumberedGroups;
 use par_stages::{Gate, workers_for};
-use rollup_rec::roll;
+use rollup_rec::{NodeNumbers, NodeValues, roll};
 use row_values::{PlacedRows, RowList, compute_rows, filter_rows};
 use std::alloc::{AllocError, Global};
 use std::marker::Model;
@@ -359,6 +361,28 @@ impl<'a, R: Threads + Sync, G: Gate> Context<'a, R, G> {
         let hands = self.hands(rows.len());
         rows.aggregates_by(
             self.rt, alloc, self.store, e, method, numbers, count, hands, self.gate,
+        )
+    }
+
+    /// For each node of a hierarchy the aggregate by a method of the values of an expression on the instances of a list whose node is
+    /// it or a descendant of it; none of counts of distinct values of which one is past its range. All values are of one type.
+    pub(crate) fn node_values<'n>(
+        &self,
+        alloc: Global,
+        method: Method,
+        e: &Expr,
+        rows: &RowList<'_>,
+        told: &NodeNumbers<'n, '_>,
+    ) -> Result<Option<NodeValues<'n>>, AllocError>
+        requires of { IsTrue (all_of self.now.world rows.now) }
+        requires kind { AreFoldable method (values self.now.world (expr_of e.now) rows.now) }
+        requires size { length rows.now ≡ length told.now.nodes }
+        ensures size { IfOk result (λ o. IfSome o (λ v. length v ≡ length told.now.parents)) }
+        ensures value { IfOk result (λ o. IfSome o (λ v. (x : ℕ) → x < length told.now.parents → slice_index_or v x Value'.Null ≡ aggregates.aggregate method (at_places (values self.now.world (expr_of e.now) rows.now) (rows_under told.now.parents x told.now.nodes)))) }
+    {
+        let hands = self.hands(rows.len());
+        told.values(
+            self.rt, alloc, self.store, e, method, rows, hands, self.gate,
         )
     }
 

@@ -31,7 +31,7 @@ use edm_values::{Method, Value};
 use hier_index::Index;
 use hier_rows::{identifier, nodes_of};
 use par_stages::Gate;
-use rollup_rec::{NodeRows, NodeValues, node_values};
+use rollup_rec::{NodeNumbers, NodeRows, NodeValues};
 use row_values::{PlacedRows, RowList};
 use std::alloc::{AllocError, Global};
 use std::sync::ledger::Ledger;
@@ -108,22 +108,17 @@ fn node_list<'a, R: Threads + Sync, G: Gate>(
     root: &Option<TypeId>,
     item: &AggItem,
     rows: &RowList<'_>,
-    index: &'a Index,
-    nodes: &[Option<u32>],
+    told: &NodeNumbers<'a, '_>,
 ) -> Result<NodeList<'a>, AllocError>
     requires of { IsTrue (all_of context.now.world rows.now) }
-    requires there { All (λ n. IfSome n (λ y. y < length index.now)) nodes.now }
-    requires rows { length nodes.now ≡ length rows.now }
+    requires rows { length rows.now ≡ length told.now.nodes }
     requires ready { ItemReady context.now root.now (agg_of item.now) rows.now }
-    ensures { IfOk result (λ o. (v : List Value') → o ≡ Some v → AreAtNodes context.now.world rows.now index.now nodes.now (agg_of item.now) v) }
+    ensures { IfOk result (λ o. (v : List Value') → o ≡ Some v → AreAtNodes context.now.world rows.now told.now.parents told.now.nodes (agg_of item.now) v) }
 {
     data_is_loaded(context.store());
     match item {
         AggItem::Standard(e, method, _) => {
-            let values = context.seen_values(alloc, e, rows)?;
-            let seen = values.as_slice();
-            let (rt, workers) = (context.rt(), context.workers());
-            let list = node_values(rt, alloc, index, nodes, *method, seen, workers)?;
+            let list = context.node_values(alloc, *method, e, rows, told)?;
             Ok(list)
         }
         AggItem::Count(_) => Ok(None),
@@ -147,9 +142,10 @@ fn node_lists<'a, R: Threads + Sync, G: Gate>(
     requires ready { ItemsReady context.now root.now (map agg_of items.now) rows.now }
     ensures { IfOk result (λ lists. AreNodeLists context.now.world rows.now index.now nodes.now (map agg_of items.now) lists.items) }
 {
+    let told = NodeNumbers::new(alloc, index, nodes)?;
     let mut lists = Vec::with_capacity(alloc, items.len())?;
     for item in items {
-        lists.push(node_list(alloc, context, root, item, rows, index, nodes)?)?;
+        lists.push(node_list(alloc, context, root, item, rows, &told)?)?;
     }
     Ok(lists)
 }

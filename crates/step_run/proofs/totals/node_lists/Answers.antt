@@ -1,4 +1,4 @@
-use Rattle.std.proofs.Common.{◌∙◌, ◌∷◌, [], ap, arith, length, length-append, map}
+use Rattle.std.proofs.Common.{◌∙◌, ◌∷◌, [], ap, arith, length, length-append, map, subst, sym}
 use Rattle.std.specs.Prelude.{is_some, slice_get}
 use Rattle.apply_ast.specs.Views.{agg_of}
 use Rattle.context_typing.specs.Readings.{readings}
@@ -14,6 +14,9 @@ loop-item-init g c = record {
   size = ap length c.in_ok-lists.ensures.items;
   known = known-none (AreAtNodes c.args.context.now.world c.args.rows.now c.args.index.now c.args.nodes.now) (map agg_of c.args.items.now) c.in_ok-lists.lists.items c.in_ok-lists.ensures.items;
 }
+
+pub node_list-requires-clause-rows : goal.node_list-requires-clause-rows
+node_list-requires-clause-rows g c κs within = sym (ap length c.in_ok-told.ensures.nodes ∙ c.requires.rows)
 
 pub node_list-requires-clause-ready : goal.node_list-requires-clause-ready
 node_list-requires-clause-ready g c κs within =
@@ -35,5 +38,8 @@ loop-item-preserved g c =
     record {
       size = omega (arith, size, ap length c.in_ok-push.ensures.items ∙ length-append c.loop-item.lists.items (c.in_ok-node_list.field-0 ∷ []));
       known = known-next (AreAtNodes c.args.context.now.world c.args.rows.now c.args.index.now c.args.nodes.now) (map agg_of c.args.items.now) c.loop-item.lists.items c.push.new.self.items c.in_ok-node_list.field-0 (agg_of c.item-item.result) c.in_ok-push.ensures.items
-          (ap (slice_get (map agg_of c.args.items.now)) size ∙ read) c.in_ok-node_list.ensures c.loop-item.invariant.known;
+          (ap (slice_get (map agg_of c.args.items.now)) size ∙ read)
+          (λ v e. subst (λ ps. AreAtNodes c.args.context.now.world c.args.rows.now ps c.args.nodes.now (agg_of c.item-item.result) v) c.in_ok-told.ensures.parents
+          (subst (λ ns. AreAtNodes c.args.context.now.world c.args.rows.now c.in_ok-told.told.parents ns (agg_of c.item-item.result) v) c.in_ok-told.ensures.nodes (c.in_ok-node_list.ensures v e)))
+          c.loop-item.invariant.known;
     }
