@@ -4,8 +4,9 @@
 //! `apply_meaning`, `filter` and `compute` those of `row_values`, by as many threads as there are workers, `orderby` is that of
 //! `row_orders`, and `aggregate`, selections and traversals are those of `step_run`. `run_grouping` runs a `groupby` on a list of
 //! instances, which are rows or a frame: `step_run` finds its groups, and an inner pipeline is run on each; so does a recursive
-//! rollup run the pipeline that shows nodes. `ready` says what a part of a run may ask of its rows, `joins` what a join takes, and
-//! `copies` copies rows for pipelines that share them.
+//! rollup run the pipeline that shows nodes. `grouping_levels` has the groups alone, for a caller who runs the inner pipeline
+//! otherwise. `ready` says what a part of a run may ask of its rows, `joins` what a join takes, and `copies` copies rows for pipelines
+//! that share them.
 //!
 //! The crate stands on `step_run` for what runs no pipeline and for what a run works with, on `apply_meaning` for rows, the plain
 //! transformations and the meaning of pipelines, on `row_values` for lists of instances, on `row_orders` for orders, on
@@ -24,4 +25,4 @@ mod joins;
 mod pipes;
 mod ready;
 
-pub use pipes::{run_grouping, run_pipe, run_step};
+pub use pipes::{grouping_levels, run_grouping, run_pipe, run_step};

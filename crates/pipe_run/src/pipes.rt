@@ -411,7 +411,7 @@ fn run_by_levels<R: Threads + Sync, G: Gate, L: Ledger>(
 
 /// The levels of a grouping on a list, each with its groups. They borrow the paths of the keys.
 #[cycle(run)]
-fn grouping_levels<'a, R: Threads + Sync, G: Gate, L: Ledger>(
+pub fn grouping_levels<'a, R: Threads + Sync, G: Gate, L: Ledger>(
     alloc: Global,
     context: &Context<'_, R, G>,
     keys: &KeyList,
