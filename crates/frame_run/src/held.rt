@@ -1,10 +1,11 @@
 //! What a pipeline has come to: a whole set, a frame, as long as no transformation wants rows, and then rows.
-ghost use Rattle.std.specs.Prelude.{◌≡◌, ℕ, ◌+◌, ◌≤◌, ◌<◌, ◌++◌, Some, IfOk, IsTrue, drop, filter, get_or, length, map, option_map, slice_get, sum, true};
+ghost use Rattle.std.specs.Prelude.{◌≡◌, ℕ, ◌+◌, ◌≤◌, ◌<◌, ◌++◌, List, Some, IfOk, IsTrue, drop, filter, flat_map, get_or, length, map, option_map, slice_get, sum, true};
 ghost use Rattle.std.specs.List.{list_all};
+ghost use Rattle.edm_values.specs.declared.Value.{Value as Value'};
 ghost use Rattle.edm_values.specs.Values.{is_value};
 ghost use Rattle.apply_ast.specs.Trees as tree;
 ghost use Rattle.apply_ast.specs.Trees.{pipe};
-ghost use Rattle.apply_ast.specs.Views.{climb_of, expr_of, inner_of, join_of, pipe_of, pipes_in, pipes_of, step_of};
+ghost use Rattle.apply_ast.specs.Views.{climb_of, expr_of, inner_of, join_of, keys_of, pipe_of, pipes_in, pipes_of, step_of};
 ghost use Rattle.context_typing.specs.Readings.{readings};
 ghost use Rattle.edm_model.specs.LookUps.{IsNavigation, navigation_on};
 ghost use Rattle.edm_model.specs.Models.{Navigation};
@@ -16,8 +17,9 @@ ghost use Rattle.apply_meaning.specs.Running.{Gives, all_of};
 ghost use Rattle.row_frames.specs.Frames.{GivesFrame};
 ghost use Rattle.hier_states.specs.NamedHierarchies.{branch_hierarchies, hierarchies, inner_hierarchies, step_hierarchies};
 ghost use Rattle.pipe_run.specs.SeveralRuns.{BranchesReady, BranchesRun, RelatedReady, RelatedRun};
-ghost use Rattle.step_run.specs.Conditions.{AreReady, InnerReady, InnerRuns, ReadyFrom, RunsFrom, StepReadyFrom, StepRunsFrom, is_grouping};
+ghost use Rattle.step_run.specs.Conditions.{AreReady, GroupReady, GroupRuns, InnerReady, InnerRuns, LevelsReady, LevelsRun, ReadyFrom, RunsFrom, StepReadyFrom, StepRunsFrom, charge_of, is_grouping};
 ghost use Rattle.step_run.specs.Costs.{application, applications, cost, inner_cost, step_cost};
+ghost use Rattle.step_run.specs.Levels.{group_made, level_lists, level_made};
 ghost use Rattle.join_concat.specs.Joins.{has_root_of};
 ghost use Rattle.frame_run.specs.HeldRows as spec;
 
@@ -25,22 +27,23 @@ use crate::frame_steps::{
     frame_aggregated, frame_climbed, frame_computed, frame_ordered, frame_selected, frame_traversed,
 };
 use crate::front::{set_climbed, set_filtered};
+use crate::grouped::{begins_with_values, frame_of_groups, group_of, held_groups};
 use crate::joins::{
     alias_ready, inner_ready, join_navigation, joined_lists, related_frame, related_ready,
     target_set, target_type,
 };
-use apply_ast::{ClimbStep, Expr, JoinStep, Name, Pipe, PipeList, Step};
+use apply_ast::{ClimbStep, Expr, JoinStep, KeyList, Name, Pipe, PipeList, Step};
 use apply_meaning::{Row, RunRefused, Steps, data_is_loaded};
 use edm_data::Data;
 use edm_model::{NavId, SetId, TypeId};
 use par_stages::Gate;
-use pipe_run::{run_grouping, run_step};
+use pipe_run::{grouping_levels, run_grouping, run_step};
 use row_frames::Frame;
 use row_values::RowList;
 use std::alloc::{AllocError, Global};
 use std::sync::ledger::Ledger;
 use std::thread::Threads;
-use step_run::{Context, grouped_frame, kept_frame, root_after};
+use step_run::{Context, Level, all_paths, root_after, with_keys};
 
 /// The rows that a pipeline has come to.
 #[derive(Debug, Drop)]
@@ -160,76 +163,6 @@ fn frame_filter<R: Threads + Sync, G: Gate>(
     frame.filter(context.rt(), alloc, context.store(), e, context.workers())
 }
 
-/// The most tables that a frame of groups has. New columns are made for all tables of a frame at once, so that rows take less memory
-/// than many tables, as those of a rollup of many levels.
-const MOST_LEVELS: usize = 4;
-
-/// A frame of groups, or its rows where it has many tables.
-fn held_groups<L: Ledger>(
-    alloc: Global,
-    made: Frame,
-    steps: &mut Steps<L>,
-) -> Result<Held, RunRefused>
-    ensures gives { (m : Outcome) → m ≡ Some made → spec.GivesHeld result m }
-    ensures steps { steps.new + spec.owed_by result ≤ steps.old + length made }
-    ensures grown { steps.old ≤ steps.new }
-{
-    if made.table_count() > MOST_LEVELS {
-        return Ok(Held::Rows(made.into_rows(alloc, steps)?));
-    }
-    Ok(Held::Frame(made))
-}
-
-/// What a grouping gives on a frame: a frame where its groups are told by numbers, and else rows.
-fn frame_numbered<R: Threads + Sync, G: Gate, L: Ledger>(
-    alloc: Global,
-    context: &Context<'_, R, G>,
-    root: &Option<TypeId>,
-    step: &Step,
-    frame: &Frame,
-    steps: &mut Steps<L>,
-) -> Result<Held, RunRefused>
-    requires grouping { IsTrue (is_grouping (step_of step.now)) }
-    requires ready { StepReadyFrom context.now root.now (step_of step.now) frame.now }
-    requires named { AreReady context.now (step_hierarchies (step_of step.now)) }
-    ensures mean { (S S' : Shape) → StepRunsFrom context.now root.now S S' (step_of step.now) frame.now
-        → spec.GivesHeld result (step_mean context.now.world (readings context.now.customs) S (step_of step.now) frame.now) }
-    ensures steps { (S S' : Shape) → StepRunsFrom context.now root.now S S' (step_of step.now) frame.now
-        → steps.new + spec.owed_by result ≤ steps.old + step_cost context.now.world (readings context.now.customs) S (step_of step.now) frame.now }
-    ensures grown { steps.old ≤ steps.new }
-{
-    let list = RowList::of_frame(frame);
-    match grouped_frame(alloc, context, root, step, &list)? {
-        Some(made) => held_groups(alloc, made, steps),
-        None => as_held(run_grouping(alloc, context, root, step, &list, steps)),
-    }
-}
-
-/// What a grouping gives on a frame: a frame where its inner pipeline only keeps some of the instances of each group, or puts them in
-/// order, or where its groups are told by numbers, and else rows.
-fn frame_grouped<R: Threads + Sync, G: Gate, L: Ledger>(
-    alloc: Global,
-    context: &Context<'_, R, G>,
-    root: &Option<TypeId>,
-    step: &Step,
-    frame: &Frame,
-    steps: &mut Steps<L>,
-) -> Result<Held, RunRefused>
-    requires grouping { IsTrue (is_grouping (step_of step.now)) }
-    requires ready { StepReadyFrom context.now root.now (step_of step.now) frame.now }
-    requires named { AreReady context.now (step_hierarchies (step_of step.now)) }
-    ensures mean { (S S' : Shape) → StepRunsFrom context.now root.now S S' (step_of step.now) frame.now
-        → spec.GivesHeld result (step_mean context.now.world (readings context.now.customs) S (step_of step.now) frame.now) }
-    ensures steps { (S S' : Shape) → StepRunsFrom context.now root.now S S' (step_of step.now) frame.now
-        → steps.new + spec.owed_by result ≤ steps.old + step_cost context.now.world (readings context.now.customs) S (step_of step.now) frame.now }
-    ensures grown { steps.old ≤ steps.new }
-{
-    match kept_frame(alloc, context, root, step, frame)? {
-        Some(made) => held_groups(alloc, made, steps),
-        None => frame_numbered(alloc, context, root, step, frame, steps),
-    }
-}
-
 /// What one transformation gives on a frame, but for those whose inner pipelines are run on the same instances. No row is made where
 /// none is wanted.
 fn run_on_frame<R: Threads + Sync, G: Gate, L: Ledger>(
@@ -267,7 +200,6 @@ fn run_on_frame<R: Threads + Sync, G: Gate, L: Ledger>(
             let made = frame_aggregated(alloc, context, root, items, &frame, steps)?;
             Ok(Held::Rows(made))
         }
-        Step::GroupBy(..) => frame_grouped(alloc, context, root, step, &frame, steps),
         Step::Traverse(walk) => as_frame(frame_traversed(alloc, context, walk, frame, steps)),
         _ => run_on_rows(alloc, context, root, step, frame, steps),
     }
@@ -559,6 +491,181 @@ fn run_inner<R: Threads + Sync, G: Gate, L: Ledger>(
     }
 }
 
+/// What a grouping gives on a frame: a frame where its inner pipeline only keeps some of the instances of each group, or puts them in
+/// order, or where its groups are told by numbers, and else rows.
+#[cycle(held)]
+fn run_grouped<R: Threads + Sync, G: Gate, L: Ledger>(
+    alloc: Global,
+    context: &Context<'_, R, G>,
+    root: &Option<TypeId>,
+    step: &Step,
+    frame: &Frame,
+    steps: &mut Steps<L>,
+) -> Result<Held, RunRefused>
+    requires grouping { IsTrue (is_grouping (step_of step.now)) }
+    requires ready { StepReadyFrom context.now root.now (step_of step.now) frame.now }
+    requires named { AreReady context.now (step_hierarchies (step_of step.now)) }
+    ensures mean { (S S' : Shape) → StepRunsFrom context.now root.now S S' (step_of step.now) frame.now
+        → spec.GivesHeld result (step_mean context.now.world (readings context.now.customs) S (step_of step.now) frame.now) }
+    ensures steps { (S S' : Shape) → StepRunsFrom context.now root.now S S' (step_of step.now) frame.now
+        → steps.new + spec.owed_by result ≤ steps.old + step_cost context.now.world (readings context.now.customs) S (step_of step.now) frame.now }
+    ensures grown { steps.old ≤ steps.new }
+{
+    match frame_of_groups(alloc, context, root, step, frame)? {
+        Some(made) => held_groups(alloc, made, steps),
+        None => {
+            let list = RowList::of_frame(frame);
+            as_held(run_by_groups(alloc, context, root, step, &list, steps))
+        }
+    }
+}
+
+/// What a grouping gives on a list. An inner pipeline that begins with an aggregation takes values at the places of each group, and any
+/// other is run on a frame of the group.
+#[cycle(held)]
+fn run_by_groups<R: Threads + Sync, G: Gate, L: Ledger>(
+    alloc: Global,
+    context: &Context<'_, R, G>,
+    root: &Option<TypeId>,
+    step: &Step,
+    rows: &RowList<'_>,
+    steps: &mut Steps<L>,
+) -> Result<Vec<Row>, RunRefused>
+    requires grouping { IsTrue (is_grouping (step_of step.now)) }
+    requires ready { StepReadyFrom context.now root.now (step_of step.now) rows.now }
+    requires named { AreReady context.now (step_hierarchies (step_of step.now)) }
+    ensures mean { (S S' : Shape) → StepRunsFrom context.now root.now S S' (step_of step.now) rows.now
+        → Gives result (step_mean context.now.world (readings context.now.customs) S (step_of step.now) rows.now) }
+    ensures steps { (S S' : Shape) → StepRunsFrom context.now root.now S S' (step_of step.now) rows.now
+        → steps.new ≤ steps.old + step_cost context.now.world (readings context.now.customs) S (step_of step.now) rows.now }
+    ensures grown { steps.old ≤ steps.new }
+{
+    match step {
+        Step::GroupBy(keys, inner) => match inner {
+            Some(pipe) => {
+                if begins_with_values(pipe) {
+                    return run_grouping(alloc, context, root, step, rows, steps);
+                }
+                run_by_levels(alloc, context, root, pipe, keys, rows, steps)
+            }
+            None => run_grouping(alloc, context, root, step, rows, steps),
+        },
+        _ => run_grouping(alloc, context, root, step, rows, steps),
+    }
+}
+
+/// What a grouping by these keys gives on a list, whose inner pipeline is run on a frame of each group.
+#[cycle(held)]
+fn run_by_levels<R: Threads + Sync, G: Gate, L: Ledger>(
+    alloc: Global,
+    context: &Context<'_, R, G>,
+    root: &Option<TypeId>,
+    pipe: &Pipe,
+    keys: &KeyList,
+    rows: &RowList<'_>,
+    steps: &mut Steps<L>,
+) -> Result<Vec<Row>, RunRefused>
+    requires ready { StepReadyFrom context.now root.now (tree.Step.GroupBy (keys_of keys.now) (tree.OptPipe.SomePipe (pipe_of pipe.now))) rows.now }
+    requires named { AreReady context.now (step_hierarchies (tree.Step.GroupBy (keys_of keys.now) (tree.OptPipe.SomePipe (pipe_of pipe.now)))) }
+    ensures mean { let s = tree.Step.GroupBy (keys_of keys.now) (tree.OptPipe.SomePipe (pipe_of pipe.now)) in
+        (S S' : Shape) → StepRunsFrom context.now root.now S S' s rows.now → Gives result (step_mean context.now.world (readings context.now.customs) S s rows.now) }
+    ensures steps { let s = tree.Step.GroupBy (keys_of keys.now) (tree.OptPipe.SomePipe (pipe_of pipe.now)) in
+        (S S' : Shape) → StepRunsFrom context.now root.now S S' s rows.now → steps.new ≤ steps.old + step_cost context.now.world (readings context.now.customs) S s rows.now }
+    ensures grown { steps.old ≤ steps.new }
+{
+    data_is_loaded(context.store());
+    let paths = all_paths(alloc, keys)?;
+    let paths = paths.as_slice();
+    let levels = grouping_levels(alloc, context, keys, paths, rows, steps)?;
+    run_levels(alloc, context, root, pipe, levels.as_slice(), rows, steps)
+}
+
+/// What the pipeline makes of each group of each level, each result with the group's key columns.
+#[cycle(held)]
+fn run_levels<R: Threads + Sync, G: Gate, L: Ledger>(
+    alloc: Global,
+    context: &Context<'_, R, G>,
+    root: &Option<TypeId>,
+    pipe: &Pipe,
+    levels: &[Level<'_>],
+    rows: &RowList<'_>,
+    steps: &mut Steps<L>,
+) -> Result<Vec<Row>, RunRefused>
+    requires ready { LevelsReady context.now root.now levels.now (pipe_of pipe.now) rows.now }
+    requires named { AreReady context.now (hierarchies (pipe_of pipe.now)) }
+    ensures mean { (S G' : Shape) → LevelsRun context.now root.now S G' levels.now (pipe_of pipe.now) rows.now
+        → Gives result (joined (map (level_made (mean context.now.world (readings context.now.customs) S (pipe_of pipe.now)) rows.now) levels.now)) }
+    ensures steps { (S G' : Shape) → LevelsRun context.now root.now S G' levels.now (pipe_of pipe.now) rows.now
+        → steps.new ≤ steps.old + sum (map (application (cost context.now.world (readings context.now.customs) S (pipe_of pipe.now)) (mean context.now.world (readings context.now.customs) S (pipe_of pipe.now))) (flat_map (level_lists rows.now) levels.now)) }
+    ensures grown { steps.old ≤ steps.new }
+{
+    let mut all = Vec::new(alloc);
+    for level in levels {
+        let mut made = run_groups(alloc, context, root, pipe, level, rows, steps)?;
+        all.append(&mut made)?;
+    }
+    Ok(all)
+}
+
+/// What the pipeline makes of each group of a level, each result with the group's key columns.
+#[cycle(held)]
+fn run_groups<R: Threads + Sync, G: Gate, L: Ledger>(
+    alloc: Global,
+    context: &Context<'_, R, G>,
+    root: &Option<TypeId>,
+    pipe: &Pipe,
+    level: &Level<'_>,
+    rows: &RowList<'_>,
+    steps: &mut Steps<L>,
+) -> Result<Vec<Row>, RunRefused>
+    requires ready { GroupReady context.now root.now level.now (pipe_of pipe.now) rows.now }
+    requires named { AreReady context.now (hierarchies (pipe_of pipe.now)) }
+    ensures mean { (S G' : Shape) → GroupRuns context.now root.now S G' level.now (pipe_of pipe.now) rows.now
+        → Gives result (level_made (mean context.now.world (readings context.now.customs) S (pipe_of pipe.now)) rows.now level.now) }
+    ensures steps { (S G' : Shape) → GroupRuns context.now root.now S G' level.now (pipe_of pipe.now) rows.now
+        → steps.new ≤ steps.old + sum (map (application (cost context.now.world (readings context.now.customs) S (pipe_of pipe.now)) (mean context.now.world (readings context.now.customs) S (pipe_of pipe.now))) (level_lists rows.now level.now)) }
+    ensures grown { steps.old ≤ steps.new }
+{
+    let mut all = Vec::new(alloc);
+    for k in 0..level.len() {
+        let mut made = run_group(alloc, context, root, pipe, level, k, rows, steps)?;
+        all.append(&mut made)?;
+    }
+    Ok(all)
+}
+
+/// What the pipeline makes of group k of a level, each result with the group's key columns.
+#[cycle(held)]
+fn run_group<R: Threads + Sync, G: Gate, L: Ledger>(
+    alloc: Global,
+    context: &Context<'_, R, G>,
+    root: &Option<TypeId>,
+    pipe: &Pipe,
+    level: &Level<'_>,
+    k: usize,
+    rows: &RowList<'_>,
+    steps: &mut Steps<L>,
+) -> Result<Vec<Row>, RunRefused>
+    requires within { k < length level.now.1 }
+    requires ready { GroupReady context.now root.now level.now (pipe_of pipe.now) rows.now }
+    requires named { AreReady context.now (hierarchies (pipe_of pipe.now)) }
+    ensures mean { (S G' : Shape) (g : List Value' × List ℕ) → GroupRuns context.now root.now S G' level.now (pipe_of pipe.now) rows.now
+        → slice_get level.now.1 k ≡ Some g
+        → Gives result (group_made level.now.0 (mean context.now.world (readings context.now.customs) S (pipe_of pipe.now)) rows.now g) }
+    ensures steps { (S G' : Shape) (g : List Value' × List ℕ) → GroupRuns context.now root.now S G' level.now (pipe_of pipe.now) rows.now
+        → slice_get level.now.1 k ≡ Some g
+        → steps.new ≤ steps.old + charge_of context.now S (pipe_of pipe.now) rows.now g }
+    ensures grown { steps.old ≤ steps.new }
+{
+    let places = level.places(k);
+    let inner = context.alone();
+    let group = group_of(alloc, rows, places, steps)?;
+    let made = held_after(alloc, &inner, root, pipe, group, steps)?;
+    let results = made_rows(alloc, made, steps)?;
+    let key = level.key(alloc, k)?;
+    Ok(with_keys(alloc, level.paths(), key.as_slice(), results, steps)?)
+}
+
 /// What one transformation gives on a frame.
 #[cycle(held)]
 fn run_frame<R: Threads + Sync, G: Gate, L: Ledger>(
@@ -581,6 +688,7 @@ fn run_frame<R: Threads + Sync, G: Gate, L: Ledger>(
         Step::Climb(climb) => run_climb(alloc, context, root, climb, frame, steps),
         Step::Concat(branches) => run_concat(alloc, context, root, branches, frame, steps),
         Step::Join(join) => run_join(alloc, context, root, join, frame, steps),
+        Step::GroupBy(..) => run_grouped(alloc, context, root, step, &frame, steps),
         _ => run_on_frame(alloc, context, root, step, frame, steps),
     }
 }

@@ -1,40 +1,48 @@
-use Rattle.std.proofs.Common.{◌≡◌, ◌<◌, ℕ, ◌+◌, ◌∙◌, ◌++◌, ap, sym, subst, length, map, drop, get_or, Some, arith}
-use Rattle.std.specs.Prelude.{option_and_then, option_map, slice_get}
+use Rattle.std.proofs.Common.{rules, ◌≡◌, ◌<◌, ◌≤◌, ℕ, ◌+◌, ◌∙◌, ◌++◌, [], List, ap, refl, sym, subst, length, map, drop, get_or, Some, Err, IsTrue, arith}
+use Rattle.std.specs.Prelude.{IfSome, nat_lt, option_and_then, option_map, slice_get}
+use Rattle.std.specs.List.{list_all}
+use Rattle.std.proofs.lemmas.Option.{slice_get-get_or}
 use Rattle.std.proofs.lemmas.List.{get_or_default, length-map}
 use Rattle.std.proofs.lemmas.Result.{err_from_is_err_and}
 use Rattle.std.proofs.Math.ListN.{drop_of_length-le}
 use Rattle.apply_ast.specs.Trees as tree
 use Rattle.apply_ast.specs.Trees.{Pipe}
-use Rattle.apply_ast.specs.Views.{climb_of, expr_of, hier_of, inner_of, pipe_of, pipes_in, step_of}
-use Rattle.apply_ast.proofs.ViewEquations.{climb_of-is, join_of-is, pipes_of-is, step_of-Climb, step_of-Concat, step_of-Filter, step_of-Join}
+use Rattle.apply_ast.specs.Views.{climb_of, expr_of, hier_of, inner_of, keys_of, pipe_of, pipes_in, step_of}
+use Rattle.apply_ast.proofs.ViewEquations.{climb_of-is, join_of-is, pipes_of-is, step_of-Climb, step_of-Concat, step_of-Filter, step_of-GroupBy, step_of-Join}
 use Rattle.context_typing.specs.Readings.{readings}
-use Rattle.apply_meaning.specs.Meaning.{Outcome, inner_mean, joined, mean, step_mean}
-use Rattle.apply_meaning.specs.Instances.{no_instance}
+use Rattle.apply_meaning.specs.Meaning.{Outcome, inner_mean, joined, keyed, mean, step_mean}
+use Rattle.apply_meaning.specs.Instances.{Instance, extended, no_instance}
+use Rattle.apply_meaning.specs.RowViews.{columns_differ}
+use Rattle.apply_meaning.specs.Running.{Gives}
 use Rattle.apply_meaning.specs.MeaningLaws.{IsLoaded}
 use Rattle.apply_meaning.proofs.MeaningEquations.{inner_mean-NoPipe, inner_mean-SomePipe, mean-End, step_mean-Filter}
-use Rattle.apply_meaning.proofs.RunLemmas.{all-fit-of, turn, next-step}
+use Rattle.apply_meaning.proofs.RunLemmas.{all-fit-of, gives-err, turn, next-step}
 use Rattle.row_frames.specs.Frames.{GivesFrame}
-use Rattle.hier_states.specs.NamedHierarchies.{branch_hierarchies, hierarchies, inner_hierarchies, step_hierarchies}
+use Rattle.hier_states.specs.NamedHierarchies.{branch_hierarchies, hierarchies, inner_hierarchies, keys_hierarchies, step_hierarchies}
 use Rattle.pipe_run.specs.SeveralRuns.{BranchesReady}
-use Rattle.step_run.specs.Conditions.{AreReady, InnerRuns, ReadyFrom, RunsFrom, StepReadyFrom, StepRunsFrom}
+use Rattle.step_run.specs.Conditions.{AreReady, InnerRuns, ReadyFrom, RunsFrom, StepReadyFrom, StepRunsFrom, charge_of, is_grouping}
 use Rattle.step_run.specs.Costs.{cost, inner_cost, result_length, step_cost}
 use Rattle.frame_run.specs.HeldRows.{GivesHeld, first_of, owed, rows_of}
 use Rattle.frame_run.specs.declared.held.Held.{Held}
 use Rattle.edm_model.specs.Models.{Navigation}
-use Rattle.edm_values.specs.Lists.{all_some}
+use Rattle.edm_values.specs.Lists.{all_some, at_places}
+use Rattle.edm_values.specs.declared.Value.{Value}
 use Rattle.edm_values.proofs.OptionFacts.{some_value}
-use Rattle.context_typing.specs.Shapes.{set_shape}
+use Rattle.context_typing.specs.Shapes.{Shape, set_shape}
 use Rattle.join_concat.specs.Joins.{bound_rows}
 use Rattle.pipe_run.proofs.ListsInTurn.{last-list, next-list, next-list_refused}
 use Rattle.pipe_run.proofs.RelatedLemmas.{join-run, related-least, related-turn, related_mean}
 use Rattle.frame_run.proofs.JoinLemmas.{join-refused, lists-refused, more-owed, more-rows, results-long}
-use Rattle.frame_run.proofs.HeldLemmas.{climb-inner, first-long, held-refused, owed-beside, owed-least}
+use Rattle.frame_run.proofs.HeldLemmas.{climb-inner, first-long, found-refused, held-err, held-refused, made-least, owed-beside, owed-least}
 use Rattle.pipe_run.proofs.ClimbLemmas.{climb-costs, climb-means, climb-of}
 use Rattle.pipe_run.proofs.ConcatLemmas.{branch-at, branch-turn, concat-run}
 use Rattle.step_run.proofs.GroupLemmas.{begun}
-use Rattle.pipe_run.proofs.ReadyParts.{ready-branch, ready-first, ready-here, ready-next, ready-others}
-use Rattle.step_run.proofs.RunLemmas.{turn-cost, turn-least}
-use Rattle.step_run.proofs.RunLevels.{last-joined, next-joined, next-refused}
+use Rattle.pipe_run.proofs.ReadyParts.{ready-back, ready-branch, ready-first, ready-front, ready-here, ready-next, ready-others}
+use Rattle.step_run.proofs.GroupingRun.{grouping-run, step-cost-on, step-mean-on, step-runs-on}
+use Rattle.step_run.proofs.LevelLemmas.{keys-least, keys-ready}
+use Rattle.step_run.proofs.RunLemmas.{cost-same, gives-same, ready-same, runs-same, turn-cost, turn-least}
+use Rattle.step_run.specs.Levels.{Level, group_made, level_made}
+use Rattle.step_run.proofs.RunLevels.{group-run, last-joined, level-costs, levels-err, next-group, next-joined, next-level, next-refused, read-key, read-places, total-charge}
 use Rattle.frame_run.proofs.held.+held.Goals as goal
 
 -- ---- the transformations of a pipeline
@@ -851,3 +859,499 @@ run_inner-returns-in-None-clause-mean g t c = λ S S' R.
 
 pub run_inner-held_after-requires-clause-named : goal.run_inner-held_after-requires-clause-named
 run_inner-held_after-requires-clause-named g t c κs within = subst (λ o. AreReady c.args.context.now (inner_hierarchies (inner_of (option_map pipe_of o)))) c.in-Some.is c.requires.named
+
+-- ---- a grouping
+
+pub run_frame-returns-in-GroupBy-clause-mean : goal.run_frame-returns-in-GroupBy-clause-mean
+run_frame-returns-in-GroupBy-clause-mean g t c = c.run_grouped.ensures.mean
+
+pub run_frame-returns-in-GroupBy-clause-steps : goal.run_frame-returns-in-GroupBy-clause-steps
+run_frame-returns-in-GroupBy-clause-steps g t c = λ S S' R.
+    let spent = c.run_grouped.ensures.steps S S' R in
+    omega (arith, spent)
+
+pub run_grouped-returns-in_err-made-clause-mean : goal.run_grouped-returns-in_err-made-clause-mean
+run_grouped-returns-in_err-made-clause-mean g t c = λ S S' R.
+    let p = err_from_is_err_and c.from_residual.result c.from_residual.ensures.1 in
+    rw (p.1, p.2) (found-refused c.in_err-made.field-0.0 _ _ (c.in_err-made.ensures.mean S S' R) (λ n. n))
+
+pub run_grouped-returns-in-Some-clause-mean : goal.run_grouped-returns-in-Some-clause-mean
+run_grouped-returns-in-Some-clause-mean g t c = λ S S' R.
+    let x = c.args.context.now in
+    let m = step_mean x.world (readings x.customs) S (step_of c.args.step.now) c.args.frame.now in
+    c.held_groups.ensures.gives m (subst (λ o. IfSome o (λ f. m ≡ Some f)) c.in-Some.is (c.in_ok-made.ensures.mean S S' R))
+
+pub run_grouped-returns-in-Some-clause-steps : goal.run_grouped-returns-in-Some-clause-steps
+run_grouped-returns-in-Some-clause-steps g t c = λ S S' R.
+    let x = c.args.context.now in
+    let s = step_of c.args.step.now in
+    let m = step_mean x.world (readings x.customs) S s c.args.frame.now in
+    let least = made-least x.world (readings x.customs) S s c.args.frame.now c.in-Some.made (subst (λ o. IfSome o (λ f. m ≡ Some f)) c.in-Some.is (c.in_ok-made.ensures.mean S S' R)) in
+    let spent = c.held_groups.ensures.steps in
+    omega (arith, least, spent)
+
+pub run_grouped-run_by_groups-requires-clause-ready : goal.run_grouped-run_by_groups-requires-clause-ready
+run_grouped-run_by_groups-requires-clause-ready g t c κs within =
+    ready-same c.args.context.now c.args.root.now _ _ _ _ refl (sym c.of_frame-list.ensures.value) c.requires.ready
+
+pub run_grouped-run_by_groups-requires-clause-named : goal.run_grouped-run_by_groups-requires-clause-named
+run_grouped-run_by_groups-requires-clause-named g t c κs within = c.requires.named
+
+pub run_grouped-returns-in-None-clause-mean : goal.run_grouped-returns-in-None-clause-mean
+run_grouped-returns-in-None-clause-mean g t c = λ S S' R.
+    let x = c.args.context.now in
+    c.as_held.ensures.gives (step_mean x.world (readings x.customs) S (step_of c.args.step.now) c.args.frame.now)
+    (gives-same c.run_by_groups.result refl (sym c.of_frame-list.ensures.value) R (c.run_by_groups.ensures.mean S S'))
+
+pub run_grouped-returns-in-None-clause-steps : goal.run_grouped-returns-in-None-clause-steps
+run_grouped-returns-in-None-clause-steps g t c = λ S S' R.
+    let x = c.args.context.now in
+    let s = step_of c.args.step.now in
+    let rows : c.args.frame.now ≡ c.of_frame-list.result = sym c.of_frame-list.ensures.value in
+    let spent = c.run_by_groups.ensures.steps S S' (runs-same x c.args.root.now S S' s s c.args.frame.now c.of_frame-list.result refl rows R) in
+    let whole = cost-same x S s s c.args.frame.now c.of_frame-list.result refl rows in
+    omega (arith, spent, whole, c.as_held.ensures.owed)
+
+pub run_grouped-returns-in-None-clause-grown : goal.run_grouped-returns-in-None-clause-grown
+run_grouped-returns-in-None-clause-grown g t c = omega (arith, c.run_by_groups.ensures.grown)
+
+-- ---- the groups of each level
+
+pub run_by_groups-run_by_levels-requires-clause-ready : goal.run_by_groups-run_by_levels-requires-clause-ready
+run_by_groups-run_by_levels-requires-clause-ready g t c κs within =
+    let e = ap step_of c.in-GroupBy.is ∙ step_of-GroupBy c.in-GroupBy.keys c.in-GroupBy.inner ∙ ap (λ o. tree.Step.GroupBy (keys_of c.in-GroupBy.keys) (inner_of (option_map pipe_of o))) c.in-Some.is in
+    subst (λ s. StepReadyFrom c.args.context.now c.args.root.now s c.args.rows.now) e c.requires.ready
+
+pub run_by_groups-run_by_levels-requires-clause-named : goal.run_by_groups-run_by_levels-requires-clause-named
+run_by_groups-run_by_levels-requires-clause-named g t c κs within =
+    let e = ap step_of c.in-GroupBy.is ∙ step_of-GroupBy c.in-GroupBy.keys c.in-GroupBy.inner ∙ ap (λ o. tree.Step.GroupBy (keys_of c.in-GroupBy.keys) (inner_of (option_map pipe_of o))) c.in-Some.is in
+    subst (λ s. AreReady c.args.context.now (step_hierarchies s)) e c.requires.named
+
+pub run_by_groups-returns-else-begins_with_values-clause-mean : goal.run_by_groups-returns-else-begins_with_values-clause-mean
+run_by_groups-returns-else-begins_with_values-clause-mean g t c = λ S S' R.
+    let x = c.args.context.now in
+    let e = ap step_of c.in-GroupBy.is ∙ step_of-GroupBy c.in-GroupBy.keys c.in-GroupBy.inner ∙ ap (λ o. tree.Step.GroupBy (keys_of c.in-GroupBy.keys) (inner_of (option_map pipe_of o))) c.in-Some.is in
+    subst (Gives c.run_by_levels.result) (sym (step-mean-on x S {l = c.args.rows.now} e refl)) (c.run_by_levels.ensures.mean S S' (step-runs-on e refl R))
+
+pub run_by_groups-returns-else-begins_with_values-clause-steps : goal.run_by_groups-returns-else-begins_with_values-clause-steps
+run_by_groups-returns-else-begins_with_values-clause-steps g t c = λ S S' R.
+    let x = c.args.context.now in
+    let e = ap step_of c.in-GroupBy.is ∙ step_of-GroupBy c.in-GroupBy.keys c.in-GroupBy.inner ∙ ap (λ o. tree.Step.GroupBy (keys_of c.in-GroupBy.keys) (inner_of (option_map pipe_of o))) c.in-Some.is in
+    let spent = c.run_by_levels.ensures.steps S S' (step-runs-on e refl R) in
+    let whole = step-cost-on x S {l = c.args.rows.now} e refl in
+    omega (arith, spent, whole)
+
+pub run_by_levels-grouping_levels-requires-clause-of : goal.run_by_levels-grouping_levels-requires-clause-of
+run_by_levels-grouping_levels-requires-clause-of g t c κs within =
+    let r = c.requires.ready in
+    all-fit-of c.args.context.now.world r.0 c.args.rows.now (r.2).runs.fit
+
+pub run_by_levels-grouping_levels-requires-clause-all : goal.run_by_levels-grouping_levels-requires-clause-all
+run_by_levels-grouping_levels-requires-clause-all g t c κs within = c.as_slice-paths.ensures.value ∙ c.in_ok-paths.ensures.value
+
+pub run_by_levels-grouping_levels-requires-clause-ready : goal.run_by_levels-grouping_levels-requires-clause-ready
+run_by_levels-grouping_levels-requires-clause-ready g t c κs within =
+    let r = c.requires.ready in
+    keys-ready c.args.context.now c.args.root.now r.0 r.1 (keys_of c.args.keys.now) (tree.OptPipe.SomePipe (pipe_of c.args.pipe.now)) c.args.rows.now r.2
+
+pub run_by_levels-grouping_levels-requires-clause-named : goal.run_by_levels-grouping_levels-requires-clause-named
+run_by_levels-grouping_levels-requires-clause-named g t c κs within =
+    ready-front c.args.context.now (keys_hierarchies (keys_of c.args.keys.now)) (inner_hierarchies (tree.OptPipe.SomePipe (pipe_of c.args.pipe.now))) c.requires.named
+
+pub run_by_levels-returns-in_err-levels-clause-mean : goal.run_by_levels-returns-in_err-levels-clause-mean
+run_by_levels-returns-in_err-levels-clause-mean g t c = λ S S' R.
+    let x = c.args.context.now in
+    let T = tree.OptPipe.SomePipe (pipe_of c.args.pipe.now) in
+    let p = err_from_is_err_and c.from_residual-in_err-levels.result c.from_residual-in_err-levels.ensures.1 in
+    rw (p.1, p.2) (levels-err x.world (readings x.customs) S (keys_of c.args.keys.now) T c.args.rows.now c.in_err-levels.field-0.0 c.in_err-levels.ensures.levels)
+
+pub run_by_levels-returns-in_err-levels-clause-steps : goal.run_by_levels-returns-in_err-levels-clause-steps
+run_by_levels-returns-in_err-levels-clause-steps g t c = λ S S' R.
+    let x = c.args.context.now in
+    let spent = c.grouping_levels.ensures.steps in
+    let least = keys-least x.world (readings x.customs) S (keys_of c.args.keys.now) (tree.OptPipe.SomePipe (pipe_of c.args.pipe.now)) c.args.rows.now in
+    omega (arith, spent, least)
+
+pub run_by_levels-returns-in_err-levels-clause-grown : goal.run_by_levels-returns-in_err-levels-clause-grown
+run_by_levels-returns-in_err-levels-clause-grown g t c = omega (arith, c.grouping_levels.ensures.grown)
+
+pub run_by_levels-run_levels-requires-clause-ready : goal.run_by_levels-run_levels-requires-clause-ready
+run_by_levels-run_levels-requires-clause-ready g t c κs within =
+    let r = c.requires.ready in
+    let u = grouping-run c.in_ok-levels.levels (subst IsLoaded c.store.ensures.value c.data_is_loaded.ensures.value) c.in_ok-levels.ensures.levels c.as_slice.ensures.value r.2 in
+    (r.0, u.shape, u.runs)
+
+pub run_by_levels-run_levels-requires-clause-named : goal.run_by_levels-run_levels-requires-clause-named
+run_by_levels-run_levels-requires-clause-named g t c κs within =
+    ready-back c.args.context.now (keys_hierarchies (keys_of c.args.keys.now)) (inner_hierarchies (tree.OptPipe.SomePipe (pipe_of c.args.pipe.now))) c.requires.named
+
+pub run_by_levels-returns-clause-mean : goal.run_by_levels-returns-clause-mean
+run_by_levels-returns-clause-mean g t c = λ S S' R.
+    let u = grouping-run c.in_ok-levels.levels (subst IsLoaded c.store.ensures.value c.data_is_loaded.ensures.value) c.in_ok-levels.ensures.levels c.as_slice.ensures.value R in
+    subst (Gives c.run_levels.result) (sym u.means) (c.run_levels.ensures.mean S u.shape u.runs)
+
+pub run_by_levels-returns-clause-steps : goal.run_by_levels-returns-clause-steps
+run_by_levels-returns-clause-steps g t c = λ S S' R.
+    let u = grouping-run c.in_ok-levels.levels (subst IsLoaded c.store.ensures.value c.data_is_loaded.ensures.value) c.in_ok-levels.ensures.levels c.as_slice.ensures.value R in
+    let found = c.grouping_levels.ensures.steps in
+    let spent = c.run_levels.ensures.steps S u.shape u.runs in
+    let least = u.costs in
+    omega (arith, found, spent, least)
+
+pub run_by_levels-returns-clause-grown : goal.run_by_levels-returns-clause-grown
+run_by_levels-returns-clause-grown g t c = omega (arith, c.grouping_levels.ensures.grown, c.run_levels.ensures.grown)
+
+-- ---- the levels
+
+pub run_levels-run_groups-requires-clause-ready : goal.run_levels-run_groups-requires-clause-ready
+run_levels-run_groups-requires-clause-ready g t c κs within =
+    let r = c.requires.ready in
+    (r.0, r.1, next-level c.args.levels.now c.loop-level.level-index c.level-item.result r.2 c.loop-level-test.true c.level-item.is)
+
+pub run_levels-run_groups-requires-clause-named : goal.run_levels-run_groups-requires-clause-named
+run_levels-run_groups-requires-clause-named g t c κs within = c.requires.named
+
+pub run_levels-returns-in_err-made-clause-mean : goal.run_levels-returns-in_err-made-clause-mean
+run_levels-returns-in_err-made-clause-mean g t c = λ S G R.
+    let x = c.args.context.now in
+    let T = pipe_of c.args.pipe.now in
+    let l = c.args.rows.now in
+    let levels = c.args.levels.now in
+    let i = c.loop-level.level-index in
+    let d = c.level-item.result in
+    let own = next-level levels i d R c.loop-level-test.true c.level-item.is in
+    let f : Level → Outcome = level_made (mean x.world (readings x.customs) S T) l in
+    let p = err_from_is_err_and c.from_residual.result c.from_residual.ensures.1 in
+    rw (p.1, p.2) (gives-err c.in_err-made.field-0.0 (f d) _ (c.in_err-made.ensures.mean S G own) (next-refused f levels i d c.loop-level.all.items _ c.loop-level-test.true c.level-item.is (c.loop-level.invariant.1 S G R).0))
+
+pub run_levels-returns-in_err-made-clause-steps : goal.run_levels-returns-in_err-made-clause-steps
+run_levels-returns-in_err-made-clause-steps g t c = λ S G R.
+    let x = c.args.context.now in
+    let T = pipe_of c.args.pipe.now in
+    let l = c.args.rows.now in
+    let levels = c.args.levels.now in
+    let i = c.loop-level.level-index in
+    let d = c.level-item.result in
+    let own = next-level levels i d R c.loop-level-test.true c.level-item.is in
+    let left = (c.loop-level.invariant.1 S G R).1 in
+    let next = level-costs x S T l levels i d c.loop-level-test.true c.level-item.is in
+    let spent = c.run_groups.ensures.steps S G own in
+    omega (arith, left, next, spent)
+
+pub run_levels-returns-in_err-made-clause-grown : goal.run_levels-returns-in_err-made-clause-grown
+run_levels-returns-in_err-made-clause-grown g t c = omega (arith, c.run_groups.ensures.grown, c.loop-level.invariant.0)
+
+pub run_levels-returns-in_err-append-clause-steps : goal.run_levels-returns-in_err-append-clause-steps
+run_levels-returns-in_err-append-clause-steps g t c = λ S G R.
+    let x = c.args.context.now in
+    let T = pipe_of c.args.pipe.now in
+    let l = c.args.rows.now in
+    let levels = c.args.levels.now in
+    let i = c.loop-level.level-index in
+    let d = c.level-item.result in
+    let own = next-level levels i d R c.loop-level-test.true c.level-item.is in
+    let left = (c.loop-level.invariant.1 S G R).1 in
+    let next = level-costs x S T l levels i d c.loop-level-test.true c.level-item.is in
+    let spent = c.run_groups.ensures.steps S G own in
+    omega (arith, left, next, spent)
+
+pub run_levels-returns-in_err-append-clause-grown : goal.run_levels-returns-in_err-append-clause-grown
+run_levels-returns-in_err-append-clause-grown g t c = omega (arith, c.run_groups.ensures.grown, c.loop-level.invariant.0)
+
+pub run_levels-loop-level-preserved : goal.run_levels-loop-level-preserved
+run_levels-loop-level-preserved g t c = (
+  omega (arith, c.run_groups.ensures.grown, c.loop-level.invariant.0),
+  λ S G R.
+      let x = c.args.context.now in
+      let T = pipe_of c.args.pipe.now in
+      let l = c.args.rows.now in
+      let levels = c.args.levels.now in
+      let i = c.loop-level.level-index in
+      let d = c.level-item.result in
+      let own = next-level levels i d R c.loop-level-test.true c.level-item.is in
+      let f : Level → Outcome = level_made (mean x.world (readings x.customs) S T) l in
+      let left = (c.loop-level.invariant.1 S G R).1 in
+      let next = level-costs x S T l levels i d c.loop-level-test.true c.level-item.is in
+      let spent = c.run_groups.ensures.steps S G own in
+      let appended : c.append.new.self.items ≡ c.loop-level.all.items ++ c.in_ok-made.made.items = search rules in (
+        next-joined f levels i d c.loop-level.all.items _ c.in_ok-made.made.items c.loop-level-test.true c.level-item.is (c.loop-level.invariant.1 S G R).0 (c.in_ok-made.ensures.mean S G own)
+            ∙ ap (λ xs. option_map (λ rest. xs ++ rest) (joined (map f (drop (i + 1) levels)))) (sym appended),
+        omega (arith, left, next, spent),
+      ),
+)
+
+pub run_levels-returns-clause-mean : goal.run_levels-returns-clause-mean
+run_levels-returns-clause-mean g t c = λ S G R.
+    let x = c.args.context.now in
+    let f : Level → Outcome = level_made (mean x.world (readings x.customs) S (pipe_of c.args.pipe.now)) c.args.rows.now in
+    last-joined f c.args.levels.now c.loop-level.level-index c.loop-level.all.items _ (omega (arith, c.loop-level-test.false)) (c.loop-level.invariant.1 S G R).0
+
+pub run_levels-returns-clause-steps : goal.run_levels-returns-clause-steps
+run_levels-returns-clause-steps g t c = λ S G R.
+    let left = (c.loop-level.invariant.1 S G R).1 in
+    omega (arith, left)
+
+pub run_levels-returns-clause-grown : goal.run_levels-returns-clause-grown
+run_levels-returns-clause-grown g t c = omega (arith, c.loop-level.invariant.0)
+
+-- ---- the groups of a level
+
+pub run_groups-run_group-requires-clause-within : goal.run_groups-run_group-requires-clause-within
+run_groups-run_group-requires-clause-within g t c κs within =
+    let counted = c.len-k-end.ensures.value in
+    omega (arith, c.loop-k-test.true, counted)
+
+pub run_groups-returns-in_err-made-clause-mean : goal.run_groups-returns-in_err-made-clause-mean
+run_groups-returns-in_err-made-clause-mean g t c = λ S G R.
+    let x = c.args.context.now in
+    let level = c.args.level.now in
+    let T = pipe_of c.args.pipe.now in
+    let l = c.args.rows.now in
+    let u = next-group x S level T l c.loop-k.k _ c.loop-k-test.true c.len-k-end.ensures.value in
+    let p = err_from_is_err_and c.from_residual.result c.from_residual.ensures.1 in
+    rw (p.1, p.2) (gives-err c.in_err-made.field-0.0 _ _ (c.in_err-made.ensures.mean S G u.group R u.at)
+    (next-refused (group_made level.0 (mean x.world (readings x.customs) S T) l) level.1 c.loop-k.k u.group c.loop-k.all.items _ u.within u.here (c.loop-k.invariant.1 S G R).0))
+
+pub run_groups-returns-in_err-made-clause-steps : goal.run_groups-returns-in_err-made-clause-steps
+run_groups-returns-in_err-made-clause-steps g t c = λ S G R.
+    let x = c.args.context.now in
+    let level = c.args.level.now in
+    let T = pipe_of c.args.pipe.now in
+    let l = c.args.rows.now in
+    let u = next-group x S level T l c.loop-k.k _ c.loop-k-test.true c.len-k-end.ensures.value in
+    let left = (c.loop-k.invariant.1 S G R).1 in
+    let next = u.costs in
+    let total = total-charge x S level T l in
+    let spent = c.run_group.ensures.steps S G u.group R u.at in
+    omega (arith, left, next, total, spent)
+
+pub run_groups-returns-in_err-made-clause-grown : goal.run_groups-returns-in_err-made-clause-grown
+run_groups-returns-in_err-made-clause-grown g t c = omega (arith, c.run_group.ensures.grown, c.loop-k.invariant.0)
+
+pub run_groups-returns-in_err-append-clause-steps : goal.run_groups-returns-in_err-append-clause-steps
+run_groups-returns-in_err-append-clause-steps g t c = λ S G R.
+    let x = c.args.context.now in
+    let level = c.args.level.now in
+    let T = pipe_of c.args.pipe.now in
+    let l = c.args.rows.now in
+    let u = next-group x S level T l c.loop-k.k _ c.loop-k-test.true c.len-k-end.ensures.value in
+    let left = (c.loop-k.invariant.1 S G R).1 in
+    let next = u.costs in
+    let total = total-charge x S level T l in
+    let spent = c.run_group.ensures.steps S G u.group R u.at in
+    omega (arith, left, next, total, spent)
+
+pub run_groups-returns-in_err-append-clause-grown : goal.run_groups-returns-in_err-append-clause-grown
+run_groups-returns-in_err-append-clause-grown g t c = omega (arith, c.run_group.ensures.grown, c.loop-k.invariant.0)
+
+pub run_groups-loop-k-preserved : goal.run_groups-loop-k-preserved
+run_groups-loop-k-preserved g t c = (
+  omega (arith, c.run_group.ensures.grown, c.loop-k.invariant.0),
+  λ S G R.
+      let x = c.args.context.now in
+      let level = c.args.level.now in
+      let T = pipe_of c.args.pipe.now in
+      let l = c.args.rows.now in
+      let f : List Value × List ℕ → Outcome = group_made level.0 (mean x.world (readings x.customs) S T) l in
+      let u = next-group x S level T l c.loop-k.k _ c.loop-k-test.true c.len-k-end.ensures.value in
+      let inv = c.loop-k.invariant.1 S G R in
+      let left = inv.1 in
+      let next = u.costs in
+      let spent = c.run_group.ensures.steps S G u.group R u.at in
+      let appended : c.append.new.self.items ≡ c.loop-k.all.items ++ c.in_ok-made.made.items = search rules in (
+        next-joined f level.1 c.loop-k.k u.group c.loop-k.all.items _ c.in_ok-made.made.items u.within u.here inv.0 (c.in_ok-made.ensures.mean S G u.group R u.at)
+            ∙ ap (λ xs. option_map (λ rest. xs ++ rest) (joined (map f (drop (c.loop-k.k + 1) level.1)))) (sym appended),
+        omega (arith, left, next, spent),
+      ),
+)
+
+pub run_groups-returns-clause-mean : goal.run_groups-returns-clause-mean
+run_groups-returns-clause-mean g t c = λ S G R.
+    let x = c.args.context.now in
+    let level = c.args.level.now in
+    let counted = c.len-k-end.ensures.value in
+    let past : length level.1 ≤ c.loop-k.k = omega (arith, c.loop-k-test.false, counted) in
+    last-joined (group_made level.0 (mean x.world (readings x.customs) S (pipe_of c.args.pipe.now)) c.args.rows.now) level.1 c.loop-k.k c.loop-k.all.items _ past (c.loop-k.invariant.1 S G R).0
+
+pub run_groups-returns-clause-steps : goal.run_groups-returns-clause-steps
+run_groups-returns-clause-steps g t c = λ S G R.
+    let left = (c.loop-k.invariant.1 S G R).1 in
+    let total = total-charge c.args.context.now S c.args.level.now (pipe_of c.args.pipe.now) c.args.rows.now in
+    omega (arith, left, total)
+
+pub run_groups-returns-clause-grown : goal.run_groups-returns-clause-grown
+run_groups-returns-clause-grown g t c = omega (arith, c.loop-k.invariant.0)
+
+-- ---- a group
+
+pub run_group-group_of-requires : goal.run_group-group_of-requires
+run_group-group_of-requires g t c =
+    let l = c.args.rows.now in
+    let level = c.args.level.now in
+    let d = get_or level.1 c.args.k ([], []) in
+    let at = slice_get-get_or level.1 c.args.k ([], []) c.requires.within in
+    let places = read-places level.1 c.args.k d c.places-places.result.now at c.places-places.ensures.value in
+    record { within = subst (λ ns. IsTrue (list_all (λ k. nat_lt k (length l)) ns)) (sym places) ((c.requires.ready.2).within c.args.k d at) }
+
+pub run_group-held_after-requires-clause-ready : goal.run_group-held_after-requires-clause-ready
+run_group-held_after-requires-clause-ready g t c κs within =
+    let level = c.args.level.now in
+    let r = c.requires.ready in
+    let at = slice_get-get_or level.1 c.args.k ([], []) c.requires.within in
+    let u = group-run c.args.k r.2 at c.places-places.ensures.value c.in_ok-group.ensures.rows in
+    subst (λ x. ReadyFrom x c.args.root.now (pipe_of c.args.pipe.now) (rows_of c.in_ok-group.group)) (sym c.alone-inner.ensures.value) (r.0, r.1, u.runs)
+
+pub run_group-held_after-requires-clause-named : goal.run_group-held_after-requires-clause-named
+run_group-held_after-requires-clause-named g t c κs within = subst (λ x. AreReady x (hierarchies (pipe_of c.args.pipe.now))) (sym c.alone-inner.ensures.value) c.requires.named
+
+pub run_group-returns-in_err-group-clause-steps : goal.run_group-returns-in_err-group-clause-steps
+run_group-returns-in_err-group-clause-steps g t c = λ S G d R at.
+    let x = c.args.context.now in
+    let T = pipe_of c.args.pipe.now in
+    let l = c.args.rows.now in
+    let u = group-run c.args.k R at c.places-places.ensures.value refl in
+    let few = u.few in
+    let took = c.group_of.ensures.steps in
+    let charged : charge_of x S T l d ≡ length (at_places l d.1) + cost x.world (readings x.customs) S T (at_places l d.1) + result_length (mean x.world (readings x.customs) S T (at_places l d.1)) = refl in
+    omega (arith, few, charged, took)
+
+pub run_group-returns-in_err-group-clause-grown : goal.run_group-returns-in_err-group-clause-grown
+run_group-returns-in_err-group-clause-grown g t c = omega (arith, c.group_of.ensures.grown)
+
+pub run_group-returns-in_err-made-clause-mean : goal.run_group-returns-in_err-made-clause-mean
+run_group-returns-in_err-made-clause-mean g t c = λ S G d R at.
+    let x = c.args.context.now in
+    let T = pipe_of c.args.pipe.now in
+    let u = group-run c.args.k R at c.places-places.ensures.value c.in_ok-group.ensures.rows in
+    let given = subst (λ x. (S G : Shape) → RunsFrom x c.args.root.now S G T (rows_of c.in_ok-group.group) → GivesHeld (Err c.in_err-made.field-0.0) (mean x.world (readings x.customs) S T (rows_of c.in_ok-group.group))) c.alone-inner.ensures.value c.in_err-made.ensures.mean in
+    let p = err_from_is_err_and c.from_residual-in_err-made.result c.from_residual-in_err-made.ensures.1 in
+    rw (p.1, p.2) (held-err c.in_err-made.field-0.0 _ _ (given S G u.runs) (λ n. ap (option_map (map (λ r. extended r (keyed c.args.level.now.0 d.0)))) (u.means ∙ n)))
+
+pub run_group-returns-in_err-made-clause-steps : goal.run_group-returns-in_err-made-clause-steps
+run_group-returns-in_err-made-clause-steps g t c = λ S G d R at.
+    let x = c.args.context.now in
+    let T = pipe_of c.args.pipe.now in
+    let l = c.args.rows.now in
+    let u = group-run c.args.k R at c.places-places.ensures.value c.in_ok-group.ensures.rows in
+    let e = c.alone-inner.ensures.value in
+    let spent = c.held_after.ensures.steps S G (subst (λ x. RunsFrom x c.args.root.now S G T (rows_of c.in_ok-group.group)) (sym e) u.runs) in
+    let same = ap (λ x. cost x.world (readings x.customs) S T (rows_of c.in_ok-group.group)) e in
+    let costs = u.costs in
+    let few = u.few in
+    let took = c.in_ok-group.ensures.steps in
+    let charged : charge_of x S T l d ≡ length (at_places l d.1) + cost x.world (readings x.customs) S T (at_places l d.1) + result_length (mean x.world (readings x.customs) S T (at_places l d.1)) = refl in
+    omega (arith, few, charged, took, spent, same, costs)
+
+pub run_group-returns-in_err-made-clause-grown : goal.run_group-returns-in_err-made-clause-grown
+run_group-returns-in_err-made-clause-grown g t c = omega (arith, c.group_of.ensures.grown, c.held_after.ensures.grown)
+
+pub run_group-returns-in_err-results-clause-steps : goal.run_group-returns-in_err-results-clause-steps
+run_group-returns-in_err-results-clause-steps g t c = λ S G d R at.
+    let x = c.args.context.now in
+    let T = pipe_of c.args.pipe.now in
+    let l = c.args.rows.now in
+    let u = group-run c.args.k R at c.places-places.ensures.value c.in_ok-group.ensures.rows in
+    let e = c.alone-inner.ensures.value in
+    let spent = c.in_ok-made.ensures.steps S G (subst (λ x. RunsFrom x c.args.root.now S G T (rows_of c.in_ok-group.group)) (sym e) u.runs) in
+    let same = ap (λ x. cost x.world (readings x.customs) S T (rows_of c.in_ok-group.group)) e in
+    let costs = u.costs in
+    let few = u.few in
+    let took = c.in_ok-group.ensures.steps in
+    let made = c.made_rows.ensures.steps in
+    let charged : charge_of x S T l d ≡ length (at_places l d.1) + cost x.world (readings x.customs) S T (at_places l d.1) + result_length (mean x.world (readings x.customs) S T (at_places l d.1)) = refl in
+    omega (arith, few, charged, took, spent, same, costs, made)
+
+pub run_group-returns-in_err-results-clause-grown : goal.run_group-returns-in_err-results-clause-grown
+run_group-returns-in_err-results-clause-grown g t c = omega (arith, c.group_of.ensures.grown, c.held_after.ensures.grown, c.made_rows.ensures.grown)
+
+pub run_group-returns-in_err-key-clause-steps : goal.run_group-returns-in_err-key-clause-steps
+run_group-returns-in_err-key-clause-steps g t c = λ S G d R at.
+    let x = c.args.context.now in
+    let T = pipe_of c.args.pipe.now in
+    let l = c.args.rows.now in
+    let u = group-run c.args.k R at c.places-places.ensures.value c.in_ok-group.ensures.rows in
+    let e = c.alone-inner.ensures.value in
+    let spent = c.in_ok-made.ensures.steps S G (subst (λ x. RunsFrom x c.args.root.now S G T (rows_of c.in_ok-group.group)) (sym e) u.runs) in
+    let same = ap (λ x. cost x.world (readings x.customs) S T (rows_of c.in_ok-group.group)) e in
+    let costs = u.costs in
+    let few = u.few in
+    let took = c.in_ok-group.ensures.steps in
+    let made = c.made_rows.ensures.steps in
+    let charged : charge_of x S T l d ≡ length (at_places l d.1) + cost x.world (readings x.customs) S T (at_places l d.1) + result_length (mean x.world (readings x.customs) S T (at_places l d.1)) = refl in
+    omega (arith, few, charged, took, spent, same, costs, made)
+
+pub run_group-returns-in_err-key-clause-grown : goal.run_group-returns-in_err-key-clause-grown
+run_group-returns-in_err-key-clause-grown g t c = omega (arith, c.group_of.ensures.grown, c.held_after.ensures.grown, c.made_rows.ensures.grown)
+
+pub run_group-with_keys-requires : goal.run_group-with_keys-requires
+run_group-with_keys-requires g t c =
+    let x = c.args.context.now in
+    let T = pipe_of c.args.pipe.now in
+    let level = c.args.level.now in
+    let r = c.requires.ready in
+    let R = r.2 in
+    let d = get_or level.1 c.args.k ([], []) in
+    let at = slice_get-get_or level.1 c.args.k ([], []) c.requires.within in
+    let u = group-run c.args.k R at c.places-places.ensures.value c.in_ok-group.ensures.rows in
+    let given = subst (λ x. (S G : Shape) → RunsFrom x c.args.root.now S G T (rows_of c.in_ok-group.group) → mean x.world (readings x.customs) S T (rows_of c.in_ok-group.group) ≡ Some (rows_of c.in_ok-made.made)) c.alone-inner.ensures.value c.in_ok-made.ensures.mean in
+    let m = u.means ∙ given r.0 r.1 u.runs ∙ ap Some (sym c.in_ok-results.ensures.rows) in
+    let key = read-key level.1 c.args.k d c.in_ok-key.key.items at c.in_ok-key.ensures.value in
+    record {
+      free = subst (λ ps. IsTrue (list_all (λ i. columns_differ (extended i (keyed ps c.as_slice.result.now)).columns) c.in_ok-results.results.items)) (sym c.paths.ensures.value)
+          (subst (λ k. IsTrue (list_all (λ i. columns_differ (extended i (keyed level.0 k)).columns) c.in_ok-results.results.items)) (sym (c.as_slice.ensures.value ∙ key)) (R.free c.args.k d c.in_ok-results.results.items at m));
+    }
+
+pub run_group-returns-in_err-with_keys-clause-steps : goal.run_group-returns-in_err-with_keys-clause-steps
+run_group-returns-in_err-with_keys-clause-steps g t c = λ S G d R at.
+    let x = c.args.context.now in
+    let T = pipe_of c.args.pipe.now in
+    let l = c.args.rows.now in
+    let u = group-run c.args.k R at c.places-places.ensures.value c.in_ok-group.ensures.rows in
+    let e = c.alone-inner.ensures.value in
+    let spent = c.in_ok-made.ensures.steps S G (subst (λ x. RunsFrom x c.args.root.now S G T (rows_of c.in_ok-group.group)) (sym e) u.runs) in
+    let same = ap (λ x. cost x.world (readings x.customs) S T (rows_of c.in_ok-group.group)) e in
+    let costs = u.costs in
+    let few = u.few in
+    let took = c.in_ok-group.ensures.steps in
+    let made = c.made_rows.ensures.steps in
+    let given = subst (λ x. (S G : Shape) → RunsFrom x c.args.root.now S G T (rows_of c.in_ok-group.group) → mean x.world (readings x.customs) S T (rows_of c.in_ok-group.group) ≡ Some (rows_of c.in_ok-made.made)) c.alone-inner.ensures.value c.in_ok-made.ensures.mean in
+    let gave = ap result_length (u.means ∙ given S G u.runs ∙ ap Some (sym c.in_ok-results.ensures.rows)) in
+    let keyed = c.with_keys.ensures.steps in
+    let charged : charge_of x S T l d ≡ length (at_places l d.1) + cost x.world (readings x.customs) S T (at_places l d.1) + result_length (mean x.world (readings x.customs) S T (at_places l d.1)) = refl in
+    omega (arith, few, charged, took, spent, same, costs, made, gave, keyed)
+
+pub run_group-returns-in_err-with_keys-clause-grown : goal.run_group-returns-in_err-with_keys-clause-grown
+run_group-returns-in_err-with_keys-clause-grown g t c = omega (arith, c.group_of.ensures.grown, c.held_after.ensures.grown, c.made_rows.ensures.grown, c.with_keys.ensures.grown)
+
+pub run_group-returns-clause-steps : goal.run_group-returns-clause-steps
+run_group-returns-clause-steps g t c = λ S G d R at.
+    let x = c.args.context.now in
+    let T = pipe_of c.args.pipe.now in
+    let l = c.args.rows.now in
+    let u = group-run c.args.k R at c.places-places.ensures.value c.in_ok-group.ensures.rows in
+    let e = c.alone-inner.ensures.value in
+    let spent = c.in_ok-made.ensures.steps S G (subst (λ x. RunsFrom x c.args.root.now S G T (rows_of c.in_ok-group.group)) (sym e) u.runs) in
+    let same = ap (λ x. cost x.world (readings x.customs) S T (rows_of c.in_ok-group.group)) e in
+    let costs = u.costs in
+    let few = u.few in
+    let took = c.in_ok-group.ensures.steps in
+    let made = c.made_rows.ensures.steps in
+    let given = subst (λ x. (S G : Shape) → RunsFrom x c.args.root.now S G T (rows_of c.in_ok-group.group) → mean x.world (readings x.customs) S T (rows_of c.in_ok-group.group) ≡ Some (rows_of c.in_ok-made.made)) c.alone-inner.ensures.value c.in_ok-made.ensures.mean in
+    let gave = ap result_length (u.means ∙ given S G u.runs ∙ ap Some (sym c.in_ok-results.ensures.rows)) in
+    let keyed = c.with_keys.ensures.steps in
+    let charged : charge_of x S T l d ≡ length (at_places l d.1) + cost x.world (readings x.customs) S T (at_places l d.1) + result_length (mean x.world (readings x.customs) S T (at_places l d.1)) = refl in
+    omega (arith, few, charged, took, spent, same, costs, made, gave, keyed)
+
+pub run_group-returns-clause-grown : goal.run_group-returns-clause-grown
+run_group-returns-clause-grown g t c = omega (arith, c.group_of.ensures.grown, c.held_after.ensures.grown, c.made_rows.ensures.grown, c.with_keys.ensures.grown)
+
+pub run_group-returns-clause-mean : goal.run_group-returns-clause-mean
+run_group-returns-clause-mean g t c = λ S G d R at.
+    let x = c.args.context.now in
+    let T = pipe_of c.args.pipe.now in
+    let level = c.args.level.now in
+    let u = group-run c.args.k R at c.places-places.ensures.value c.in_ok-group.ensures.rows in
+    let given = subst (λ x. (S G : Shape) → RunsFrom x c.args.root.now S G T (rows_of c.in_ok-group.group) → mean x.world (readings x.customs) S T (rows_of c.in_ok-group.group) ≡ Some (rows_of c.in_ok-made.made)) c.alone-inner.ensures.value c.in_ok-made.ensures.mean in
+    let own = c.as_slice.ensures.value ∙ read-key level.1 c.args.k d c.in_ok-key.key.items at c.in_ok-key.ensures.value in
+    ap (option_map (map (λ r. extended r (keyed level.0 d.0)))) (u.means ∙ given S G u.runs ∙ ap Some (sym c.in_ok-results.ensures.rows))
+    ∙ ap Some ((λ i. map (λ r. extended r (keyed (sym c.paths.ensures.value i) (sym own i))) c.in_ok-results.results.items) ∙ sym c.in_ok-with_keys.ensures.rows)

@@ -95,11 +95,6 @@ returns-in_ok-made-in-Aggregate-clause-steps g c = λ S S' R.
     let whole = ap (λ s. step_cost x.world (readings x.customs) S s c.args.frame) e ∙ aggregate-cost x.world (readings x.customs) S (map agg_of c.in-Aggregate.items) c.args.frame in
     omega (arith, spent, whole)
 
--- ---- a grouping
-
-pub returns-in-GroupBy-clause-steps : goal.returns-in-GroupBy-clause-steps
-returns-in-GroupBy-clause-steps g c = λ S S' R. let spent = c.frame_grouped.ensures.steps S S' R in omega (arith, spent)
-
 pub frame_selected-requires-after_bounds : goal.frame_selected-requires-after_bounds
 frame_selected-requires-after_bounds g c κs within =
     let x = c.args.context.now in
