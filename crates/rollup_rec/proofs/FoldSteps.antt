@@ -1,53 +1,18 @@
 -- What is kept of each number, from one row to the next.
-use Rattle.std.proofs.Common.{◌≡◌, ℕ, suc, ◌+◌, ◌-◌, ◌<◌, ◌≤◌, Bool, true, false, cond, List, [], ◌∷◌, ◌++◌, ◌==◌, length, filter, get_or, set, refl, sym, ◌∙◌, ap, subst, arith, Option, Some, None, IfSome, option_map, unwrap_or, length-append, length-set, ⊎_elim}
+use Rattle.std.proofs.Common.{◌≡◌, ℕ, ◌+◌, ◌-◌, ◌<◌, ◌≤◌, cond, List, [], ◌∷◌, ◌++◌, length, get_or, set, refl, sym, ◌∙◌, ap, subst, arith, Option, Some, None, IfSome, length-append, length-set, ⊎_elim}
 use Rattle.std.specs.Prelude.{reverse, slice_get, slice_index}
 use Rattle.std.specs.List.{All}
 use Rattle.std.proofs.lemmas.Bool.{cases_eq, eq-eqb, ne_eqb}
 use Rattle.std.proofs.lemmas.List.{append-nil, get_or-set_other, get_or-set_same, get_or-reverse, get_or_append_left, get_or_push, length-reverse}
-use Rattle.std.proofs.lemmas.List.Elements.{filter-append}
 use Rattle.edm_values.specs.declared.Value.{Value}
 use Rattle.edm_values.specs.declared.Method.{Method}
-use Rattle.edm_values.specs.Lists.{at_places, places}
-use Rattle.edm_values.proofs.TopPlaces.{length-places}
+use Rattle.edm_values.specs.Lists.{at_places}
 use Rattle.apply_meaning.specs.Aggregates.{aggregate}
 use Rattle.aggregate_ops.specs.Partials as partials
 use Rattle.rollup_rec.specs.NodeFolds.{AreAggregates, AreFolds, AreKept, AreLasts, AreNested, AreOpen, ArePast, HasRuns, HasValues, IsLast, rows_between}
-use Rattle.rollup_rec.specs.NodeRows.{row_number, rows_at}
-use Rattle.rollup_rec.proofs.NodeFoldLaws.{filter-few, has-count, has-more, has-none, has-other, rows-of-one, runs-open, value-is}
-
--- ---- the rows of a number, from one row to the next
-
-module _ (numbers : List ℕ) (nodes : List (Option ℕ)) where
-  abbrev has_node : ℕ → Bool
-  has_node r = unwrap_or (option_map (λ y. true) (unwrap_or (slice_get nodes r) None)) false
-
-  rows-more : (row k : ℕ) → rows_at numbers nodes (row + 1) k ≡ rows_at numbers nodes row k ++ filter (λ r. row_number numbers nodes r == k) (filter has_node (row ∷ []))
-  rows-more row k =
-      let one : row + 1 ≡ suc row = omega arith in
-      ap (λ n. rows_at numbers nodes n k) one
-      ∙ ap (filter (λ r. row_number numbers nodes r == k)) (filter-append has_node (places row) (row ∷ []))
-      ∙ filter-append (λ r. row_number numbers nodes r == k) (filter has_node (places row)) (filter has_node (row ∷ []))
-
-  row-without : (row k : ℕ) → slice_get nodes row ≡ Some None → rows_at numbers nodes row k ≡ rows_at numbers nodes (row + 1) k
-  row-without row k none =
-      sym (append-nil (rows_at numbers nodes row k))
-      ∙ ap (λ l. rows_at numbers nodes row k ++ l) (ap (λ o. filter (λ r. row_number numbers nodes r == k) (cond (unwrap_or (option_map (λ y. true) (unwrap_or o None)) false) (row ∷ []) [])) (sym none))
-      ∙ sym (rows-more row k)
-
-  row-with : (row k y : ℕ) → slice_get nodes row ≡ Some (Some y) → rows_at numbers nodes (row + 1) k ≡ rows_at numbers nodes row k ++ cond (slice_index numbers y == k) (row ∷ []) []
-  row-with row k y node =
-      rows-more row k
-      ∙ ap (λ l. rows_at numbers nodes row k ++ l)
-      (ap (λ o. filter (λ r. row_number numbers nodes r == k) (cond (unwrap_or (option_map (λ y. true) (unwrap_or o None)) false) (row ∷ []) [])) node
-      ∙ ap (λ m. cond (m == k) (row ∷ []) []) (ap (λ o. slice_index numbers (unwrap_or (unwrap_or o None) 0)) node))
-
-  -- there are no more of them than rows
-  at-few : (row k : ℕ) → length (rows_at numbers nodes row k) ≤ row
-  at-few row k =
-      let a = filter-few (λ r. row_number numbers nodes r == k) (filter has_node (places row)) in
-      let b = filter-few has_node (places row) in
-      let c = length-places row in
-      omega (arith, a, b, c)
+use Rattle.rollup_rec.specs.NodeRows.{rows_at}
+use Rattle.rollup_rec.proofs.NodeRowSteps.{at-few, row-with, row-without}
+use Rattle.rollup_rec.proofs.NodeFoldLaws.{has-count, has-more, has-none, has-other, rows-of-one, runs-open, value-is}
 
 module _ {P K : Type 0} (kind : P → K) (stands : P → List (Value × ℕ) → Type 0) (k : K) (numbers : List ℕ) (nodes : List (Option ℕ)) (vs : List Value) (count : ℕ) where
   abbrev Folds : ℕ → List P → Type 0
@@ -62,7 +27,7 @@ module _ {P K : Type 0} (kind : P → K) (stands : P → List (Value × ℕ) →
   pub folds-without : (row : ℕ) (ps : List P) → slice_get nodes row ≡ Some None → Folds row ps → Folds (row + 1) ps
   folds-without row ps none so = record {
     size = so.size;
-    each = λ j d h. has-other kind stands k vs (rows_at numbers nodes row j) (rows_at numbers nodes (row + 1) j) (get_or ps j d) (row-without numbers nodes row j none) (so.each j d h);
+    each = λ j d h. has-other kind stands k vs (rows_at numbers nodes row j) (rows_at numbers nodes (row + 1) j) (get_or ps j d) (sym (row-without numbers nodes row j none)) (so.each j d h);
   }
 
   -- what is kept of a number
