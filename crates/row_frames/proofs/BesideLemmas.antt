@@ -1,12 +1,12 @@
 -- Rows beside entities of one set, under an alias that is free.
 use Rattle.std.proofs.Common.{◌≡◌, ◌∙◌, ℕ, zero, suc, ◌+◌, ◌<◌, ◌⊎◌, inl, inr, take, length, sym, refl, subst, ap, List, [], ◌∷◌, ◌++◌, map, get_or, drop, Bool, true, false, not, Option, Some, None, arith}
 use Rattle.std.specs.Global.{Vec}
-use Rattle.std.specs.Prelude.{slice_get, find, flat_map, option_map, if◌then◌else◌, ◌&&◌, ◌||◌, unwrap_or}
+use Rattle.std.specs.Prelude.{slice_get, find, flat_map, option_map, if◌then◌else◌, unwrap_or}
 use Rattle.std.specs.Arc.{arc_value}
 use Rattle.std.specs.List.{All, AllZip, list_all, list_any}
 use Rattle.std.proofs.lemmas.Bool.{and_parts, and_from, both_ways, false_from_ne_true, not-true, not_from_false, or_from, or_parts}
 use Rattle.std.proofs.lemmas.List.{append-nil, append_assoc, length-append, length-map, map-append, take_more}
-use Rattle.std.proofs.lemmas.List.Elements.{All-append, All-cons, All-head, All-map, All-nil, All-tail, length_all_zip}
+use Rattle.std.proofs.lemmas.List.Elements.{All-append, All-cons, All-head, All-map, All-nil, All-tail}
 use Rattle.edm_values.specs.declared.Value.{Value}
 use Rattle.edm_values.specs.Lists.{is_nonempty, are_distinct, same_text}
 use Rattle.edm_values.specs.Names.{Name, Path}
@@ -18,7 +18,7 @@ use Rattle.context_typing.proofs.TableLemmas.{different-append}
 use Rattle.context_typing.specs.Paths.{at_path, begins, same_path}
 use Rattle.apply_meaning.specs.Instances.{Instance}
 use Rattle.apply_meaning.specs.Meaning.{beside, bound_to}
-use Rattle.apply_meaning.specs.RowViews.{IsRow, have_paths, prefixes_differ, row_instance, with_root}
+use Rattle.apply_meaning.specs.RowViews.{IsRow, row_instance, with_root}
 use Rattle.join_concat.specs.Joins.{bound_rows, is_free_of}
 use Rattle.row_frames.specs.declared.tables.Prefix.{Prefix}
 use Rattle.row_frames.specs.declared.tables.Table.{Table}

@@ -10,9 +10,9 @@ use Rattle.edm_values.specs.Lists.{is_some_and, places}
 use Rattle.edm_model.specs.LookUps.{IsSet, navigation_at, navigation_on, set_of_type, set_type}
 use Rattle.edm_model.specs.Models.{EntitySet, Navigation, Part}
 use Rattle.edm_data.proofs.ReferenceLemmas.{nav_same}
-use Rattle.edm_data.specs.References.{count, entities_in, entity_type, refers_to, related, related_by}
+use Rattle.edm_data.specs.References.{count, entity_type, refers_to, related, related_by}
 use Rattle.edm_data.specs.Worlds.{Entity, World, entity_at}
-use Rattle.apply_meaning.specs.Instances.{Instance, entity_instance}
+use Rattle.apply_meaning.specs.Instances.{entity_instance}
 use Rattle.row_frames.specs.declared.tables.Pick.{Pick}
 use Rattle.row_frames.specs.declared.tables.Table.{Table}
 use Rattle.row_frames.specs.Frames.{all_picked, column_at, first_pick, instance_at, picked, picked_in, place_in, prefix_at, root_at}

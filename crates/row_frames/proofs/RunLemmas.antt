@@ -1,5 +1,5 @@
 -- Rows of the first table that stand one behind the other.
-use Rattle.std.proofs.Common.{◌≡◌, ◌∙◌, ◌<◌, ◌==◌, ◌&&◌, ℕ, zero, suc, ◌+◌, ◌-◌, ◌++◌, Bool, false, List, [], ◌∷◌, ap, arith, drop, get_or, length, length-drop, map, nat_eq, refl, subst, sym, take, ⊎_elim}
+use Rattle.std.proofs.Common.{◌≡◌, ◌∙◌, ◌<◌, ◌==◌, ℕ, zero, suc, ◌+◌, ◌-◌, ◌++◌, false, List, [], ◌∷◌, ap, arith, drop, get_or, length, length-drop, map, nat_eq, refl, subst, sym, take, ⊎_elim}
 use Rattle.std.specs.Prelude.{min, nat_lt}
 use Rattle.std.specs.List.{All, list_any}
 use Rattle.std.proofs.Math.Dec.{eqb-zero-suc}

@@ -5,7 +5,7 @@ use Rattle.std.specs.List.{All}
 use Rattle.std.proofs.lemmas.List.Elements.{All-tail}
 use Rattle.std.proofs.lemmas.Option.{slice_get-get_or, slice_get-map}
 use Rattle.edm_values.specs.declared.Value.{Value}
-use Rattle.edm_values.specs.Values.{seen_value, value_in}
+use Rattle.edm_values.specs.Values.{seen_value}
 use Rattle.edm_data.specs.NumberedTexts.{NumberedList, numbered_texts, numbered_values}
 use Rattle.edm_data.specs.Worlds.{World}
 use Rattle.apply_ast.specs.declared.expressions.UnOp.{UnOp}
