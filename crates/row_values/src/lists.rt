@@ -257,9 +257,9 @@ impl<'a> RowList<'a> {
         }
     }
 
-    /// For each group of the instances, of whose numbers there are `count`, what a partial of the kind of `empty` keeps of the values
-    /// of an expression on its instances. The instances are cut into pieces, of which the gate is told and which several threads may
-    /// take. An instance whose number is none of a group's answers want of memory.
+    /// For each group of the instances, of whose numbers there are `count`, what a partial keeps of the values of an expression on its
+    /// instances. The partials begin as `empty` does, and all of them are of one kind. The instances are cut into pieces, of which the
+    /// gate is told and which several threads may take. An instance whose number is none of a group's answers want of memory.
     pub fn partials_by<R: Threads + Sync, P: SeenPartial + Sync, G: Gate>(
         &self,
         rt: &R,
