@@ -2,6 +2,7 @@ mod ApartPlaces
 mod ApartPlan
 mod ApartRules
 mod ApartSteps
+mod Crossing
 mod FactoredLeft
 mod FactoredSame
 mod Factoring

@@ -98,13 +98,13 @@ module _ (m : Model) (c : Customs) where
 
   -- ---- each concatenation still begins apart, or gives filters alone
 
-  record Fronts (p q : Pipe) : Type 0 where
-    bare : front_of p ≡ None → front_of q ≡ None
-    front : (x : Step) → is_firm x ≡ true → front_of p ≡ Some x → front_of q ≡ Some x
-    leads : (x : Step) → is_firm x ≡ true → leads_to x q ≡ leads_to x p
-    give : (b : Bool) → may_give true b p ≡ true → may_give true b q ≡ true
-    never : (x : Step) → is_loose x ≡ false → never_first x p ≡ true → never_first x q ≡ true
-    last : Lasting p q
+  pub record Fronts (p q : Pipe) : Type 0 where
+    pub bare : front_of p ≡ None → front_of q ≡ None
+    pub front : (x : Step) → is_firm x ≡ true → front_of p ≡ Some x → front_of q ≡ Some x
+    pub leads : (x : Step) → is_firm x ≡ true → leads_to x q ≡ leads_to x p
+    pub give : (b : Bool) → may_give true b p ≡ true → may_give true b q ≡ true
+    pub never : (x : Step) → is_loose x ≡ false → never_first x p ≡ true → never_first x q ≡ true
+    pub last : Lasting p q
 
   spliced-beside : (left : List Pipe) (x : Step) (p q : Pipe) (right : Pipes) → leads_to x q ≡ leads_to x p → some_beside x (spliced left q right) ≡ some_beside x (spliced left p right)
   spliced-beside [] x p q right e = ap (λ z. not z || some_beside x right) e
@@ -134,7 +134,7 @@ module _ (m : Model) (c : Customs) where
   spliced-give [] p q right f = and_both (may_give true true p) (branches_give true right) (may_give true true q) (branches_give true right) (f.give true) (λ h. h)
   spliced-give (y ∷ left) p q right f = and_both (may_give true true y) (branches_give true (spliced left p right)) (may_give true true y) (branches_give true (spliced left q right)) (λ h. h) (spliced-give left p q right f)
 
-  spliced-gives : (left : List Pipe) (p q : Pipe) (right : Pipes) → Fronts p q → gives_alone true (Step.Concat (spliced left p right)) ≡ true → gives_alone true (Step.Concat (spliced left q right)) ≡ true
+  pub spliced-gives : (left : List Pipe) (p q : Pipe) (right : Pipes) → Fronts p q → gives_alone true (Step.Concat (spliced left p right)) ≡ true → gives_alone true (Step.Concat (spliced left q right)) ≡ true
   spliced-gives left p q right f =
       let ps = spliced left p right in
       let qs = spliced left q right in

@@ -337,6 +337,12 @@ module _ (m : Model) (c : Customs) where
         let f = factored-kept v s.typed (s.gives g) (plain-settled v s.typed s.none) in
         record { typed = f.typed; gives = f.gives; plan = λ r h. plan-same p (factored_inside v) r (all-kept p t g).walk' h }
 
+    -- what comes out of a pipeline with the walk of another
+    pub out-round : (p u y : Pipe) → IsTypedFrom m c S S' p → may_give true true p ≡ true → IsTypedFrom m c S S' u → may_give true true u ≡ true → walk All m c S p ≡ walk All m c S u → AnyOut m c S u y → IsRound m c S S' p y
+    out-round p u y t g t' g' e o =
+        let k = all-kept u t' g' in
+        record { typed = out-typed u y t' o; gives = out-gives u y o g'; plan = λ r h. plan-same p y r ((all-kept p t g).walk' ∙ ap (λ z. Plan (factored_inside z)) e ∙ sym k.walk' ∙ k.out y o) h }
+
 pub walk_keeps_plan : WalkKeepsPlan
 walk_keeps_plan m c S S' p t g = walk-round m c S S' p t g
 

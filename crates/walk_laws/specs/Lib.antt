@@ -7,6 +7,7 @@ pub use Rattle.apply_meaning.specs.MeaningLaws
 pub use Rattle.rewrite_laws.specs.RewriteLaws
 pub use Rattle.rewrite_laws.specs.Rewrites
 pub mod Apart
+pub mod Crossing
 pub mod Factored
 pub mod FiltersOut
 pub mod Walks

@@ -1,17 +1,18 @@
 -- What walks are for: the plan of a pipeline without a concatenation, and what the first rules make of any pipeline.
-use Rattle.std.specs.Prelude.{◌≡◌, ℕ, zero, suc, drop, IsTrue, Option, Some, None, option_and_then}
+use Rattle.std.specs.Prelude.{◌≡◌, ◌∷◌, ◌++◌, ℕ, zero, suc, drop, List, IsTrue, Option, Some, None, option_and_then}
 use Rattle.edm_values.specs.Lists.{find_map}
 use Rattle.edm_model.specs.Models.{Model}
 use Rattle.edm_data.specs.Worlds.{World}
-use Rattle.apply_ast.specs.Trees.{Pipe}
+use Rattle.apply_ast.specs.Trees.{Pipe, Step, pipe}
 use Rattle.context_typing.specs.Shapes.{Shape}
 use Rattle.context_typing.specs.Typing.{Customs}
 use Rattle.rewrite_laws.specs.RewriteLaws.{IsTypedFrom, MayStandFor}
 use Rattle.rewrite_laws.specs.Rewrites.{IsPlanOf, first_rewrite, next, rewritten, rules}
 use Rattle.walk_laws.specs.Apart.{stays_apart}
+use Rattle.walk_laws.specs.Crossing.{all_cross}
 use Rattle.walk_laws.specs.Factored.{factored, factored_inside, pipe_rests}
 use Rattle.walk_laws.specs.FiltersOut.{gives_anywhere, gives_at_front}
-use Rattle.walk_laws.specs.Walks.{Rules, All, Early, is_unbranched, rules_of, walk}
+use Rattle.walk_laws.specs.Walks.{Rules, All, Early, is_unbranched, rules_of, shape_behind, walk}
 
 -- the result of the first of a walk's rules that applies
 abbrev pub next_by : Rules → Model → Customs → Shape → Pipe → Option Pipe
@@ -55,6 +56,12 @@ FactoringKeepsPlan = (m : Model) (c : Customs) (S S' : Shape) (p : Pipe) → IsT
 -- where nothing comes out of it then, no rule applies to it
 abbrev pub UnfactoredIsSettled : Type 0
 UnfactoredIsSettled = (m : Model) (c : Customs) (S S' : Shape) (p : Pipe) → IsTypedFrom m c S S' p → IsTrue (gives_anywhere p) → factored_inside (walk All m c S p) ≡ walk All m c S p → next m c S (walk All m c S p) ≡ None
+
+-- filters that cross a concatenation may stand before it
+abbrev pub CrossingKeepsPlan : Type 0
+CrossingKeepsPlan =
+    (m : Model) (c : Customs) (S S' : Shape) (ss : List Step) (s : Step) (fs zs : List Step) → IsTypedFrom m c S S' (pipe (ss ++ s ∷ (fs ++ zs))) → IsTrue (gives_anywhere (pipe (ss ++ s ∷ (fs ++ zs)))) → IsTrue (all_cross m c (shape_behind m c S (pipe ss)) s fs)
+    → IsRound m c S S' (pipe (ss ++ s ∷ (fs ++ zs))) (pipe (ss ++ (fs ++ s ∷ zs)))
 
 -- a typed pipeline, settled in one walk by the first eight rules, is what it becomes by them
 abbrev pub EarlyWalkIsPlan : Type 0

@@ -1,6 +1,6 @@
 //! The laws of walks.
 ghost use Rattle.apply_meaning.specs.MeaningLaws.{IsLoaded};
-ghost use Rattle.walk_laws.specs.WalkLaws.{ApartWalkIsPlan, EarlyWalkIsPlan, EarlyWalkKeepsMeaning, EarlyWalkKeepsPlan, FactoringIsRewriting, FactoringKeepsPlan, GivenWalkIsPlan, LaterRulesFollow, UnfactoredIsSettled, WalkIsPlan, WalkKeepsPlan};
+ghost use Rattle.walk_laws.specs.WalkLaws.{ApartWalkIsPlan, CrossingKeepsPlan, EarlyWalkIsPlan, EarlyWalkKeepsMeaning, EarlyWalkKeepsPlan, FactoringIsRewriting, FactoringKeepsPlan, GivenWalkIsPlan, LaterRulesFollow, UnfactoredIsSettled, WalkIsPlan, WalkKeepsPlan};
 
 /// A typed pipeline without a concatenation, settled in one walk by all rules, is its plan.
 pub fn walk_is_plan()
@@ -32,6 +32,11 @@ pub fn factoring_keeps_plan()
 /// Where nothing comes out of it then, no rule applies to what the walk makes.
 pub fn unfactored_is_settled()
     ensures law { UnfactoredIsSettled }
+{}
+
+/// Filters that cross a concatenation may stand before it.
+pub fn crossing_keeps_plan()
+    ensures law { CrossingKeepsPlan }
 {}
 
 /// A typed pipeline, settled in one walk by the first eight rules, is what these rules make of it.
