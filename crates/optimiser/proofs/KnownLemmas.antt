@@ -234,7 +234,7 @@ module _ (m : Model) (c : Customs) where
 
   -- ---- several steps
 
-  behind-append : (xs : List Step) (s : Step) (S : Shape) → shape_behind m c S (pipe (xs ++ s ∷ [])) ≡ after m c (shape_behind m c S (pipe xs)) s
+  pub behind-append : (xs : List Step) (s : Step) (S : Shape) → shape_behind m c S (pipe (xs ++ s ∷ [])) ≡ after m c (shape_behind m c S (pipe xs)) s
   behind-append [] s S = refl
   behind-append (x ∷ xs) s S = behind-append xs s (after m c S x)
 

@@ -1,5 +1,6 @@
 mod AnywhereLemmas
 mod ApartLemmas
+mod CrossingLemmas
 mod FactorLemmas
 mod GivenLemmas
 mod KindLemmas

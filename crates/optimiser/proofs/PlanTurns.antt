@@ -1,13 +1,13 @@
 -- From a typed pipeline to its plan: by one walk, or turn by turn, where a turn is a rewrite by a later rule and the early walk.
 use Rattle.std.specs.Prelude.{option_and_then}
-use Rattle.std.proofs.Common.{◌≡◌, sym, ◌∙◌, ap, subst, ℕ, zero, suc, ◌<◌, ◌≤◌, Bool, true, false, Option, Some, None, IsTrue, arith}
+use Rattle.std.proofs.Common.{◌≡◌, sym, ◌∙◌, ap, subst, ℕ, zero, suc, ◌<◌, ◌≤◌, Bool, true, false, List, Option, Some, None, IsTrue, map, arith}
 use Rattle.std.proofs.lemmas.Bool.{true≢false}
 use Rattle.edm_values.specs.Lists.{find_map, first_some}
 use Rattle.edm_values.proofs.OptionFacts.{chained, none_or, some_value}
 use Rattle.edm_model.specs.LookUps.{set_type}
 use Rattle.edm_model.specs.Models.{Model}
-use Rattle.apply_ast.specs.Trees.{Pipe}
-use Rattle.apply_ast.specs.Views.{pipe_of}
+use Rattle.apply_ast.specs.Trees.{Pipe, Step, pipe}
+use Rattle.apply_ast.specs.Views.{pipe_of, step_of}
 use Rattle.apply_meaning.specs.MeaningLaws.{IsLoaded}
 use Rattle.context_typing.specs.Answers.{IsTyping}
 use Rattle.context_typing.specs.Shapes.{Shape}
@@ -15,14 +15,17 @@ use Rattle.context_typing.specs.Typing.{Customs, Types, customs_typed, shape_of_
 use Rattle.context_typing.specs.declared.typed.Typed.{Typed}
 use Rattle.context_typing.proofs.LawfulShapes.{own_is_lawful}
 use Rattle.rewrite_laws.specs.RewriteLaws.{IsTypedFrom, MayStandFor}
-use Rattle.rewrite_laws.specs.Rewrites.{IsPlanOf, Rule, first_rewrite, next, rewritten}
+use Rattle.rewrite_laws.specs.Rewrites.{IsPlanOf, Rule, first_rewrite, next, pipe_or_identity, rewritten}
 use Rattle.rewrite_laws.proofs.PlanEnds.{plan_of_next, plan_of_settled, rewrites_left, rewrites_left-next}
 use Rattle.walk_laws.specs.Apart.{stays_apart}
 use Rattle.walk_laws.specs.Factored.{factored, factored_inside, pipe_rests}
 use Rattle.walk_laws.specs.FiltersOut.{gives_anywhere, gives_at_front}
 use Rattle.walk_laws.specs.Walks.{All, Early, rules_of, walk}
-use Rattle.walk_laws.specs.WalkLaws.{ApartWalkIsPlan, EarlyWalkIsPlan, EarlyWalkKeepsMeaning, FactoringIsRewriting, FactoringKeepsPlan, GivenWalkIsPlan, IsFactored, IsRound, LaterRulesFollow, UnfactoredIsSettled, next_by, rewritten_by}
+use Rattle.walk_laws.specs.WalkLaws.{ApartWalkIsPlan, CrossingKeepsPlan, EarlyWalkIsPlan, EarlyWalkKeepsMeaning, FactoringIsRewriting, FactoringKeepsPlan, GivenWalkIsPlan, IsFactored, IsRound, LaterRulesFollow, UnfactoredIsSettled, next_by, rewritten_by}
 use Rattle.optimiser.specs.Plans.{HasPlanOf, IsBegun, IsFirstOf, IsGiven, IsRounded, IsTurn, IsTurned, IsTypedPlan, IsWalked, IsWithFactored, IsWithFactoredInside, later_rules}
+use Rattle.optimiser.specs.CrossingForms.{IsCrossing, moved, whole_of}
+use Rattle.optimiser.specs.declared.crossing.Crossing.{Crossing}
+use Rattle.optimiser.proofs.CrossingLemmas.{long-moved}
 use Rattle.optimiser.proofs.PlanSteps.{found-append, typing-kept}
 
 module _ (m : Model) (c : Customs) where
@@ -219,6 +222,19 @@ module _ (m : Model) (c : Customs) where
         let v = walk All m c S (pipe_of t.pipe) in
         let e : factored_inside v ≡ v = sym (ap factored_inside w.pipe) ∙ sym f.pipe ∙ same ∙ w.pipe in
         (λ i. next m c (shape_of_set m ((f.set ∙ w.set) i)) ((same ∙ w.pipe) i)) ∙ law m c S t.shape (pipe_of t.pipe) (typed-from t customs typing) gives e
+
+  -- filters that cross a concatenation, before it
+  pub crossing-plan : (t : Typed) → IsTrue (customs_typed m c) → IsTyping m c t → IsTrue (gives_anywhere (pipe_of t.pipe)) → CrossingKeepsPlan → (ss : List Step) → pipe_of t.pipe ≡ pipe ss → (x : Crossing) → IsCrossing m c (shape_of_set m t.set) ss x
+      → (q : Typed) → q.set ≡ t.set → q.shape ≡ t.shape → pipe_of q.pipe ≡ pipe_or_identity (moved x) → HasPlanOf m c t q
+  crossing-plan t customs typing gives law ss tree x k q set shape same =
+      let S = shape_of_set m t.set in
+      let as' = map step_of x.before.now in
+      let s = step_of x.concat.now in
+      let fs = map step_of x.filters.now in
+      let zs = map step_of x.behind.now in
+      let e : pipe_of t.pipe ≡ pipe (whole_of x) = tree ∙ ap pipe k.whole in
+      let round = law m c S t.shape as' s fs zs (subst (IsTypedFrom m c S t.shape) e (typed-from t customs typing)) (subst (λ p. IsTrue (gives_anywhere p)) e gives) k.cross in
+      round-plan t q (pipe (moved x)) set shape (same ∙ long-moved as' fs s zs) (subst (λ p. IsRound m c S t.shape p (pipe (moved x))) (sym e) round)
 
   -- it is not known whether a rule applies
   pub not-known : (t q : Typed) → HasPlanOf m c t q → IsRounded m c t (q, false)

@@ -8,6 +8,7 @@ pub use Rattle.rewrite_laws.specs.RewriteLaws
 pub use Rattle.rewrite_laws.specs.Rewrites
 pub use Rattle.walk_laws.specs.Factored
 pub use Rattle.walk_laws.specs.Walks
+pub mod CrossingForms
 pub mod HeadForms
 pub mod HeldSegments
 pub mod IdleForms

@@ -60,7 +60,7 @@ fn keys_give(keys: &KeyList) -> bool
 /// Whether nothing but filters comes out of the branches of a concatenation, nor of those in the pipelines inside a join, a grouping or
 /// a climb.
 #[cycle(anywhere)]
-fn gives_alone(step: &Step) -> bool
+pub(crate) fn gives_alone(step: &Step) -> bool
     ensures { result ≡ spec.gives_alone true (step_of step.now) }
 {
     match step {

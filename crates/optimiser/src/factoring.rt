@@ -12,7 +12,7 @@ use rewrite_forms::{put_copies, same_step};
 use std::alloc::{AllocError, Global};
 
 /// The steps of a list from a place on, none where it is shorter.
-fn behind(list: &[Step], at: usize) -> &[Step]
+pub(crate) fn behind(list: &[Step], at: usize) -> &[Step]
     ensures { result.now ≡ drop at list.now }
 {
     if at < list.len() {

@@ -96,18 +96,25 @@ pub(crate) fn tests_passed(tests: &[Test], test: &Test) -> bool
     are_passed(tests, test.sure)
 }
 
+/// Whether a filter that is sure or not may pass a step that lets filters pass.
+pub(crate) fn passes_as(passage: &Passage, e: &Expr, sure: bool) -> bool
+    ensures { result ≡ held.passes passage.now (record { expr = expr_of e.now; sure = sure }) }
+{
+    match passage {
+        Passage::Closed => false,
+        Passage::Beside(made) => !names_any(e, made),
+        Passage::Free => true,
+        Passage::Over(paths) => over(paths.as_slice(), e) && sure,
+        Passage::Outside(alias, unsure) => !any_begins(alias, e) && (*unsure || sure),
+        Passage::Sure => sure,
+    }
+}
+
 /// Whether a filter may pass a step that lets filters pass.
 pub(crate) fn passes(passage: &Passage, test: &Test) -> bool
     ensures { result ≡ held.passes passage.now (held.test_of test.now) }
 {
-    match passage {
-        Passage::Closed => false,
-        Passage::Beside(made) => !names_any(&test.expr, made),
-        Passage::Free => true,
-        Passage::Over(paths) => over(paths.as_slice(), &test.expr) && test.sure,
-        Passage::Outside(alias, unsure) => !any_begins(alias, &test.expr) && (*unsure || test.sure),
-        Passage::Sure => test.sure,
-    }
+    passes_as(passage, &test.expr, test.sure)
 }
 
 /// Whether a path has more names than one.

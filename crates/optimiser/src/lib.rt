@@ -15,13 +15,15 @@
 //! pipeline becomes its plan in one walk by all rules where two branches of each concatenation begin with different steps for good,
 //! as where there is no concatenation, and in one walk and what then comes out of all branches where the others give filters alone,
 //! which stay before them. Where the others give filters alone that may go on, it is put anew in rounds of these two, as long as
-//! filters come out. Any other is settled in one walk by the rules that come first; where its filters rest then,
+//! filters come out, and between them those that would go through all branches of a concatenation are put before it. Any other is settled
+//! in one walk by the rules that come first; where its filters rest then,
 //! all steps that come out of branches are put before their concatenations; then comes one rewrite by a later rule, and the rounds
 //! and the walk again, until no rule applies. `next_rewrite` makes one rewrite, for comparisons.
 //!
 //! `plans` has the plan, `walking` the walk, `apart` whether branches begin with different steps for good, `kinds` whether they
 //! begin with steps of different kinds, `lasting` whether nothing but filters comes out of branches, `given` whether filters come
-//! out of the others and stay before them, `anywhere` whether nothing but filters comes out of them, `resting` whether filters
+//! out of the others and stay before them, `anywhere` whether nothing but filters comes out of them, `crossing` the
+//! filters that go before a concatenation without going through it, `resting` whether filters
 //! rest, `factoring` the steps that come out of branches, `within` those in joins, groupings and climbs too, and `rewriting` the one
 //! rewrite. Below `walking`, `known` has what is known of the steps of a pipeline before a walk comes to them: the shapes at the
 //! ends of branches, and those behind steps that hold pipelines, so that no branch is typed again. `held` has the segments of a
@@ -32,6 +34,7 @@
 
 mod anywhere;
 mod apart;
+mod crossing;
 mod ends;
 mod factoring;
 mod given;

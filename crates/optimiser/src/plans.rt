@@ -17,6 +17,7 @@ ghost use Rattle.optimiser.specs.WalkRules.{rules_named};
 
 use crate::anywhere::gives_anywhere;
 use crate::apart::stays_apart;
+use crate::crossing::all_crossed;
 use crate::factoring::factored;
 use crate::given::gives_at_front;
 use crate::resting::pipe_rests;
@@ -199,10 +200,11 @@ fn rounded(alloc: Global, m: &Model, c: &Customs, t: &Typed) -> Result<(Typed, b
             return Ok((current, false));
         }
         let (next, done) = one_round(alloc, m, c, &current)?;
-        current = next;
         if done {
-            return Ok((current, true));
+            return Ok((next, true));
         }
+        let crossed = all_crossed(alloc, m, c, &next)?;
+        current = crossed;
     }
     Ok((current, false))
 }

@@ -8,7 +8,10 @@ loop-round-init c =
     own-plan c.args.m.now (readings c.args.c.now) c.args.t.now c.in_ok-current.current c.requires.typing k.set k.shape k.pipe
 
 pub loop-round-preserved : goal.loop-round-preserved
-loop-round-preserved c = plan-chain c.args.m.now (readings c.args.c.now) c.args.t.now c.loop-round.current c.in_ok-next.next c.loop-round.invariant (c.in_ok-next.ensures).made
+loop-round-preserved c =
+    let m = c.args.m.now in
+    let cs = readings c.args.c.now in
+    plan-chain m cs c.args.t.now c.in_ok-next.next c.in_ok-crossed.crossed (plan-chain m cs c.args.t.now c.loop-round.current c.in_ok-next.next c.loop-round.invariant (c.in_ok-next.ensures).made) c.in_ok-crossed.ensures
 
 pub returns-then-not-gives_anywhere : goal.returns-then-not-gives_anywhere
 returns-then-not-gives_anywhere c = not-known c.args.m.now (readings c.args.c.now) c.args.t.now c.loop-round.current c.loop-round.invariant
